@@ -1,0 +1,2 @@
+-- The laws of answers, for the crates above.
+pub mod Refusals

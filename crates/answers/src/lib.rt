@@ -1,0 +1,1 @@
+// What a call answers, for the contracts of the crates above. No code.

@@ -1,0 +1,55 @@
+-- The entry at an index of `++`, map, combine and a run of numbers.
+-- Assumes nothing.
+use mathlib.Core.Path.{_≡_, refl, sym, ap, _∙_}
+use mathlib.Core.List.{List, [], _∷_, _++_, map}
+use Prim.Native.Nat.{ℕ, zero, suc, _+_, _*_, _-_, _/_, _%_, _≤_, _<_}
+use native.Mathlib.Omega.{arith}
+use native.Mathlib.Nat.{div-add-mod', mod-lt, div-lt-iff-lt-mul}
+use lib.Seq.{getD-append-add}
+use lib.ListN.{length, getD, length-map, List·getD-append}
+use Rattle.lists.specs.Joined.{combine, upFrom}
+
+module _ {X : Type 0} where
+  pub getD-left : (a b : List X) (n : ℕ) (d : X) → n < length a → getD (a ++ b) n d ≡ getD a n d
+  getD-left a b n d h = List·getD-append a b d n h
+
+  pub getD-right : (a b : List X) (n : ℕ) (d : X) → length a ≤ n → getD (a ++ b) n d ≡ getD b (n - length a) d
+  getD-right a b n d h =
+      let e : n ≡ length a + (n - length a) = omega arith in
+      ap (λ (k : ℕ). getD (a ++ b) k d) e ∙ getD-append-add a b (n - length a) d
+
+module _ {X Y : Type 0} where
+  some-right : (l : List X) (r : List Y) (d : ℕ) → d < length l * length r → 0 < length r
+  some-right l [] d h = absurd (omega arith)
+  some-right l (y ∷ r) d h = omega arith
+
+  pub getD-map : (f : X → Y) (l : List X) (n : ℕ) (x : X) (y : Y) → n < length l → getD (map f l) n y ≡ f (getD l n x)
+  getD-map f [] n x y h = absurd (omega arith)
+  getD-map f (a ∷ l) zero x y h = refl
+  getD-map f (a ∷ l) (suc n) x y h = getD-map f l n x y (omega arith)
+
+module _ {X Y Z : Type 0} where
+  combine-at : (f : X → Y → Z) (l : List X) (r : List Y) (a b : ℕ) (x : X) (y : Y) (z : Z) → a < length l → b < length r
+      → getD (combine f l r) (a * length r + b) z ≡ f (getD l a x) (getD r b y)
+  combine-at f [] r a b x y z h h′ = absurd (omega arith)
+  combine-at f (c ∷ l) r zero b x y z h h′ =
+      let e : 0 * length r + b ≡ b = omega arith in
+      let g : b < length (map (f c) r) = omega (arith, length-map r (f c)) in
+      rw e (getD-left (map (f c) r) (combine f l r) b z g ∙ getD-map (f c) r b y z h′)
+  combine-at f (c ∷ l) r (suc a) b x y z h h′ =
+      let e : suc a * length r + b ≡ length (map (f c) r) + (a * length r + b) = omega (arith, length-map r (f c)) in
+      rw e (getD-append-add (map (f c) r) (combine f l r) (a * length r + b) z ∙ combine-at f l r a b x y z (omega arith) h′)
+
+  -- the quotient chooses on the left, the remainder on the right
+  pub getD-combine : (f : X → Y → Z) (l : List X) (r : List Y) (d : ℕ) (x : X) (y : Y) (z : Z) → d < length l * length r
+      → getD (combine f l r) d z ≡ f (getD l (d / length r) x) (getD r (d % length r) y)
+  getD-combine f l r d x y z h =
+      let p : 0 < length r = some-right l r d h in
+      let q : d / length r < length l = div-lt-iff-lt-mul p .1 h in
+      ap (λ (k : ℕ). getD (combine f l r) k z) (sym (div-add-mod' d (length r)))
+      ∙ combine-at f l r (d / length r) (d % length r) x y z q (mod-lt d p)
+
+pub getD-upFrom : (k n i d : ℕ) → i < n → getD (upFrom k n) i d ≡ k + i
+getD-upFrom k zero i d h = absurd (omega arith)
+getD-upFrom k (suc n) zero d h = omega arith
+getD-upFrom k (suc n) (suc i) d h = omega (arith, getD-upFrom (suc k) n i d (omega arith))

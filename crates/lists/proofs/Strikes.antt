@@ -1,0 +1,158 @@
+-- The struck places, the skip over them, and the list of what a skip finds: the kept elements, each with its place.
+-- Assumes nothing.
+use mathlib.Core.Path.{_≡_, refl, sym, ap, _∙_}
+use mathlib.Core.Logic.{inl, inr, _↔_}
+use mathlib.Core.Bool.{Bool, true, false, cond}
+use mathlib.Core.List.{List, [], _∷_, map, List·Memᴰ·head, List·Memᴰ·tail, List·Memᴰ·not-nil, List·Memᴰ·cases-cons, Memᴰ·map, Memᴰ·of-map}
+use Prim.Native.Nat.{ℕ, zero, suc, _+_, _-_, _<_}
+use native.Mathlib.Omega.{arith}
+use lib.Dec.{leb, leb·zero, leb·suc-suc, leb·suc-zero}
+use lib.Seq.{ext-getD}
+use lib.ListN.{length, getD, length-map}
+use Rattle.lists.specs.Joined.{_∈_, upFrom}
+use Rattle.lists.specs.Ordered.{Pairwise, none, more}
+use Rattle.lists.specs.Struck.{keep, struck, numbered, skip}
+use Rattle.lists.proofs.Sums.{length-upFrom}
+use Rattle.lists.proofs.Places.{getD-map, getD-upFrom}
+use Rattle.lists.proofs.Orders.{pairwise-map, order-unique}
+
+-- ---- skip
+
+skip-suc : (q : ℕ) (bad : List ℕ) → skip (suc q) (map suc bad) ≡ suc (skip q bad)
+skip-suc q [] = refl
+skip-suc q (h ∷ bad) = rw (leb·suc-suc h q) (go (leb h q) (skip-suc (suc q) bad))
+  where
+    go : (b : Bool) → skip (suc (suc q)) (map suc bad) ≡ suc (skip (suc q) bad)
+        → cond b (skip (suc (suc q)) (map suc bad)) (suc q) ≡ suc (cond b (skip (suc q) bad) q)
+    go true e = e
+    go false e = refl
+
+skip-zero : (bad : List ℕ) → skip 0 (map suc bad) ≡ 0
+skip-zero [] = refl
+skip-zero (h ∷ bad) = rw (leb·suc-zero h)
+
+module _ {X : Type 0} where
+  -- what is kept and what is struck make the whole
+  pub keep-length : (P : X → Bool) (l : List X) → length (keep P l) + length (struck P l) ≡ length l
+  keep-length P [] = refl
+  keep-length P (x ∷ l) = go (P x) (keep-length P l)
+    where
+      go : (b : Bool) → length (keep P l) + length (struck P l) ≡ length l
+          → length (cond b (x ∷ keep P l) (keep P l)) + length (cond b (map suc (struck P l)) (0 ∷ map suc (struck P l))) ≡ suc (length l)
+      go true e = omega (arith, length-map (struck P l) suc)
+      go false e = omega (arith, length-map (struck P l) suc)
+
+  -- entry q of what is kept is the whole list's entry at the skip of q
+  pub keep-at : (P : X → Bool) (l : List X) (q : ℕ) (d : X) → getD (keep P l) q d ≡ getD l (skip q (struck P l)) d
+  keep-at P [] q d = refl
+  keep-at P (x ∷ l) q d = go (P x) q (λ n. keep-at P l n d)
+    where
+      go : (b : Bool) (q : ℕ) → ((n : ℕ) → getD (keep P l) n d ≡ getD l (skip n (struck P l)) d)
+          → getD (cond b (x ∷ keep P l) (keep P l)) q d ≡ getD (x ∷ l) (skip q (cond b (map suc (struck P l)) (0 ∷ map suc (struck P l)))) d
+      go true zero ih = rw (skip-zero (struck P l))
+      go true (suc q) ih = rw (skip-suc q (struck P l)) (ih q)
+      go false q ih = let z : leb 0 q ≡ true = leb·zero q in rw (z, skip-suc q (struck P l)) (ih q)
+
+  pub skip-lt : (P : X → Bool) (l : List X) (q : ℕ) → q < length (keep P l) → skip q (struck P l) < length l
+  skip-lt P [] q h = absurd (omega arith)
+  skip-lt P (x ∷ l) q h = go (P x) q (skip-lt P l) h
+    where
+      go : (b : Bool) (q : ℕ) → ((n : ℕ) → n < length (keep P l) → skip n (struck P l) < length l) → q < length (cond b (x ∷ keep P l) (keep P l))
+          → skip q (cond b (map suc (struck P l)) (0 ∷ map suc (struck P l))) < suc (length l)
+      go true zero ih h = rw (skip-zero (struck P l)) (omega arith)
+      go true (suc q) ih h = rw (skip-suc q (struck P l)) (omega (arith, ih q (omega arith)))
+      go false q ih h = rw (leb·zero q, skip-suc q (struck P l)) (omega (arith, ih q h))
+
+  -- ---- the struck places
+
+  pub struck-ext : (P Q : X → Bool) (l : List X) → ((x : X) → x ∈ l → P x ≡ Q x) → struck P l ≡ struck Q l
+  struck-ext P Q [] h = refl
+  struck-ext P Q (x ∷ l) h = rw (h x (List·Memᴰ·head refl), struck-ext P Q l (λ y m. h y (List·Memᴰ·tail m)))
+
+  struck-rising : (P : X → Bool) (l : List X) → Pairwise _<_ (struck P l)
+  struck-rising P [] = none
+  struck-rising P (x ∷ l) = go (P x) (pairwise-map _<_ _<_ suc (struck P l) (struck-rising P l) (λ m n h. omega arith))
+    where
+      go : (b : Bool) → Pairwise _<_ (map suc (struck P l)) → Pairwise _<_ (cond b (map suc (struck P l)) (0 ∷ map suc (struck P l)))
+      go true s = s
+      go false s = more {x = 0} (λ y m. let q = Memᴰ·of-map suc (struck P l) m in omega (arith, q .2)) s
+
+  struck-fails : (P : X → Bool) (l : List X) (i : ℕ) (z : X) → i ∈ struck P l → (i < length l) × (P (getD l i z) ≡ false)
+  struck-fails P [] i z m = absurd (List·Memᴰ·not-nil m)
+  struck-fails P (x ∷ l) i z m = go (P x) refl (λ j n. struck-fails P l j z n) m
+    where
+      later : ((j : ℕ) → j ∈ struck P l → (j < length l) × (P (getD l j z) ≡ false)) → i ∈ map suc (struck P l)
+          → (i < suc (length l)) × (P (getD (x ∷ l) i z) ≡ false)
+      later ih n =
+          let q = Memᴰ·of-map suc (struck P l) n in
+          let r = ih (q .0) (q .1) in
+          rw (← q .2) (omega arith, r .1)
+
+      go : (b : Bool) → P x ≡ b → ((j : ℕ) → j ∈ struck P l → (j < length l) × (P (getD l j z) ≡ false))
+          → i ∈ cond b (map suc (struck P l)) (0 ∷ map suc (struck P l)) → (i < suc (length l)) × (P (getD (x ∷ l) i z) ≡ false)
+      go true e ih n = later ih n
+      go false e ih n = elim (List·Memᴰ·cases-cons n) [ inl p ↦ rw p (omega arith, e) | inr q ↦ later ih q ]
+
+  fails-struck : (P : X → Bool) (l : List X) (i : ℕ) (z : X) → i < length l → P (getD l i z) ≡ false → i ∈ struck P l
+  fails-struck P [] i z h e = absurd (omega arith)
+  fails-struck P (x ∷ l) zero z h e = rw e (List·Memᴰ·head refl)
+  fails-struck P (x ∷ l) (suc i) z h e = go (P x) (Memᴰ·map suc (fails-struck P l i z (omega arith) e))
+    where
+      go : (b : Bool) → suc i ∈ map suc (struck P l) → suc i ∈ cond b (map suc (struck P l)) (0 ∷ map suc (struck P l))
+      go true m = m
+      go false m = List·Memᴰ·tail m
+
+  -- any rising list of just the failing places is that of the struck ones
+  pub struck-unique : (P : X → Bool) (l : List X) (z : X) (bad : List ℕ) → Pairwise _<_ bad
+      → ((i : ℕ) → i ∈ bad ↔ ((i < length l) × (P (getD l i z) ≡ false))) → bad ≡ struck P l
+  struck-unique P l z bad s h =
+      order-unique _<_ (λ x y a b. omega arith) (λ x y a e. omega arith) bad (struck P l) s (struck-rising P l)
+      (λ i m. let q = h i .0 m in fails-struck P l i z (q .0) (q .1)) (λ i m. h i .1 (struck-fails P l i z m))
+
+-- ---- the list of draws
+
+module _ {X : Type 0} where
+  getD-numbered : (k : ℕ) (l : List X) (i : ℕ) (z : X) (e : ℕ × X) → i < length l → getD (numbered k l) i e ≡ (k + i, getD l i z)
+  getD-numbered k [] i z e h = absurd (omega arith)
+  getD-numbered k (x ∷ l) zero z e h = let q : k + 0 ≡ k = omega arith in rw q
+  getD-numbered k (x ∷ l) (suc i) z e h =
+      let q : k + suc i ≡ suc k + i = omega arith in rw q (getD-numbered (suc k) l i z e (omega arith))
+
+  struck-numbered : (P : X → Bool) (k : ℕ) (l : List X) → struck (λ (e : ℕ × X). P (e .1)) (numbered k l) ≡ struck P l
+  struck-numbered P k [] = refl
+  struck-numbered P k (x ∷ l) = rw (struck-numbered P (suc k) l)
+
+  keep-numbered : (P : X → Bool) (k : ℕ) (l : List X) → length (keep (λ (e : ℕ × X). P (e .1)) (numbered k l)) ≡ length (keep P l)
+  keep-numbered P k [] = refl
+  keep-numbered P k (x ∷ l) = go (P x) (keep-numbered P (suc k) l)
+    where
+      go : (b : Bool) → length (keep (λ (e : ℕ × X). P (e .1)) (numbered (suc k) l)) ≡ length (keep P l)
+          → length (cond b ((k, x) ∷ keep (λ (e : ℕ × X). P (e .1)) (numbered (suc k) l)) (keep (λ (e : ℕ × X). P (e .1)) (numbered (suc k) l))) ≡ length (cond b (x ∷ keep P l) (keep P l))
+      go true e = ap suc e
+      go false e = e
+
+  -- what the skips of 0, 1, .. find, one after another, is what is kept, each with its place
+  pub draws : (P : X → Bool) (l : List X) (z : X)
+      → map (λ q. (skip q (struck P l), getD l (skip q (struck P l)) z)) (upFrom 0 (length l - length (struck P l)))
+      ≡ keep (λ (e : ℕ × X). P (e .1)) (numbered 0 l)
+  draws P l z =
+      let n : length l - length (struck P l) ≡ length (keep P l) = omega (arith, keep-length P l) in
+      rw n (ext-getD (0, z) (map f (upFrom 0 (length (keep P l)))) (keep P′ (numbered 0 l))
+      (omega (arith, length-map (upFrom 0 (length (keep P l))) f, length-upFrom 0 (length (keep P l)), keep-numbered P 0 l))
+      (λ i h. at i (omega (arith, length-map (upFrom 0 (length (keep P l))) f, length-upFrom 0 (length (keep P l))))))
+    where
+      f : ℕ → ℕ × X
+      f q = (skip q (struck P l), getD l (skip q (struck P l)) z)
+
+      P′ : ℕ × X → Bool
+      P′ e = P (e .1)
+
+      at : (i : ℕ) → i < length (keep P l) → getD (map f (upFrom 0 (length (keep P l)))) i (0, z) ≡ getD (keep P′ (numbered 0 l)) i (0, z)
+      at i h =
+          let u : i < length (upFrom 0 (length (keep P l))) = omega (arith, length-upFrom 0 (length (keep P l))) in
+          let e₁ : getD (upFrom 0 (length (keep P l))) i 0 ≡ i = omega (arith, getD-upFrom 0 (length (keep P l)) i 0 h) in
+          let e₂ : 0 + skip i (struck P l) ≡ skip i (struck P l) = omega arith in
+          getD-map f (upFrom 0 (length (keep P l))) i 0 (0, z) u
+          ∙ ap f e₁
+          ∙ sym (keep-at P′ (numbered 0 l) i (0, z)
+          ∙ rw (struck-numbered P 0 l) (getD-numbered 0 l (skip i (struck P l)) z (0, z) (skip-lt P l i h) ∙ rw e₂))

@@ -1,0 +1,80 @@
+-- Sums and lengths over `++`, concatMap and combine. Each by induction on the list.
+-- Assumes nothing.
+use mathlib.Core.Path.{_≡_, refl}
+use mathlib.Core.List.{List, [], _∷_, _++_, map, List·Memᴰ·head, List·Memᴰ·tail}
+use Prim.Native.Nat.{ℕ, zero, suc, _+_, _*_, _≤_}
+use native.Mathlib.Omega.{arith}
+use lib.ListN.{length, length-append, length-map}
+use Rattle.lists.specs.Joined.{_∈_, sumOver, concatMap, combine, upFrom}
+
+module _ {X : Type 0} where
+  pub sum-append : (f : X → ℕ) (a b : List X) → sumOver f (a ++ b) ≡ sumOver f a + sumOver f b
+  sum-append f [] b = omega arith
+  sum-append f (x ∷ a) b = omega (arith, sum-append f a b)
+
+  pub sum-ext : (f g : X → ℕ) (l : List X) → ((x : X) → x ∈ l → f x ≡ g x) → sumOver f l ≡ sumOver g l
+  sum-ext f g [] h = refl
+  sum-ext f g (x ∷ l) h = omega (arith, h x (List·Memᴰ·head refl), sum-ext f g l (λ y m. h y (List·Memᴰ·tail m)))
+
+  pub sum-le : (f g : X → ℕ) (l : List X) → ((x : X) → x ∈ l → f x ≤ g x) → sumOver f l ≤ sumOver g l
+  sum-le f g [] h = omega arith
+  sum-le f g (x ∷ l) h = omega (arith, h x (List·Memᴰ·head refl), sum-le f g l (λ y m. h y (List·Memᴰ·tail m)))
+
+  pub sum-scale : (c : ℕ) (f : X → ℕ) (l : List X) → sumOver (λ x. c * f x) l ≡ c * sumOver f l
+  sum-scale c f [] = omega arith
+  sum-scale c f (x ∷ l) = omega (arith, sum-scale c f l)
+
+  pub sum-plus : (f g : X → ℕ) (l : List X) → sumOver (λ x. f x + g x) l ≡ sumOver f l + sumOver g l
+  sum-plus f g [] = refl
+  sum-plus f g (x ∷ l) = omega (arith, sum-plus f g l)
+
+  -- a sum of the same number
+  pub sum-const : (c : ℕ) (l : List X) → sumOver (λ x. c) l ≡ length l * c
+  sum-const c [] = omega arith
+  sum-const c (x ∷ l) = omega (arith, sum-const c l)
+
+  pub sum-one : (l : List X) → sumOver (λ x. 1) l ≡ length l
+  sum-one l = omega (arith, sum-const 1 l)
+
+module _ {X Y : Type 0} where
+  pub sum-map : (f : X → Y) (g : Y → ℕ) (l : List X) → sumOver g (map f l) ≡ sumOver (λ x. g (f x)) l
+  sum-map f g [] = refl
+  sum-map f g (x ∷ l) = omega (arith, sum-map f g l)
+
+  pub concat-ext : (f g : X → List Y) (l : List X) → ((x : X) → x ∈ l → f x ≡ g x) → concatMap f l ≡ concatMap g l
+  concat-ext f g [] h = refl
+  concat-ext f g (x ∷ l) h =
+      let e = concat-ext f g l (λ y m. h y (List·Memᴰ·tail m)) in
+      rw (h x (List·Memᴰ·head refl), e)
+
+  pub sum-concat : (f : X → List Y) (g : Y → ℕ) (l : List X) → sumOver g (concatMap f l) ≡ sumOver (λ x. sumOver g (f x)) l
+  sum-concat f g [] = refl
+  sum-concat f g (x ∷ l) = omega (arith, sum-append g (f x) (concatMap f l), sum-concat f g l)
+
+  pub length-concat : (f : X → List Y) (l : List X) → length (concatMap f l) ≡ sumOver (λ x. length (f x)) l
+  length-concat f [] = refl
+  length-concat f (x ∷ l) = omega (arith, length-append (f x) (concatMap f l), length-concat f l)
+
+module _ {X Y Z : Type 0} where
+  pub length-combine : (f : X → Y → Z) (l : List X) (r : List Y) → length (combine f l r) ≡ length l * length r
+  length-combine f [] r = omega arith
+  length-combine f (x ∷ l) r =
+      omega (arith, length-append (map (f x) r) (combine f l r), length-map r (f x), length-combine f l r)
+
+  -- where g of a combination is a product, so is its sum
+  pub sum-combine : (f : X → Y → Z) (g : Z → ℕ) (a : X → ℕ) (b : Y → ℕ) (l : List X) (r : List Y)
+      → ((x : X) → x ∈ l → (y : Y) → y ∈ r → g (f x y) ≡ a x * b y) → sumOver g (combine f l r) ≡ sumOver a l * sumOver b r
+  sum-combine f g a b [] r h = omega arith
+  sum-combine f g a b (x ∷ l) r h =
+      omega (
+        arith,
+        sum-append g (map (f x) r) (combine f l r),
+        sum-map (f x) g r,
+        sum-ext (λ y. g (f x y)) (λ y. a x * b y) r (h x (List·Memᴰ·head refl)),
+        sum-scale (a x) b r,
+        sum-combine f g a b l r (λ z m. h z (List·Memᴰ·tail m)),
+      )
+
+pub length-upFrom : (k n : ℕ) → length (upFrom k n) ≡ n
+length-upFrom k zero = refl
+length-upFrom k (suc n) = omega (arith, length-upFrom (suc k) n)

@@ -1,0 +1,4 @@
+pub mod Joined
+pub mod Ordered
+pub mod Searched
+pub mod Struck

@@ -1,0 +1,1 @@
+// Definitions and laws of plain lists, for the proofs of the crates above. No code.
