@@ -1,12 +1,13 @@
--- The entry at an index of `++`, map, combine and a run of numbers.
+-- The entry at an index of `++`, replicate, set, map, combine and a run of numbers.
 -- Assumes nothing.
 use mathlib.Core.Path.{_≡_, refl, sym, ap, _∙_}
 use mathlib.Core.List.{List, [], _∷_, _++_, map}
 use Prim.Native.Nat.{ℕ, zero, suc, _+_, _*_, _-_, _/_, _%_, _≤_, _<_}
 use native.Mathlib.Omega.{arith}
+use native.Mathlib.Numerals.{add-one}
 use native.Mathlib.Nat.{div-add-mod', mod-lt, div-lt-iff-lt-mul}
 use lib.Seq.{getD-append-add}
-use lib.ListN.{length, getD, length-map, List·getD-append}
+use lib.ListN.{length, getD, set, replicate, length-map, List·getD-append}
 use Rattle.lists.specs.Joined.{combine, upFrom}
 
 module _ {X : Type 0} where
@@ -17,6 +18,12 @@ module _ {X : Type 0} where
   getD-right a b n d h =
       let e : n ≡ length a + (n - length a) = omega arith in
       ap (λ (k : ℕ). getD (a ++ b) k d) e ∙ getD-append-add a b (n - length a) d
+
+  -- n times the element that stands past the end
+  pub getD-same : (n i : ℕ) (x : X) → getD (replicate n x) i x ≡ x
+  getD-same zero i x = refl
+  getD-same (suc n) zero x = refl
+  getD-same (suc n) (suc i) x = getD-same n i x
 
 module _ {X Y : Type 0} where
   some-right : (l : List X) (r : List Y) (d : ℕ) → d < length l * length r → 0 < length r
@@ -53,3 +60,15 @@ pub getD-upFrom : (k n i d : ℕ) → i < n → getD (upFrom k n) i d ≡ k + i
 getD-upFrom k zero i d h = absurd (omega arith)
 getD-upFrom k (suc n) zero d h = omega arith
 getD-upFrom k (suc n) (suc i) d h = omega (arith, getD-upFrom (suc k) n i d (omega arith))
+
+-- a loop that counts up to n meets the numbers so
+pub upFrom-step : (k n : ℕ) → k < n → upFrom k (n - k) ≡ k ∷ upFrom (k + 1) (n - (k + 1))
+upFrom-step k n h = let e : n - k ≡ suc (n - (k + 1)) = omega arith in rw (e, add-one k)
+
+-- no entry above b is put among entries that are at most b
+pub set-le : (l : List ℕ) (i v b : ℕ) → v ≤ b → ((q : ℕ) → getD l q 0 ≤ b) → (q : ℕ) → getD (set l i v) q 0 ≤ b
+set-le [] i v b h k q = k q
+set-le (x ∷ l) zero v b h k zero = h
+set-le (x ∷ l) zero v b h k (suc q) = k (suc q)
+set-le (x ∷ l) (suc i) v b h k zero = k 0
+set-le (x ∷ l) (suc i) v b h k (suc q) = set-le l i v b h (λ j. k (suc j)) q

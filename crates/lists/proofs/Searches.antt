@@ -9,17 +9,22 @@ use native.Mathlib.Omega.{arith}
 use native.Mathlib.Decide.{ℕ-discrete}
 use borrow.Author.Tests.{eq-eqb, ne-eqb}
 use lib.Dec.{eqb}
-use lib.ListN.{length, getD, length-map}
-use Rattle.lists.specs.Joined.{_∈_, sumOver, combine, upFrom}
+use lib.ListN.{length, getD, set, length-map}
+use lib.Seq.{getD-set-same, getD-set-other}
+use Rattle.lists.specs.Joined.{_∈_, sumOver, concatMap, combine, upFrom}
+use Rattle.lists.specs.Ordered.{Distinct, none, more}
 use Rattle.lists.specs.Searched.{bit, howMany, firstPlace, times}
-use Rattle.lists.proofs.Sums.{sum-ext, sum-map, sum-combine, sum-plus, sum-const, sum-le, length-upFrom}
-use Rattle.lists.proofs.Tests.{bit-and}
+use Rattle.lists.proofs.Sums.{sum-append, sum-ext, sum-map, sum-combine, sum-plus, sum-const, sum-le, length-upFrom}
+use Rattle.lists.proofs.Tests.{bit-le, bit-and}
 
 -- ---- how many
 
 module _ {X : Type 0} where
   pub many-ext : (P Q : X → Bool) (l : List X) → ((x : X) → x ∈ l → P x ≡ Q x) → howMany P l ≡ howMany Q l
   many-ext P Q l h = sum-ext (λ x. bit (P x)) (λ x. bit (Q x)) l (λ x m. ap bit (h x m))
+
+  pub many-le : (P : X → Bool) (l : List X) → howMany P l ≤ length l
+  many-le P l = omega (arith, sum-le (λ x. bit (P x)) (λ x. 1) l (λ x m. bit-le (P x)), sum-const 1 l)
 
   many-never : (l : List X) → howMany (λ x. false) l ≡ 0
   many-never l = omega (arith, sum-const 0 l)
@@ -171,3 +176,34 @@ pub ∈-times : (r : ℕ) (l : List ℕ) → 1 ≤ times r l → r ∈ l
       | yes e ↦ List·Memᴰ·head e
       | no ne ↦ List·Memᴰ·tail (∈-times r l (omega (arith, other-bit r x ne)))
     ]
+
+pub times-append : (r : ℕ) (a b : List ℕ) → times r (a ++ b) ≡ times r a + times r b
+times-append r a b = sum-append (λ x. bit (eqb r x)) a b
+
+-- a mark more at x does for the x in front of a list
+pub times-mark : (marks : List ℕ) (x : ℕ) (l : List ℕ) (r : ℕ) → x < length marks
+    → getD (set marks x (getD marks x 0 + 1)) r 0 + times r l ≡ getD marks r 0 + times r (x ∷ l)
+times-mark marks x l r h =
+    elim (ℕ-discrete r x) [
+      | yes e ↦
+          let b : bit (eqb r x) ≡ 1 = ap bit (eq-eqb r x e) in
+          let m : getD (set marks x (getD marks x 0 + 1)) r 0 ≡ getD marks r 0 + 1 = rw (e, getD-set-same marks x (getD marks x 0 + 1) 0 h) in
+          omega arith
+      | no ne ↦ omega (arith, other-bit r x ne, getD-set-other marks x r (getD marks x 0 + 1) 0 ne)
+    ]
+
+-- a list without a value twice is distinct
+pub times-distinct : (l : List ℕ) → ((r : ℕ) → r ∈ l → times r l ≤ 1) → Distinct l
+times-distinct [] f = none
+times-distinct (x ∷ l) f =
+    more {x = x}
+    (λ y m e. let b = same-bit x in let q = times-∈ y l m in let g = f x (List·Memᴰ·head refl) in omega (arith, ap (λ (z : ℕ). times z l) e))
+    (times-distinct l (λ r m. omega (arith, f r (List·Memᴰ·tail m))))
+
+module _ {X : Type 0} where
+  -- a value stands in all the lists together at least as often as in one of them
+  pub times-concat : (r : ℕ) (f : X → List ℕ) (x : X) (l : List X) → x ∈ l → times r (f x) ≤ times r (concatMap f l)
+  times-concat r f x (y ∷ l) (List·Memᴰ·head e) =
+      omega (arith, sum-append (λ z. bit (eqb r z)) (f y) (concatMap f l), ap (λ (z : X). times r (f z)) e)
+  times-concat r f x (y ∷ l) (List·Memᴰ·tail m) =
+      omega (arith, sum-append (λ z. bit (eqb r z)) (f y) (concatMap f l), times-concat r f x l m)

@@ -1,11 +1,22 @@
--- Tests: what a conjunction or disjunction says of its parts, and a test over the numbers below a bound as a loop meets it.
+-- Tests: what a conjunction or disjunction says of its parts, a test over the elements of a list, and a test over the numbers below
+-- a bound as a loop meets it.
 -- Assumes nothing.
-use mathlib.Core.Path.{_≡_, refl, ap, _∙_}
-use mathlib.Core.Bool.{Bool, true, false, _&&_, _||_}
+use mathlib.Core.Path.{_≡_, refl, sym, ap, _∙_}
+use mathlib.Core.Bool.{Bool, true, false, _&&_, _||_, or-false}
+use mathlib.Core.List.{List, [], _∷_, List·Memᴰ·head, List·Memᴰ·tail}
 use Prim.Native.Nat.{ℕ, zero, suc, _-_, _*_, _≤_, _<_}
 use native.Mathlib.Omega.{arith}
 use native.Mathlib.Decide.{ℕ-discrete}
-use Rattle.lists.specs.Searched.{bit, someBelow, someTo}
+use borrow.Author.Tests.{eq-eqb, ne-eqb}
+use lib.Dec.{eqb}
+use lib.ListN.{length, getD, set}
+use lib.Seq.{getD-set-same, getD-set-other}
+use Rattle.lists.specs.Joined.{_∈_}
+use Rattle.lists.specs.Searched.{bit, someOf, someBelow, someTo}
+
+pub bit-le : (b : Bool) → bit b ≤ 1
+bit-le true = omega arith
+bit-le false = omega arith
 
 pub bit-and : (a b : Bool) → bit (a && b) ≡ bit a * bit b
 bit-and true b = omega arith
@@ -19,6 +30,10 @@ pub and-right : (a b : Bool) → (a && b) ≡ true → b ≡ true
 and-right true b e = e
 and-right false b e = let z : b ≡ true = cc in z
 
+pub and-false : (a b : Bool) → b ≡ false → (a && b) ≡ false
+and-false true b e = e
+and-false false b e = refl
+
 pub or-left : (a b : Bool) → (a || b) ≡ false → a ≡ false
 or-left true b e = e
 or-left false b e = refl
@@ -30,6 +45,49 @@ or-right false b e = e
 pub or-true : (a b : Bool) → b ≡ true → (a || b) ≡ true
 or-true true b e = refl
 or-true false b e = e
+
+-- two tests that pass together are equal
+pub both-ways : (a b : Bool) → (a ≡ true → b ≡ true) → (b ≡ true → a ≡ true) → a ≡ b
+both-ways true b f g = sym (f refl)
+both-ways false true f g = g refl
+both-ways false false f g = refl
+
+-- ---- some element of a list
+
+or-swap : (a b c d : Bool) → ((a || b) || (c || d)) ≡ ((a || c) || (b || d))
+or-swap true b c d = refl
+or-swap false true c d = sym (or-true c true refl)
+or-swap false false c d = refl
+
+module _ {X : Type 0} where
+  pub some-ext : (P Q : X → Bool) (l : List X) → ((x : X) → x ∈ l → P x ≡ Q x) → someOf P l ≡ someOf Q l
+  some-ext P Q [] h = refl
+  some-ext P Q (x ∷ l) h = rw (h x (List·Memᴰ·head refl), some-ext P Q l (λ y m. h y (List·Memᴰ·tail m)))
+
+  pub some-never : (P : X → Bool) (l : List X) → ((x : X) → P x ≡ false) → someOf P l ≡ false
+  some-never P [] h = refl
+  some-never P (x ∷ l) h = rw (h x) (some-never P l h)
+
+  pub some-or : (P Q : X → Bool) (l : List X) → someOf (λ x. P x || Q x) l ≡ (someOf P l || someOf Q l)
+  some-or P Q [] = refl
+  some-or P Q (x ∷ l) = rw (some-or P Q l) (or-swap (P x) (Q x) (someOf P l) (someOf Q l))
+
+  -- once s is stamped too, the elements whose place has the stamp are those whose place had it, and those whose place is s
+  pub some-stamped : (place : X → ℕ) (stamps : List ℕ) (s stamp : ℕ) (l : List X) → s < length stamps
+      → someOf (λ x. eqb (getD (set stamps s stamp) (place x) 0) stamp) l
+      ≡ (someOf (λ x. eqb (getD stamps (place x) 0) stamp) l || someOf (λ x. eqb s (place x)) l)
+  some-stamped place stamps s stamp l h =
+      some-ext _ _ l (λ x m. at (place x)) ∙ some-or (λ x. eqb (getD stamps (place x) 0) stamp) (λ x. eqb s (place x)) l
+    where
+      at : (p : ℕ) → eqb (getD (set stamps s stamp) p 0) stamp ≡ (eqb (getD stamps p 0) stamp || eqb s p)
+      at p =
+          elim (ℕ-discrete p s) [
+            | yes e ↦
+                rw (e, getD-set-same stamps s stamp 0 h, eq-eqb stamp stamp refl, eq-eqb s s refl) (sym (or-true (eqb (getD stamps s 0) stamp) true refl))
+            | no n ↦ rw (getD-set-other stamps s p stamp 0 n, ne-eqb s p (λ e. n (sym e))) (sym (or-false (eqb (getD stamps p 0) stamp)))
+          ]
+
+-- ---- some number below a bound
 
 module _ (f : ℕ → Bool) where
   -- a loop that counts down from n meets the tests so
@@ -70,3 +128,11 @@ module _ (f : ℕ → Bool) where
 
   pub to-miss : (n : ℕ) → 0 < n → f n ≡ false → someTo f n ≡ someTo f (n - 1)
   to-miss n h e = to-step n h ∙ ap (λ (b : Bool). b || someTo f (n - 1)) e
+
+pub below-ext : (f g : ℕ → Bool) (n : ℕ) → ((i : ℕ) → f i ≡ g i) → someBelow f n ≡ someBelow g n
+unfolding someBelow
+below-ext f g zero h = refl
+below-ext f g (suc n) h = rw (h n, below-ext f g n h)
+
+pub to-ext : (f g : ℕ → Bool) (n : ℕ) → ((i : ℕ) → f i ≡ g i) → someTo f n ≡ someTo g n
+to-ext f g n h = below-ext (λ i. f (suc i)) (λ i. g (suc i)) n (λ i. h (suc i))

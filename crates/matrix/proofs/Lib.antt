@@ -1,0 +1,2 @@
+-- The theorems of the table, for the crates above.
+pub mod Rules

@@ -1,0 +1,566 @@
+#!/usr/bin/env python3
+"""Brute-force answers to every call of document 01, for the tests.
+
+Written from document 01 alone: the headings below are its sections, and each definition cites its
+sentence. Derivations are enumerated one by one as trees, in the document's order. Where that list
+would be long (LISTED), the same answers come from exact counts; the tests hold the two ways against
+each other.
+
+Grammar is document 01's bank, history its diary, unrank Give, rank Number, remaining Left and append
+Log. Every call returns (refusal, figures.., buffer after), where refusal 0 means accepted.
+
+  oracle.py check_grammar GRAMMAR             N W
+  oracle.py check_history HISTORY             K
+  oracle.py count GRAMMAR LENGTH              T
+  oracle.py unrank GRAMMAR LENGTH NUMBER      T, then the buffer
+  oracle.py rank GRAMMAR WORD..               number T
+  oracle.py remaining GRAMMAR HISTORY LENGTH  T heard left
+  oracle.py draw GRAMMAR HISTORY LENGTH Q     left number, then the buffer
+  oracle.py append HISTORY WORD..             K, then the buffer
+  oracle.py listing INPUT                     what the listing program prints
+
+GRAMMAR, HISTORY and INPUT are files, - is standard input, numbers are decimal. A sentence's buffer
+is 16 zeros before the call.
+"""
+import sys
+from functools import lru_cache
+from itertools import chain as concat
+from typing import NamedTuple
+
+MOST = 2**64 - 1  # opening paragraph: "counts and numbers have 64 bits"
+LISTED = 200_000  # the most derivations, over all nonterminals and lengths, that are listed as trees
+WORD, PAIR = 0, 1  # Bank bytes: "The kind is 0 for a word rule, 1 for a pair rule"
+
+# Examples. F and G; F with any number of words is f_words.
+F = bytes([2, 2, 4, 0, 1, 3, 1, 1, 1, 2, 1, 0, 1, 0, 0, 0, 0, 4, 0, 1, 0, 0])
+G = bytes([1, 1, 2, 0, 1, 1, 0, 0, 2, 0, 0, 0, 0])
+
+
+def f_words(words):
+    """Examples: "F with 16 words", "With 15 words": the chain of nonterminal 1 has that many words."""
+    rules = [[WORD, word, 0, word + 4] for word in range(words - 1)] + [[WORD, words - 1, 0, 0]]
+    return bytes([2, words, words + 2, 0, 1, 3, 1, 1, 1, 2, 1, 0, 1, 0]) + bytes(concat(*rules))
+
+
+def matrix():
+    """House bank and listing program: the house matrix bank."""
+    heads = [1, 2, 3, 4] + [5 + 10 * group for group in range(5)]
+    pairs = [[PAIR, 4, 1, 0], [PAIR, 5, 2, 0], [PAIR, 6, 3, 0], [PAIR, 7, 8, 0]]
+    words = [[WORD, word, 0, 0 if word % 10 == 9 else word + 6] for word in range(50)]
+    return bytes([9, 50, 54, 0] + heads) + bytes(concat(*pairs, *words))
+
+
+# ---- Why a call says no
+
+def first_that_applies(*lines):
+    """The first refusal that applies, or 0. Each of lines yields (refusal, does it apply) in order,
+    and is asked no further once one applies."""
+    return next((refusal for refusal, applies in concat(*lines) if applies), 0)
+
+
+def walk(heads, nexts):
+    """The chains from the given heads, one after another, or None once a number is met a second time."""
+    met, chains = set(), []
+    for at in heads:
+        chains.append([])
+        while at != 0:
+            if at in met:
+                return None
+            met.add(at)
+            chains[-1].append(at)
+            at = nexts[at]
+    return chains
+
+
+# ---- Bank bytes
+
+class Rule(NamedTuple):
+    kind: int
+    a: int
+    b: int
+    next: int
+
+
+def heads_of(grammar):
+    """Bank bytes: "Then N bytes, the head of each nonterminal's chain"."""
+    return list(grammar[4:4 + grammar[0]])
+
+
+def rules_of(grammar):
+    """Bank bytes: "Then R rules of four bytes, numbered from 1: kind, a, b, next"."""
+    first = 4 + grammar[0]
+    return {i + 1: Rule(*grammar[first + 4 * i:first + 4 * i + 4]) for i in range(grammar[2])}
+
+
+def nexts_of(grammar):
+    return {number: rule.next for number, rule in rules_of(grammar).items()}
+
+
+def fits_layout(rule, n, w):
+    """Bank bytes: "A word rule has a below W and b = 0. A pair rule has nonterminals a and b below N"."""
+    if rule.kind == WORD:
+        return rule.a < w and rule.b == 0
+    return rule.kind == PAIR and rule.a < n and rule.b < n
+
+
+def holds_equal_rules(numbers, rules):
+    """Refusal 8, for one chain: "two rules with the same kind, a and b"."""
+    seen = [(rules[i].kind, rules[i].a, rules[i].b) for i in numbers]
+    return len(set(seen)) < len(seen)
+
+
+def grammar_lines(grammar):
+    """Why a call says no: 1 to 8."""
+    yield 1, len(grammar) < 4
+    n, w, r, s = grammar[:4]
+    yield 2, not (1 <= n <= 32 and 1 <= w <= 255 and 1 <= r <= 255 and 0 <= s <= n - 1)
+    yield 3, len(grammar) != 4 + n + 4 * r
+    rules = rules_of(grammar)
+    yield 4, any(not fits_layout(rule, n, w) for rule in rules.values())
+    yield 5, any(link > r for link in heads_of(grammar) + list(nexts_of(grammar).values()))
+    chains = walk(heads_of(grammar), nexts_of(grammar))
+    yield 6, chains is None
+    yield 7, set(concat(*chains)) != set(rules)
+    yield 8, any(holds_equal_rules(numbers, rules) for numbers in chains)
+
+
+# ---- Derivations and their order
+
+class Leaf(NamedTuple):
+    """A derivation of length 1: "a word rule of A"."""
+    rule: int
+    word: int
+
+
+class Node(NamedTuple):
+    """One of a greater length m: "a pair rule (B, C) of A, a left length k from 1 to m - 1, a derivation
+    of B with length k and one of C with length m - k"."""
+    rule: int
+    k: int
+    left: 'Leaf | Node'
+    right: 'Leaf | Node'
+
+
+def sentence_of(tree):
+    """The sentence: "the left sentence followed by the right"."""
+    if isinstance(tree, Leaf):
+        return bytes([tree.word])
+    return sentence_of(tree.left) + sentence_of(tree.right)
+
+
+def memo(method):
+    """Keeps a method's answers in the object's dictionary `known`."""
+    def remembered(self, *args):
+        key = method.__name__, *args
+        if key not in self.known:
+            self.known[key] = method(self, *args)
+        return self.known[key]
+    return remembered
+
+
+class Grammar:
+    """An accepted grammar: its start and, for each nonterminal, its rules in the order of its chain."""
+
+    def __init__(self, data):
+        rules = rules_of(data)
+        self.start = data[3]
+        self.chains = [[(i, rules[i]) for i in numbers] for numbers in walk(heads_of(data), nexts_of(data))]
+        self.known = {}
+
+    def words(self, a):
+        return [(number, rule.a) for number, rule in self.chains[a] if rule.kind == WORD]
+
+    def splits(self, a, m):
+        """Each pair rule of a with each left length, in the order of derivations."""
+        return [(number, rule.a, rule.b, k) for number, rule in self.chains[a] if rule.kind == PAIR for k in range(1, m)]
+
+    @memo
+    def derivations(self, a, m):
+        """All of them in order: "earlier rule in the chain first; then smaller k; then the earlier left
+        derivation; then the earlier right one"."""
+        if m == 1:
+            return [Leaf(number, word) for number, word in self.words(a)]
+        return [Node(number, k, left, right)
+                for number, b, c, k in self.splits(a, m)
+                for left in self.derivations(b, k)
+                for right in self.derivations(c, m - k)]
+
+    @memo
+    def total(self, a, m):
+        """T(A, m): "the sum over rules and k of products"."""
+        if m == 1:
+            return len(self.words(a))
+        return sum(self.total(b, k) * self.total(c, m - k) for _, b, c, k in self.splits(a, m))
+
+    def totals(self, length):
+        """T(A, m) for every nonterminal and every m from 1 to the length."""
+        return [self.total(a, m) for a in range(len(self.chains)) for m in range(1, length + 1)]
+
+
+@lru_cache(maxsize=4)
+def read(grammar):
+    return Grammar(grammar)
+
+
+# ---- The draws as one list
+
+class Listed:
+    """The full list: "every derivation of S with length n, each once, in the order above. Its entry d,
+    counted from 0, so has derivation number d"."""
+
+    def __init__(self, grammar, length):
+        self.entries = [sentence_of(tree) for tree in grammar.derivations(grammar.start, length)]
+        self.total = len(self.entries)
+        assert self.total == grammar.total(grammar.start, length)
+        self.places = {}
+        for d, sentence in enumerate(self.entries):
+            self.places.setdefault(sentence, []).append(d)
+        self.known = {}
+
+    def sentence(self, d):
+        return self.entries[d]
+
+    def count(self, sentence):
+        """How many derivations the sentence has."""
+        return len(self.places.get(sentence, []))
+
+    def number(self, sentence):
+        """The derivation number of a sentence with one derivation."""
+        [d] = self.places[sentence]
+        return d
+
+    @memo
+    def unheard(self, heard):
+        """The unheard list, each entry as its derivation number and its sentence: "Strike each entry whose
+        sentence is heard. What remains, in the same order"."""
+        return [(d, sentence) for d, sentence in enumerate(self.entries) if sentence not in heard]
+
+    def left(self, heard):
+        return len(self.unheard(heard))
+
+    def draw(self, heard, q):
+        return self.unheard(heard)[q]
+
+
+class Counted:
+    """The same list where it is too long to write down: every answer from counts. The sentences heard
+    have one derivation or none, as refusal 15 sees to."""
+
+    def __init__(self, grammar, length):
+        self.grammar, self.length = grammar, length
+        self.total = grammar.total(grammar.start, length)
+        self.known = {}
+
+    def sentence(self, d):
+        return self.unrank(self.grammar.start, self.length, d)
+
+    def count(self, sentence):
+        return self.count_from(self.grammar.start, sentence)
+
+    def number(self, sentence):
+        return self.rank(self.grammar.start, sentence)
+
+    def unrank(self, a, m, d):
+        if m == 1:
+            return bytes([self.grammar.words(a)[d][1]])
+        for _, b, c, k in self.grammar.splits(a, m):
+            rights = self.grammar.total(c, m - k)
+            both = self.grammar.total(b, k) * rights
+            if d < both:
+                return self.unrank(b, k, d // rights) + self.unrank(c, m - k, d % rights)
+            d -= both
+        raise IndexError(d)
+
+    @memo
+    def count_from(self, a, words):
+        if len(words) == 1:
+            return sum(word == words[0] for _, word in self.grammar.words(a))
+        return sum(self.count_from(b, words[:k]) * self.count_from(c, words[k:])
+                   for _, b, c, k in self.grammar.splits(a, len(words)))
+
+    def rank(self, a, words):
+        if len(words) == 1:
+            return [word for _, word in self.grammar.words(a)].index(words[0])
+        before = 0
+        for _, b, c, k in self.grammar.splits(a, len(words)):
+            rights = self.grammar.total(c, len(words) - k)
+            if self.count_from(b, words[:k]) * self.count_from(c, words[k:]) == 1:
+                return before + self.rank(b, words[:k]) * rights + self.rank(c, words[k:])
+            before += self.grammar.total(b, k) * rights
+        raise ValueError(words)
+
+    @memo
+    def struck(self, heard):
+        """The derivation numbers that are struck, rising."""
+        return sorted(self.number(s) for s in heard if len(s) == self.length and self.count(s) == 1)
+
+    def left(self, heard):
+        return self.total - len(self.struck(heard))
+
+    def draw(self, heard, q):
+        d = q
+        for number in self.struck(heard):
+            if number <= d:
+                d += 1
+        return d, self.sentence(d)
+
+
+@lru_cache(maxsize=4)
+def full_list(grammar, length):
+    small = sum(read(grammar).totals(length)) <= LISTED
+    return (Listed if small else Counted)(read(grammar), length)
+
+
+# ---- Diary bytes
+
+class Record(NamedTuple):
+    next: int
+    length: int
+    fourth: int
+    words: bytes
+
+
+def two_bytes(data, at):
+    """Opening paragraph: "Two-byte fields have the low byte first"."""
+    return data[at] + 256 * data[at + 1]
+
+
+def records_of(history):
+    """The records by number: "Two bytes K (0 to 1,000 records), two bytes head, then records of 20 bytes
+    numbered from 1: two bytes next, one byte length (1 to 16), one byte 0, sixteen word bytes"."""
+    starts = range(4, 4 + 20 * two_bytes(history, 0), 20)
+    return {number: Record(two_bytes(history, at), history[at + 2], history[at + 3], history[at + 4:at + 20])
+            for number, at in enumerate(starts, 1)}
+
+
+def fits_record(record):
+    """Refusal 12, for one record: "one byte length (1 to 16), one byte 0, .. zero beyond the length"."""
+    return 1 <= record.length <= 16 and record.fourth == 0 and not any(record.words[record.length:])
+
+
+def history_chain(history):
+    """The record numbers along the chain, or None where one is met twice."""
+    nexts = {number: record.next for number, record in records_of(history).items()}
+    chains = walk([two_bytes(history, 2)], nexts)
+    return chains and chains[0]
+
+
+def history_lines(history):
+    """Why a call says no: 11 to 14."""
+    yield 11, len(history) < 4 or two_bytes(history, 0) > 1000 or len(history) < 4 + 20 * two_bytes(history, 0)
+    records = records_of(history)
+    yield 12, any(not fits_record(record) for record in records.values())
+    links = [two_bytes(history, 2)] + [record.next for record in records.values()]
+    yield 13, any(link > len(records) for link in links)
+    met = history_chain(history)
+    yield 14, met is None or len(met) < len(records)
+
+
+@lru_cache(maxsize=4)
+def sentences_of(history):
+    """The sentences, "one after another along the chain"."""
+    records = records_of(history)
+    return [records[number].words[:records[number].length] for number in history_chain(history)]
+
+
+@lru_cache(maxsize=4)
+def heard_of(history, length):
+    """The heard sentences of the named length: "if a record has its length and words"."""
+    return frozenset(sentence for sentence in sentences_of(history) if len(sentence) == length)
+
+
+# ---- Why a call says no: the other lines
+
+def length_lines(length):
+    yield 9, not 1 <= length <= 16
+
+
+def total_lines(grammar, length):
+    yield 10, any(total > MOST for total in read(grammar).totals(length))
+
+
+def ambiguous_lines(grammar, history, length):
+    full = full_list(grammar, length)
+    yield 15, any(full.count(sentence) >= 2 for sentence in heard_of(history, length))
+
+
+def count_lines(grammar, length):
+    return concat(grammar_lines(grammar), length_lines(length), total_lines(grammar, length))
+
+
+def remaining_lines(grammar, history, length):
+    return concat(count_lines(grammar, length), history_lines(history), ambiguous_lines(grammar, history, length))
+
+
+def unrank_lines(grammar, length, number, buffer):
+    yield 16, number >= full_list(grammar, length).total
+    yield 20, len(buffer) < length
+
+
+def rank_lines(grammar, sentence):
+    count = full_list(grammar, len(sentence)).count(sentence)
+    yield 17, count == 0
+    yield 18, count >= 2
+
+
+def draw_lines(grammar, history, length, q, buffer):
+    yield 16, q >= full_list(grammar, length).left(heard_of(history, length))
+    yield 20, len(buffer) < length
+
+
+def append_lines(buffer):
+    k = two_bytes(buffer, 0)
+    yield 19, k == 1000 or len(buffer) < 4 + 20 * (k + 1)
+
+
+# ---- Operations
+
+def check_grammar(grammar):
+    """Check bank: N and W."""
+    refusal = first_that_applies(grammar_lines(grammar))
+    return (refusal, 0, 0) if refusal else (0, grammar[0], grammar[1])
+
+
+def check_history(history):
+    """Check diary: K."""
+    refusal = first_that_applies(history_lines(history))
+    return (refusal, 0) if refusal else (0, two_bytes(history, 0))
+
+
+def count(grammar, length):
+    """Count: T(S, length)."""
+    refusal = first_that_applies(count_lines(grammar, length))
+    return (refusal, 0) if refusal else (0, full_list(grammar, length).total)
+
+
+def written(buffer, sentence):
+    """Operations: "buffer bytes past the sentence keep their content"."""
+    return sentence + buffer[len(sentence):]
+
+
+def unrank(grammar, length, number, buffer):
+    """Give: T and the buffer, which begins with the sentence of that derivation number."""
+    refusal = first_that_applies(count_lines(grammar, length), unrank_lines(grammar, length, number, buffer))
+    if refusal:
+        return refusal, 0, buffer
+    full = full_list(grammar, length)
+    return 0, full.total, written(buffer, full.sentence(number))
+
+
+def rank(grammar, sentence):
+    """Number: the sentence's derivation number and T."""
+    refusal = first_that_applies(count_lines(grammar, len(sentence)), rank_lines(grammar, sentence))
+    if refusal:
+        return refusal, 0, 0
+    full = full_list(grammar, len(sentence))
+    return 0, full.number(sentence), full.total
+
+
+def remaining(grammar, history, length):
+    """Left: T, "heard (distinct heard sentences of that length with one derivation) and left = T - heard"."""
+    refusal = first_that_applies(remaining_lines(grammar, history, length))
+    if refusal:
+        return refusal, 0, 0, 0
+    full, barred = full_list(grammar, length), heard_of(history, length)
+    heard = sum(full.count(sentence) == 1 for sentence in barred)
+    # The draws as one list: "Left .. is the length of the unheard list".
+    assert full.total - heard == full.left(barred)
+    return 0, full.total, heard, full.total - heard
+
+
+def draw(grammar, history, length, q, buffer):
+    """Draw: left, the derivation number and the buffer, which begins with its sentence."""
+    refusal = first_that_applies(remaining_lines(grammar, history, length),
+                                 draw_lines(grammar, history, length, q, buffer))
+    if refusal:
+        return refusal, 0, 0, buffer
+    full, barred = full_list(grammar, length), heard_of(history, length)
+    number, sentence = full.draw(barred, q)
+    return 0, full.left(barred), number, written(buffer, sentence)
+
+
+def append(buffer, sentence):
+    """Log: the new K and the buffer: "writes record K + 1 in full with next = old head, sets head and K
+    to K + 1". "No other byte changes"."""
+    refusal = first_that_applies(length_lines(len(sentence)), history_lines(buffer), append_lines(buffer))
+    if refusal:
+        return refusal, 0, buffer
+    k = two_bytes(buffer, 0) + 1
+    record = buffer[2:4] + bytes([len(sentence), 0]) + sentence + bytes(16 - len(sentence))
+    low_high = bytes([k % 256, k // 256])
+    at = 4 + 20 * (k - 1)
+    return 0, k, low_high + low_high + buffer[4:at] + record + buffer[at + 20:]
+
+
+# ---- House bank and listing program
+
+def split_input(data):
+    """Length, grammar and history: "length byte, two bytes bank size, bank, diary to the end. Fewer bytes
+    than that bank needs, or fewer than three, count as an empty bank"."""
+    data = data[:65536]  # "reads up to 65,536 bytes of standard input and ignores any after them"
+    if len(data) < 3 or len(data) < 3 + two_bytes(data, 1):
+        return 0, b'', b''
+    end = 3 + two_bytes(data, 1)
+    return data[0], data[3:end], data[end:]
+
+
+def listing(data):
+    """What it prints: "length, T, heard, left; then a line for each draw from 0 to left - 1, none past
+    draw 999: q, derivation number, words"."""
+    length, grammar, history = split_input(data)
+    refusal, total, heard, left = remaining(grammar, history, length)
+    if refusal:
+        return b'refused %d\n' % refusal
+    full, barred = full_list(grammar, length), heard_of(history, length)
+    lines = [[length, total, heard, left]]
+    for q in range(min(left, 1000)):
+        number, sentence = full.draw(barred, q)
+        lines.append([q, number, *sentence])
+    return b''.join(b'%s\n' % ' '.join(map(str, line)).encode() for line in lines)
+
+
+# ---- Command line
+
+COMMANDS = {  # each call, how many files it takes, and how many numbers (None: the words of a sentence)
+    'check_grammar': (check_grammar, 1, 0),
+    'check_history': (check_history, 1, 0),
+    'count': (count, 1, 1),
+    'unrank': (unrank, 1, 2),
+    'rank': (rank, 1, None),
+    'remaining': (remaining, 2, 1),
+    'draw': (draw, 2, 2),
+    'append': (append, 1, None),
+    'listing': (listing, 1, 0),
+}
+
+
+def file_bytes(name):
+    if name == '-':
+        return sys.stdin.buffer.read()
+    with open(name, 'rb') as file:
+        return file.read()
+
+
+def shown(refusal, *figures):
+    """The figures on one line; a buffer follows on a line of its own."""
+    if refusal:
+        return f'refused {refusal}'
+    numbers = [str(figure) for figure in figures if isinstance(figure, int)]
+    buffers = [' '.join(map(str, figure)) for figure in figures if isinstance(figure, bytes)]
+    return '\n'.join([' '.join(numbers), *buffers])
+
+
+def main(name='', *args):
+    call, files, expected = COMMANDS.get(name, (None, 0, 0))
+    numbers = [int(arg) for arg in args[files:]]
+    if call is None or len(args) < files or expected not in (None, len(numbers)):
+        sys.exit(__doc__)
+    values = [bytes(numbers)] if expected is None else numbers
+    if call in (unrank, draw):
+        values.append(bytes(16))
+    result = call(*map(file_bytes, args[:files]), *values)
+    print(result.decode(), end='') if call is listing else print(shown(*result))
+
+
+if __name__ == '__main__':
+    main(*sys.argv[1:])

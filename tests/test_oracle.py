@@ -1,0 +1,370 @@
+"""Tests of the brute-force program: document 01's examples, and small random grammars on which its
+enumeration, its counts and an order of trees written apart from it must agree."""
+import unittest
+
+import generate
+import oracle
+from generate import Rng, history, pair, random_grammar, word
+from oracle import F, G
+
+HEARD_01 = history([bytes([0, 1])])  # P7: diary of 0 1
+EMPTY = history([])
+PAST = 2**64 - 1
+
+
+def listing_input(length, grammar, diary):
+    return bytes([length]) + generate.low_high(len(grammar)) + grammar + diary
+
+
+class Examples(unittest.TestCase):
+    """Document 01, Examples and Wrong turns already taken."""
+
+    def test_p1_p2_p3_counts_of_f(self):
+        self.assertEqual(oracle.count(F, 1), (0, 0))
+        self.assertEqual(oracle.count(F, 2), (0, 4))
+        self.assertEqual(oracle.count(F, 16), (0, 65536))
+
+    def test_p4_p5_unrank(self):
+        self.assertEqual(oracle.unrank(F, 3, 5, b'\7\7\7\7'), (0, 8, bytes([1, 0, 1, 7])))
+        self.assertEqual(oracle.unrank(F, 3, 8, b'\7\7\7\7'), (16, 0, b'\7\7\7\7'))
+
+    def test_p6_rank(self):
+        self.assertEqual(oracle.rank(F, bytes([1, 0, 1])), (0, 5, 8))
+
+    def test_p7_listing(self):
+        self.assertEqual(HEARD_01, bytes([1, 0, 1, 0, 0, 0, 2, 0, 0, 1] + [0] * 14))
+        self.assertEqual(oracle.listing(listing_input(2, F, HEARD_01)), b'2 4 1 3\n0 0 0 0\n1 2 1 0\n2 3 1 1\n')
+
+    def test_p8_draw_past_the_end(self):
+        self.assertEqual(oracle.draw(F, HEARD_01, 2, 3, b'\7\7'), (16, 0, 0, b'\7\7'))
+
+    def test_p9_p10_ambiguous_grammar(self):
+        self.assertEqual(oracle.count(G, 3), (0, 2))
+        self.assertEqual(oracle.count(G, 4), (0, 5))
+        self.assertEqual(oracle.rank(G, bytes(3)), (18, 0, 0))
+
+    def test_f_with_15_and_16_words(self):
+        self.assertEqual(oracle.f_words(2), F)
+        self.assertEqual(oracle.count(oracle.f_words(16), 15), (0, 1152921504606846976))
+        self.assertEqual(oracle.count(oracle.f_words(16), 16), (10, 0))
+        self.assertEqual(oracle.count(oracle.f_words(15), 16), (0, 6568408355712890625))
+
+    def test_long_sentences_by_counts(self):
+        grammar, last = oracle.f_words(15), 15**16 - 1
+        self.assertEqual(oracle.unrank(grammar, 16, last, bytes(16)), (0, last + 1, bytes([14] * 16)))
+        self.assertEqual(oracle.rank(grammar, bytes(15) + b'\1'), (0, 1, last + 1))
+        heard = history([bytes(16), bytes([14] * 16)])
+        self.assertEqual(oracle.draw(grammar, heard, 16, last - 2, bytes(16)), (0, last - 1, last - 1, bytes([14] * 15 + [13])))
+
+    def test_matrix(self):
+        matrix = oracle.matrix()
+        self.assertEqual(len(matrix), 229)
+        self.assertEqual(oracle.check_grammar(matrix), (0, 9, 50))
+        self.assertEqual([oracle.count(matrix, m)[1] for m in range(1, 17)], [0] * 4 + [100000] + [0] * 11)
+        self.assertEqual(oracle.unrank(matrix, 5, 31415, bytes(5)), (0, 100000, bytes([3, 11, 24, 31, 45])))
+        self.assertEqual(oracle.rank(matrix, bytes([3, 11, 24, 31, 45])), (0, 31415, 100000))
+
+    def test_head_without_record_and_record_without_head(self):
+        self.assertEqual(oracle.check_history(bytes([0, 0, 1, 0])), (13, 0))
+        self.assertEqual(oracle.check_history(bytes([1, 0, 0, 0]) + HEARD_01[4:]), (14, 0))
+
+    def test_wrong_turn_heard_numbers_added_once(self):
+        heard = history([bytes([1, 0]), bytes([0, 1])])
+        self.assertEqual(oracle.draw(F, heard, 2, 1, bytes(2)), (0, 2, 3, bytes([1, 1])))
+
+    def test_wrong_turn_repeat_subtracted_twice(self):
+        heard = history([bytes([0, 1])] * 2)
+        self.assertEqual(oracle.remaining(F, heard, 2), (0, 4, 1, 3))
+
+    def test_wrong_turn_rules_by_index(self):
+        backward = generate.grammar(2, 0, [[pair(1, 1)], [word(0), word(1)]], [1, 3, 2])
+        self.assertEqual(oracle.unrank(backward, 2, 1, bytes(2)), (0, 4, bytes([0, 1])))
+
+    def test_wrong_turn_right_count_of_zero(self):
+        # nonterminal 2 derives nothing: its split is passed over
+        grammar = generate.grammar(2, 0, [[pair(1, 2), pair(1, 1)], [word(0), word(1)], []])
+        self.assertEqual(oracle.unrank(grammar, 2, 2, bytes(2)), (0, 4, bytes([1, 0])))
+
+    def test_wrong_turn_large_factor_times_zero(self):
+        # 15^16 derivations of 1 stand beside none of 3: T(0, m) is 0
+        chains = [[pair(1, 3), pair(3, 1)], [pair(2, 2), pair(1, 2)], [word(i) for i in range(15)], []]
+        grammar = generate.grammar(15, 0, chains)
+        self.assertEqual(oracle.count(grammar, 16), (0, 0))
+        self.assertEqual(oracle.rank(grammar, bytes(16)), (17, 0, 0))
+
+
+class Refusals(unittest.TestCase):
+    """Document 01, Why a call says no: the order of the lines in each call, and their edges."""
+
+    def test_grammar_comes_first_in_every_call_that_takes_one(self):
+        for bad, refusal in [(b'', 1), (F[:-1], 3), (generate.damaged(F, [(21, 1)]), 6)]:
+            self.assertEqual(oracle.check_grammar(bad), (refusal, 0, 0))
+            self.assertEqual(oracle.count(bad, 0), (refusal, 0))
+            self.assertEqual(oracle.unrank(bad, 17, 0, b''), (refusal, 0, b''))
+            self.assertEqual(oracle.rank(bad, b''), (refusal, 0, 0))
+            self.assertEqual(oracle.remaining(bad, b'', 0), (refusal, 0, 0, 0))
+            self.assertEqual(oracle.draw(bad, b'', 0, 0, b'\7'), (refusal, 0, 0, b'\7'))
+
+    def test_length(self):
+        for length in (0, 17, 255, 256, PAST):
+            self.assertEqual(oracle.count(F, length), (9, 0))
+            self.assertEqual(oracle.unrank(F, length, PAST, b''), (9, 0, b''))
+            self.assertEqual(oracle.remaining(F, b'', length), (9, 0, 0, 0))
+            self.assertEqual(oracle.draw(F, b'', length, PAST, b''), (9, 0, 0, b''))
+        self.assertEqual(oracle.rank(F, b''), (9, 0, 0))
+        self.assertEqual(oracle.rank(F, bytes(17)), (9, 0, 0))
+
+    def test_totals_up_to_64_bits(self):
+        full = generate.brimful()
+        self.assertEqual(oracle.count(full, 16), (0, PAST))
+        self.assertEqual(oracle.unrank(full, 16, PAST, bytes(16)), (16, 0, bytes(16)))
+        refusal, total, last = oracle.unrank(full, 16, PAST - 1, bytes(16))
+        self.assertEqual((refusal, total, oracle.rank(full, last)), (0, PAST, (0, PAST - 1, PAST)))
+        self.assertEqual(oracle.count(generate.brimful(1), 16), (10, 0))
+        self.assertEqual(oracle.count(generate.brimful(1), 15), (0, 0))
+
+    def test_totals_of_every_nonterminal_and_shorter_length_count(self):
+        useless = generate.grammar(16, 2, [[pair(1, 1), pair(0, 1)], [word(i) for i in range(16)], []])
+        self.assertEqual(oracle.count(useless, 15), (0, 0))
+        self.assertEqual(oracle.count(useless, 16), (10, 0))
+        self.assertEqual(oracle.remaining(useless, b'', 16), (10, 0, 0, 0))
+        # 2 * 240^8 derivations of 1 with length 8, none with another
+        words = [word(i) for i in range(240)]
+        shorter = generate.grammar(240, 0, [[], [pair(2, 2), pair(3, 2)], [pair(4, 4)], [pair(4, 4)], [pair(5, 5)], words])
+        self.assertEqual([oracle.count(shorter, m)[0] for m in (7, 8, 9, 16)], [0, 10, 10, 10])
+
+    def test_history_before_the_draw_number(self):
+        self.assertEqual(oracle.draw(F, b'', 2, PAST, b''), (11, 0, 0, b''))
+        self.assertEqual(oracle.remaining(F, bytes([0, 0, 1, 0]), 2), (13, 0, 0, 0))
+
+    def test_ambiguous_record(self):
+        heard = history([bytes(3)])
+        self.assertEqual(oracle.remaining(G, heard, 3), (15, 0, 0, 0))
+        self.assertEqual(oracle.draw(G, heard, 3, PAST, b''), (15, 0, 0, b''))
+        self.assertEqual(oracle.remaining(G, heard, 4), (0, 5, 0, 5))
+
+    def test_number_before_buffer(self):
+        self.assertEqual(oracle.unrank(F, 2, 4, b''), (16, 0, b''))
+        self.assertEqual(oracle.unrank(F, 2, 3, b'\7'), (20, 0, b'\7'))
+        self.assertEqual(oracle.draw(F, HEARD_01, 2, 3, b''), (16, 0, 0, b''))
+        self.assertEqual(oracle.draw(F, HEARD_01, 2, 2, b'\7'), (20, 0, 0, b'\7'))
+
+    def test_words_outside_the_grammar(self):
+        self.assertEqual(oracle.rank(F, bytes([0, 2])), (17, 0, 0))
+        self.assertEqual(oracle.rank(F, bytes([255, 0])), (17, 0, 0))
+        self.assertEqual(oracle.remaining(F, history([bytes([255, 0]), bytes([0, 2])]), 2), (0, 4, 0, 4))
+
+
+class Histories(unittest.TestCase):
+    """Document 01, Diary bytes, and Log in Operations."""
+
+    def test_size(self):
+        self.assertEqual(oracle.check_history(EMPTY), (0, 0))
+        for bad in (b'', b'\0', b'\0\0', b'\0\0\0', HEARD_01[:-1], bytes([233, 3, 0, 0]) + bytes(20 * 1001)):
+            self.assertEqual(oracle.check_history(bad), (11, 0))
+
+    def test_a_thousand_records(self):
+        numbers = Rng(1).shuffled(range(1, 1001))
+        full = history([bytes([1])] * 1000, numbers)
+        self.assertEqual(oracle.check_history(full), (0, 1000))
+        self.assertEqual(oracle.append(full + bytes(40), b'\1'), (19, 0, full + bytes(40)))
+
+    def test_record_layout(self):
+        for at, value in [(6, 0), (6, 17), (6, 1), (7, 1), (10, 1), (23, 255)]:
+            self.assertEqual(oracle.check_history(generate.damaged(HEARD_01, [(at, value)])), (12, 0))
+
+    def test_records_before_links_before_the_chain(self):
+        two = history([b'\1', b'\2'])
+        self.assertEqual(oracle.check_history(generate.damaged(two, [(2, 3), (27, 1)])), (12, 0))
+        self.assertEqual(oracle.check_history(generate.damaged(two, [(4, 1), (24, 3)])), (13, 0))
+        self.assertEqual(oracle.check_history(generate.damaged(two, [(24, 1)])), (14, 0))
+        self.assertEqual(oracle.check_history(generate.damaged(two, [(2, 2)])), (14, 0))
+
+    def test_slack_is_not_read(self):
+        self.assertEqual(oracle.check_history(HEARD_01 + b'\377' * 33), (0, 1))
+
+    def test_append(self):
+        room = b'\11' * 20
+        after = bytes([2, 0, 2, 0]) + HEARD_01[4:] + bytes([1, 0, 2, 0, 3, 255]) + bytes(14) + b'\11'
+        self.assertEqual(oracle.append(HEARD_01 + room + b'\11', bytes([3, 255])), (0, 2, after))
+        self.assertEqual(oracle.sentences_of(after), [bytes([3, 255]), bytes([0, 1])])
+
+    def test_append_room(self):
+        self.assertEqual(oracle.append(EMPTY + bytes(19), b'\1'), (19, 0, EMPTY + bytes(19)))
+        self.assertEqual(oracle.append(EMPTY + bytes(20), b'\1')[:2], (0, 1))
+
+    def test_append_refuses_the_length_first(self):
+        self.assertEqual(oracle.append(b'', b''), (9, 0, b''))
+        self.assertEqual(oracle.append(b'', bytes(17)), (9, 0, b''))
+        self.assertEqual(oracle.append(b'', b'\1'), (11, 0, b''))
+
+    def test_appends_grow_the_history(self):
+        buffer, said, rng = EMPTY + b'\125' * 205, [], Rng(2)
+        for k in range(1, 11):
+            sentence = bytes(rng.below(256) for _ in range(1 + rng.below(16)))
+            refusal, figure, buffer = oracle.append(buffer, sentence)
+            said.insert(0, sentence)
+            self.assertEqual((refusal, figure, oracle.sentences_of(buffer)), (0, k, said))
+        self.assertEqual(oracle.append(buffer, b'\1'), (19, 0, buffer))
+
+
+class Listings(unittest.TestCase):
+    """Document 01, House bank and listing program."""
+
+    def test_short_inputs_count_as_an_empty_grammar(self):
+        whole = listing_input(2, F, EMPTY)
+        for size in range(3 + len(F)):
+            self.assertEqual(oracle.listing(whole[:size]), b'refused 1\n')
+        self.assertEqual(oracle.listing(whole[:3 + len(F)]), b'refused 11\n')
+        self.assertEqual(oracle.listing(listing_input(2, F, EMPTY))[:8], b'2 4 0 4\n')
+
+    def test_refusals(self):
+        self.assertEqual(oracle.listing(listing_input(0, F, EMPTY)), b'refused 9\n')
+        self.assertEqual(oracle.listing(listing_input(3, G, history([bytes(3)]))), b'refused 15\n')
+
+    def test_no_line_past_draw_999(self):
+        lines = oracle.listing(listing_input(10, F, EMPTY)).splitlines()
+        self.assertEqual((lines[0], len(lines)), (b'10 1024 0 1024', 1001))
+        self.assertEqual(lines[-1], b'999 999 1 1 1 1 1 0 0 1 1 1')
+
+    def test_at_most_65536_bytes_are_read(self):
+        heard = history([bytes([1, 1])], slack=bytes(65536))
+        self.assertEqual(oracle.listing(listing_input(2, F, heard))[:8], b'2 4 1 3\n')
+        self.assertEqual(oracle.listing(b'\2\376\377' + bytes(70000)), b'refused 1\n')
+
+    def test_draws_are_the_lines(self):
+        heard = history([bytes([1, 0, 1]), bytes([0, 0, 0]), bytes([9, 9, 9])])
+        lines = oracle.listing(listing_input(3, F, heard)).decode().splitlines()
+        for q, line in enumerate(lines[1:]):
+            refusal, _, number, sentence = oracle.draw(F, heard, 3, q, bytes(3))
+            self.assertEqual((refusal, line), (0, ' '.join(map(str, [q, number, *sentence]))))
+        self.assertEqual(len(lines), 7)
+
+
+def chain_numbers(grammar, nonterminal):
+    """The rule numbers along a nonterminal's chain, read off the bytes."""
+    numbers, at = [], grammar[4 + nonterminal]
+    while at:
+        numbers.append(at)
+        at = grammar[4 + grammar[0] + 4 * at - 1]
+    return numbers
+
+
+def parts(grammar, number):
+    """A rule's kind, a and b, read off the bytes."""
+    at = 4 + grammar[0] + 4 * (number - 1)
+    return tuple(grammar[at:at + 3])
+
+
+def is_derivation(grammar, nonterminal, length, tree):
+    """Derivations and their order: what a derivation is."""
+    if tree.rule not in chain_numbers(grammar, nonterminal):
+        return False
+    kind, a, b = parts(grammar, tree.rule)
+    if length == 1:
+        return kind == 0 and len(tree) == 2 and tree.word == a
+    return (kind == 1 and 1 <= tree.k <= length - 1 and is_derivation(grammar, a, tree.k, tree.left)
+            and is_derivation(grammar, b, length - tree.k, tree.right))
+
+
+def stands_before(grammar, nonterminal, x, y):
+    """Derivations and their order: the four cases of the order."""
+    numbers = chain_numbers(grammar, nonterminal)
+    if x.rule != y.rule:
+        return numbers.index(x.rule) < numbers.index(y.rule)
+    if len(x) == 2:
+        return False
+    _, a, b = parts(grammar, x.rule)
+    if x.k != y.k:
+        return x.k < y.k
+    if x.left != y.left:
+        return stands_before(grammar, a, x.left, y.left)
+    return stands_before(grammar, b, x.right, y.right)
+
+
+class SmallGrammars(unittest.TestCase):
+    """Some hundred random grammars, each nonterminal and each length that has few derivations."""
+
+    @classmethod
+    def setUpClass(cls):
+        rng = Rng(3)
+        cls.grammars = [random_grammar(rng, 4, 4, 9) for _ in range(300)] + [F, G]
+
+    def lists(self, most):
+        """Each grammar with each length up to 6 at which no nonterminal has more derivations than most."""
+        for grammar in self.grammars:
+            for length in range(1, 7):
+                if max(oracle.read(grammar).totals(length)) <= most:
+                    yield grammar, length
+
+    def test_random_grammars_are_accepted_and_varied(self):
+        self.assertEqual({oracle.check_grammar(grammar)[0] for grammar in self.grammars}, {0})
+        cases = list(self.lists(500))
+        self.assertGreater(len(cases), 1000)
+        self.assertGreater(sum(oracle.count(*case)[1] > 10 for case in cases), 50)
+
+    def test_the_recursion_counts_the_list(self):
+        for grammar, length in self.lists(5000):
+            read = oracle.read(grammar)
+            for nonterminal in range(grammar[0]):
+                self.assertEqual(read.total(nonterminal, length), len(read.derivations(nonterminal, length)))
+
+    def test_the_list_holds_derivations_strictly_rising(self):
+        for grammar, length in self.lists(200):
+            for nonterminal in range(grammar[0]):
+                trees = oracle.read(grammar).derivations(nonterminal, length)
+                self.assertTrue(all(is_derivation(grammar, nonterminal, length, tree) for tree in trees))
+                self.assertTrue(all(stands_before(grammar, nonterminal, x, y) for x, y in zip(trees, trees[1:])))
+
+    def test_the_order_is_total_on_all_pairs(self):
+        for grammar, length in self.lists(12):
+            trees = oracle.read(grammar).derivations(grammar[3], length)
+            for i, x in enumerate(trees):
+                for j, y in enumerate(trees):
+                    self.assertEqual(stands_before(grammar, grammar[3], x, y), i < j)
+
+    def test_unrank_and_rank(self):
+        for grammar, length in self.lists(300):
+            trees = oracle.read(grammar).derivations(grammar[3], length)
+            sentences = [oracle.sentence_of(tree) for tree in trees]
+            for d, sentence in enumerate(sentences):
+                self.assertEqual(oracle.unrank(grammar, length, d, bytes(length)), (0, len(trees), sentence))
+                expected = (0, d, len(trees)) if sentences.count(sentence) == 1 else (18, 0, 0)
+                self.assertEqual(oracle.rank(grammar, sentence), expected)
+
+    def test_counts_give_what_the_list_gives(self):
+        rng = Rng(4)
+        for grammar, length in self.lists(300):
+            listed, counted = oracle.Listed(oracle.read(grammar), length), oracle.Counted(oracle.read(grammar), length)
+            self.assertEqual(listed.total, counted.total)
+            for d, sentence in enumerate(listed.entries):
+                self.assertEqual(counted.sentence(d), sentence)
+                self.assertEqual(counted.count(sentence), listed.count(sentence))
+                if listed.count(sentence) == 1:
+                    self.assertEqual(counted.number(sentence), d)
+            foreign = bytes(rng.below(grammar[1] + 1) for _ in range(length))
+            self.assertEqual(counted.count(foreign), listed.count(foreign))
+            once = [sentence for sentence in listed.places if listed.count(sentence) == 1]
+            heard = frozenset(rng.shuffled(once)[:rng.below(len(once) + 1)] + [b'\377' * length])
+            self.assertEqual(counted.left(heard), listed.left(heard))
+            for q in range(listed.left(heard)):
+                self.assertEqual(counted.draw(heard, q), listed.draw(heard, q))
+
+    def test_the_draws_are_the_unheard_list(self):
+        rng = Rng(5)
+        for grammar, length in self.lists(60):
+            sentences = [oracle.sentence_of(tree) for tree in oracle.read(grammar).derivations(grammar[3], length)]
+            once = [sentence for sentence in sentences if sentences.count(sentence) == 1]
+            records = [rng.choice(once) for _ in range(rng.below(6)) if once] + [b'\377' * length, b'\0' * (length % 16 + 1)]
+            diary = history(records, rng.shuffled(range(1, len(records) + 1)))
+            unheard = [(d, sentence) for d, sentence in enumerate(sentences) if sentence not in records]
+            left = len(unheard)
+            self.assertEqual(oracle.remaining(grammar, diary, length), (0, len(sentences), len(sentences) - left, left))
+            draws = [oracle.draw(grammar, diary, length, q, b'\7' * 17) for q in range(left)]
+            self.assertEqual(draws, [(0, left, d, sentence + b'\7' * (17 - length)) for d, sentence in unheard])
+            for q in (left, left + 1, PAST):
+                self.assertEqual(oracle.draw(grammar, diary, length, q, b'\7' * 17), (16, 0, 0, b'\7' * 17))
+
+
+if __name__ == '__main__':
+    unittest.main()

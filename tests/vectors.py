@@ -1,0 +1,385 @@
+#!/usr/bin/env python3
+"""Stored vectors for the test programs that rt runs, from the brute-force program and fixed seeds.
+
+  vectors.py KIND OUTDIR           write OUTDIR/stdin and OUTDIR/stdout
+  vectors.py KIND OUTDIR --check   write nothing; exit 1 and name the file where what stands there differs
+  vectors.py KIND --names          each line of stdout with its case's name
+  vectors.py --list                the kinds
+
+The vectors of a kind belong to the crate KIND_vectors. Its standard input is a sequence of cases, and it
+prints a line for each.
+
+Kind grammar (document 01: Check bank): a case is two bytes size, low byte first, and that many bytes. The
+line is "0 N W" where they are accepted and "refused K" where not.
+
+Kind matrix (document 01: house matrix bank): no input, and one line, the table's bytes parted by a space.
+"""
+import argparse
+import pathlib
+import sys
+from typing import NamedTuple
+
+import oracle
+from generate import Rng, damaged, grammar, low_high, pair, random_damage, random_grammar, word
+from oracle import F, G
+
+
+class Case(NamedTuple):
+    name: str
+    stdin: bytes
+    line: str
+
+
+# ---- Kind grammar
+
+def plain(n, w, start, heads, rules):
+    """The bytes of a grammar as written: heads and (kind, a, b, next) may be anything."""
+    return bytes([n, w, len(rules), start, *heads]) + b''.join(map(bytes, rules))
+
+
+# Two nonterminals, three words; chain 0 has rules 1, 2 and 3, chain 1 rules 4 and 5.
+SMALL = plain(2, 3, 0, [1, 4], [(1, 1, 1, 2), (1, 0, 1, 3), (0, 2, 0, 0), (0, 0, 0, 5), (0, 1, 0, 0)])
+HEAD = [4, 5]  # where SMALL keeps the head of nonterminals 0 and 1
+RULE = [None, 6, 10, 14, 18, 22]  # where it keeps rules 1 to 5
+KIND, A, B, NEXT = 0, 1, 2, 3
+
+
+def small(*places):
+    return damaged(SMALL, places)
+
+
+def words(count):
+    """A chain of that many word rules, 0 upward."""
+    return [word(i) for i in range(count)]
+
+
+def rows(count):
+    """That many word rules with their links, chained by rising number."""
+    return [(0, number - 1, 0, (number + 1) % (count + 1)) for number in range(1, count + 1)]
+
+
+# 32 nonterminals, 255 words and 255 rules: 32 pair rules of nonterminal 0, 223 word rules of 1 to 31.
+FULL = grammar(255, 31, [[pair(a, 31 - a) for a in range(32)]] + [[word(254 - i) for i in range(a, 223, 31)] for a in range(31)])
+
+# Each: name, the refusal that document 01 gives (0: accepted), the bytes.
+TRAPS = [
+    # Examples and the house bank
+    ('F', 0, F),
+    ('G', 0, G),
+    ('matrix', 0, oracle.matrix()),
+    ('F with 15 words', 0, oracle.f_words(15)),
+    ('F with 16 words', 0, oracle.f_words(16)),
+    ('small', 0, SMALL),
+
+    # 1: fewer than 4 bytes
+    ('no byte', 1, b''),
+    ('one byte', 1, F[:1]),
+    ('two bytes', 1, F[:2]),
+    ('three bytes', 1, F[:3]),
+    ('three bytes, each out of range', 1, bytes(3)),
+
+    # 2: the ranges, each before the size is looked at
+    ('four bytes, all 0', 2, bytes(4)),
+    ('N is 0', 2, plain(0, 1, 0, [], [(0, 0, 0, 0)])),
+    ('N is 0 and S is 255', 2, plain(0, 1, 255, [], [(0, 0, 0, 0)])),
+    ('N is 33', 2, plain(33, 1, 0, [1] + [0] * 32, [(0, 0, 0, 0)])),
+    ('N is 255', 2, plain(255, 1, 0, [1] + [0] * 254, [(0, 0, 0, 0)])),
+    ('N is 32', 0, plain(32, 1, 0, [1] + [0] * 31, [(0, 0, 0, 0)])),
+    ('W is 0', 2, plain(1, 0, 0, [1], [(1, 0, 0, 0)])),
+    ('W is 0, size wrong', 2, plain(1, 0, 0, [1], [(1, 0, 0, 0)])[:-1]),
+    ('W is 255', 0, plain(1, 255, 0, [1], [(0, 0, 0, 0)])),
+    ('R is 0', 2, plain(1, 1, 0, [0], [])),
+    ('R is 0, head 1', 2, plain(1, 1, 0, [1], [])),
+    ('S is N', 2, small((3, 2))),
+    ('S is N - 1', 0, small((3, 1))),
+    ('S is 255', 2, small((3, 255))),
+    ('S is N, size wrong', 2, small((3, 2)) + b'\0'),
+    ('S is N, N is 1', 2, plain(1, 1, 1, [1], [(0, 0, 0, 0)])),
+    ('range before kind', 2, small((3, 2), (RULE[1] + KIND, 2))),
+
+    # 3: the size
+    ('only four bytes', 3, F[:4]),
+    ('no rule bytes', 3, F[:6]),
+    ('one byte short', 3, SMALL[:-1]),
+    ('one byte long', 3, SMALL + b'\0'),
+    ('one rule short', 3, SMALL[:-4]),
+    ('one rule long', 3, SMALL + bytes([0, 0, 0, 0])),
+    ('256 bytes long', 3, SMALL + bytes(256)),
+    ('256 bytes short', 3, small((2, 5 + 64))),
+    ('size of N + 1', 3, small((0, 3))),
+    ('size of N - 1', 3, small((0, 1))),
+    ('size of R + 1', 3, small((2, 6))),
+    ('size of R - 1', 3, small((2, 4))),
+    ('size before kind', 3, small((RULE[5] + KIND, 2)) + b'\0'),
+    ('size before link', 3, small((HEAD[0], 6))[:-1]),
+    ('matrix, one byte short', 3, oracle.matrix()[:-1]),
+    ('matrix, one byte long', 3, oracle.matrix() + b'\0'),
+
+    # 4: kind, a and b
+    ('kind 2', 4, small((RULE[1] + KIND, 2))),
+    ('kind 255', 4, small((RULE[3] + KIND, 255))),
+    ('kind 128', 4, small((RULE[5] + KIND, 128))),
+    ('kind 2 with a and b of 0', 4, small((RULE[4] + KIND, 2))),
+    ('word rule, b is 1', 4, small((RULE[3] + B, 1))),
+    ('word rule, b is 255', 4, small((RULE[5] + B, 255))),
+    ('word rule, a is W', 4, small((RULE[3] + A, 3))),
+    ('word rule, a is W - 1', 0, small((RULE[4] + A, 2))),
+    ('word rule, a is 255', 4, small((RULE[3] + A, 255))),
+    ('word rule, a is 255 and W is 255', 4, small((1, 255), (RULE[3] + A, 255))),
+    ('word rule, a is 254 and W is 255', 0, small((1, 255), (RULE[3] + A, 254))),
+    ('word rule, a is N, below W', 0, small((RULE[5] + A, 2))),
+    ('pair rule, a is N', 4, small((RULE[1] + A, 2))),
+    ('pair rule, b is N', 4, small((RULE[1] + B, 2))),
+    ('pair rule, a is N - 1', 0, small((RULE[2] + A, 1), (RULE[1] + B, 0))),
+    ('pair rule, a is 255', 4, small((RULE[2] + A, 255))),
+    ('pair rule, b is 255', 4, small((RULE[2] + B, 255))),
+    ('pair rule, a is W, N above', 0, plain(3, 1, 0, [1, 0, 0], [(1, 1, 2, 0)])),
+    ('pair rule, a is 31 of 32', 0, plain(32, 1, 0, [1] + [0] * 31, [(1, 31, 31, 0)])),
+    ('pair rule, a is 32 of 32', 4, plain(32, 1, 0, [1] + [0] * 31, [(1, 32, 31, 0)])),
+    ('pair rule, b is 32 of 32', 4, plain(32, 1, 0, [1] + [0] * 31, [(1, 31, 32, 0)])),
+    ('layout of a rule on no chain', 4, small((RULE[4] + NEXT, 0), (RULE[5] + KIND, 3))),
+
+    # 4 looks at all rules before 5 looks at any link
+    ('kind of the last rule before head 0', 4, small((RULE[5] + KIND, 2), (HEAD[0], 6))),
+    ('kind of the last rule before next of the first', 4, small((RULE[5] + KIND, 2), (RULE[1] + NEXT, 6))),
+    ('b of the last rule before all links', 4, small((RULE[5] + B, 1), (HEAD[0], 255), (HEAD[1], 255), (RULE[1] + NEXT, 255))),
+    ('kind of the last rule before a loop', 4, small((RULE[5] + KIND, 2), (RULE[1] + NEXT, 1))),
+
+    # 5: links
+    ('head is R + 1', 5, small((HEAD[0], 6))),
+    ('last head is R + 1', 5, small((HEAD[1], 6))),
+    ('head is 255', 5, small((HEAD[0], 255))),
+    ('head is R', 0, plain(2, 1, 0, [2, 1], [(0, 0, 0, 0), (0, 0, 0, 0)])),
+    ('next is R + 1', 5, small((RULE[1] + NEXT, 6))),
+    ('last next is R + 1', 5, small((RULE[5] + NEXT, 6))),
+    ('next is 255', 5, small((RULE[3] + NEXT, 255))),
+    ('next is R', 0, plain(1, 2, 0, [1], [(0, 0, 0, 2), (0, 1, 0, 0)])),
+    ('next above R of a rule on no chain', 5, small((RULE[4] + NEXT, 0), (RULE[5] + NEXT, 6))),
+    ('head is 1, R is 1, next is 2', 5, plain(1, 1, 0, [1], [(0, 0, 0, 2)])),
+
+    # 5 before 6
+    ('next of the last rule before a loop of chain 0', 5, small((RULE[1] + NEXT, 1), (RULE[5] + NEXT, 6))),
+    ('last head before a loop of chain 0', 5, small((RULE[1] + NEXT, 1), (HEAD[1], 6))),
+    ('link of a looping chain', 5, small((RULE[3] + NEXT, 1), (RULE[5] + NEXT, 255))),
+
+    # 6: a rule met a second time
+    ('rule linked to itself', 6, small((RULE[1] + NEXT, 1))),
+    ('last rule linked to itself', 6, small((RULE[5] + NEXT, 5))),
+    ('chain loops to its head', 6, small((RULE[3] + NEXT, 1))),
+    ('chain loops past its head', 6, small((RULE[3] + NEXT, 2))),
+    ('one rule, linked to itself', 6, plain(1, 1, 0, [1], [(0, 0, 0, 1)])),
+    ('chain 0 runs into the head of chain 1', 6, small((RULE[3] + NEXT, 4))),
+    ('chain 0 runs into the middle of chain 1', 6, small((RULE[3] + NEXT, 5))),
+    ('chain 1 runs back into the head of chain 0', 6, small((RULE[5] + NEXT, 1))),
+    ('chain 1 runs back into the middle of chain 0', 6, small((RULE[5] + NEXT, 2))),
+    ('chain 1 runs back into the end of chain 0', 6, small((RULE[5] + NEXT, 3))),
+    ('both heads the same', 6, small((HEAD[1], 1))),
+    ('head 1 in the middle of chain 0', 6, small((HEAD[1], 2))),
+    ('head 0 in the middle of chain 1', 6, small((HEAD[0], 5))),
+    ('a rule shared by the first and the last chain', 6, plain(3, 1, 0, [1, 2, 1], [(0, 0, 0, 0), (0, 0, 0, 0)])),
+    ('a loop in the chain of S, which is nonterminal 1', 6, small((3, 1), (RULE[5] + NEXT, 4))),
+
+    # 6 before 7 and 8
+    ('a loop leaves out a rule', 6, small((RULE[2] + NEXT, 1))),
+    ('a loop in chain 1, a rule of chain 0 left out', 6, small((RULE[1] + NEXT, 3), (RULE[5] + NEXT, 4))),
+    ('equal rules in chain 0, a loop in chain 1', 6, small((RULE[2] + A, 1), (RULE[5] + NEXT, 4))),
+
+    # 7: a rule on no chain
+    ('head 0 is empty', 7, small((HEAD[0], 0))),
+    ('head 1 is empty', 7, small((HEAD[1], 0))),
+    ('all heads empty', 7, small((HEAD[0], 0), (HEAD[1], 0))),
+    ('first rule passed over', 7, small((HEAD[0], 2))),
+    ('middle rule passed over', 7, small((RULE[1] + NEXT, 3))),
+    ('last rule passed over', 7, small((RULE[4] + NEXT, 0))),
+    ('a loop that no head reaches', 7, small((HEAD[0], 0), (RULE[3] + NEXT, 1))),
+    ('a rule on no chain linked to itself', 7, small((RULE[4] + NEXT, 0), (RULE[5] + NEXT, 5))),
+    ('a rule on no chain linked into a chain', 7, small((HEAD[0], 2), (RULE[1] + NEXT, 4))),
+
+    # 7 before 8
+    ('equal rules in chain 0, the last rule left out', 7, small((RULE[2] + A, 1), (RULE[4] + NEXT, 0))),
+    ('equal rules, both left out', 7, small((HEAD[1], 0), (RULE[5] + A, 0))),
+
+    # 8: equal rules on one chain
+    ('equal pair rules side by side', 8, small((RULE[2] + A, 1))),
+    ('equal word rules side by side', 8, small((RULE[5] + A, 0))),
+    ('equal rules not adjacent', 8, grammar(3, 0, [[word(0), word(1), word(2), word(0)]])),
+    ('equal rules not adjacent, numbers mixed', 8, grammar(3, 0, [[word(2), pair(0, 0), word(1), word(2)], [word(1)]], [5, 1, 3, 2, 4])),
+    ('equal pair rules, last chain', 8, grammar(1, 0, [[word(0)], [], [pair(0, 1), pair(1, 0), pair(0, 1)]])),
+    ('three equal rules', 8, grammar(1, 0, [[word(0)] * 3])),
+    ('equal rules on a useless nonterminal', 8, grammar(1, 0, [[word(0)], [word(0), word(0)]])),
+    ('two chains with equal word rules', 0, grammar(1, 0, [[word(0)], [word(0)]])),
+    ('two chains with equal rules throughout', 0, grammar(2, 1, [[word(0), pair(0, 1), word(1)]] * 2, [4, 1, 5, 2, 6, 3])),
+    ('end of one chain equals the start of the next', 0, grammar(2, 0, [[word(0), word(1)], [word(1), word(0)]])),
+    ('kinds differ alone', 0, grammar(1, 0, [[word(0), pair(0, 0)]])),
+    ('a differs alone', 0, grammar(1, 0, [[pair(0, 1), pair(1, 1)], []])),
+    ('b differs alone', 0, grammar(1, 0, [[pair(0, 0), pair(0, 1)], []])),
+    ('a and b exchanged', 0, grammar(1, 0, [[pair(0, 1), pair(1, 0)], []])),
+
+    # Allowed: empty chains and useless nonterminals
+    ('S has an empty chain', 0, grammar(1, 1, [[word(0)], []])),
+    ('only the last of 32 chains has a rule', 0, grammar(1, 0, [[]] * 31 + [[word(0)]])),
+    ('useless nonterminals', 0, grammar(2, 0, [[word(0)], [pair(1, 2)], [pair(2, 1)], [word(1), pair(0, 3)]])),
+    ('nothing derived at all', 0, grammar(1, 0, [[pair(0, 0)]])),
+    ('rules numbered against the chain', 0, grammar(4, 0, [words(4), [pair(1, 0)]], [4, 3, 2, 1, 5])),
+
+    # N = 32, W = 255, R = 255 at once
+    ('full', 0, FULL),
+    ('full, numbers falling', 0, grammar(255, 0, [[]] * 31 + [words(255)], range(255, 0, -1))),
+    ('full, all rules on the first chain', 0, grammar(255, 31, [words(255)] + [[]] * 31)),
+    ('full, all rules on the last chain', 0, plain(32, 255, 0, [0] * 31 + [1], rows(255))),
+    ('full, one byte short', 3, FULL[:-1]),
+    ('full, one byte long', 3, FULL + b'\0'),
+    ('full, size modulo 256', 3, FULL[:1056 % 256]),
+    ('full, S is 32', 2, damaged(FULL, [(3, 32)])),
+    ('full, kind of the last rule', 4, damaged(FULL, [(1052, 2)])),
+    ('full, last word is 255', 4, damaged(FULL, [(1053, 255)])),
+    ('full, last rule linked to itself', 6, damaged(FULL, [(1055, 255)])),
+    ('full, all rules in one loop', 6, damaged(plain(32, 255, 0, [0] * 31 + [1], rows(255)), [(1055, 1)])),
+    ('full, last rule on no chain', 7, damaged(FULL, [(35, 0)])),
+    ('full, first and last of 255 rules equal', 8, damaged(plain(32, 255, 0, [0] * 31 + [1], rows(255)), [(1053, 0)])),
+    ('255 rules, next 255 is allowed', 0, plain(1, 255, 0, [1], rows(255))),
+]
+
+
+def defects():
+    """Every subset of refusals 2 to 8 in one grammar: the smallest is the answer. Each defect has its own
+    place, the later refusals on earlier chains and rules."""
+    base = grammar(3, 0, [[word(0), word(1), word(2)], [word(0), word(1)], [word(0), pair(0, 1), word(1)], [word(2)], [word(0)]])
+    rule = [4 + 5 + 4 * (number - 1) for number in range(11)]
+    places = {
+        2: (3, 5),
+        4: (rule[10] + KIND, 2),
+        5: (rule[9] + NEXT, 11),
+        6: (rule[8] + NEXT, 6),
+        7: (rule[4] + NEXT, 0),
+        8: (rule[3] + A, 0),
+    }
+    for subset in range(128):
+        chosen = [refusal for refusal in range(2, 9) if subset >> (refusal - 2) & 1]
+        data = damaged(base, [places[refusal] for refusal in chosen if refusal != 3])
+        yield f'defects {chosen}', min(chosen, default=0), data + b'\0' * (3 in chosen)
+
+
+def resized():
+    """F cut to each size, and F with bytes after it."""
+    for size in range(len(F) + 9):
+        yield f'F, {size} bytes', (F + bytes(8))[:size]
+
+
+def single_damages():
+    """F with each byte set to each of several values."""
+    for at, byte in enumerate(F):
+        for value in sorted({0, 1, 2, 3, 4, 5, 6, 31, 32, 33, 127, 128, 254, 255} - {byte}):
+            yield f'F, byte {at} is {value}', damaged(F, [(at, value)])
+
+
+def random_cases(rng):
+    """Random grammars, each as it is and with every damage."""
+    sizes = [(2, 2, 4)] * 50 + [(5, 5, 12)] * 100 + [(32, 255, 40)] * 30
+    for i, size in enumerate(sizes):
+        data = random_grammar(rng, *size)
+        yield f'random {i}', data
+        for places in damages(rng, data):
+            yield f'random {i}, damage {places}', damaged(data, places)
+
+
+def matrix_cases(rng):
+    """The house bank with every damage."""
+    data = oracle.matrix()
+    for i in range(40):
+        for places in damages(rng, data):
+            yield f'matrix {i}, damage {places}', damaged(data, places)
+
+
+def damages(rng, data):
+    """Random damages of an accepted grammar, each a list of places and values."""
+    rules = range(4 + data[0], len(data), 4)
+    links = list(range(4, 4 + data[0])) + [at + NEXT for at in rules]
+    one, other = rng.choice(links), rng.choice(links)
+    rule, model = rng.choice(rules), rng.choice(rules)
+    passed_over = data[one] and data[rules[data[one] - 1] + NEXT]
+    return [
+        [random_damage(rng, data)],
+        [random_damage(rng, data), random_damage(rng, data)],
+        [(one, rng.below(data[2] + 1))],
+        [(one, rng.below(data[2] + 2)), (other, rng.below(data[2] + 2))],
+        [(one, passed_over)],
+        [(rule + part, rng.below(2)) for part in (KIND, A, B)],
+        [(rule + part, data[model + part]) for part in (KIND, A, B)],
+    ]
+
+
+def grammar_cases():
+    stated = TRAPS + list(defects())
+    for name, refusal, data in stated:
+        if oracle.check_grammar(data)[0] != refusal:
+            raise AssertionError(f'{name}: document 01 gives {refusal}, the brute-force program {oracle.check_grammar(data)[0]}')
+    rng = Rng(2026)
+    made = [*resized(), *single_damages(), *random_cases(rng), *matrix_cases(rng)]
+    unique = {}
+    for name, data in [(name, data) for name, _, data in stated] + made:
+        unique.setdefault(data, name)
+    return [Case(name, low_high(len(data)) + data, line(*oracle.check_grammar(data))) for data, name in unique.items()]
+
+
+def line(refusal, *figures):
+    """A case's line: 0 and the figures, or the refusal."""
+    return f'refused {refusal}' if refusal else ' '.join(map(str, [0, *figures]))
+
+
+# ---- Kind matrix
+
+def matrix_table():
+    return [Case('house bank', b'', ' '.join(map(str, oracle.matrix())))]
+
+
+# ---- Writing and checking
+
+KINDS = {'grammar': grammar_cases, 'matrix': matrix_table}
+
+
+def files(cases):
+    return {'stdin': b''.join(case.stdin for case in cases), 'stdout': b''.join(case.line.encode() + b'\n' for case in cases)}
+
+
+def differing(outdir, cases):
+    """The files of outdir that are not what the cases give."""
+    found = []
+    for name, content in files(cases).items():
+        path = outdir / name
+        if not path.is_file() or path.read_bytes() != content:
+            found.append(path)
+    return found
+
+
+def main():
+    parser = argparse.ArgumentParser(description=__doc__, formatter_class=argparse.RawDescriptionHelpFormatter)
+    parser.add_argument('kind', nargs='?', choices=KINDS)
+    parser.add_argument('outdir', nargs='?', type=pathlib.Path)
+    parser.add_argument('--check', action='store_true')
+    parser.add_argument('--names', action='store_true')
+    parser.add_argument('--list', action='store_true')
+    args = parser.parse_args()
+    if args.list:
+        print('\n'.join(KINDS))
+        return 0
+    if args.kind is None or (args.outdir is None) != args.names:
+        parser.error('a kind and a folder, or a kind and --names')
+    cases = KINDS[args.kind]()
+    if args.names:
+        for number, case in enumerate(cases, 1):
+            print(f'{number}: {case.line}: {case.name}')
+        return 0
+    if args.check:
+        bad = differing(args.outdir, cases)
+        for path in bad:
+            print(f'{path} is not what tests/vectors.py {args.kind} writes')
+        return 1 if bad else 0
+    args.outdir.mkdir(parents=True, exist_ok=True)
+    for name, content in files(cases).items():
+        (args.outdir / name).write_bytes(content)
+    return 0
+
+
+if __name__ == '__main__':
+    sys.exit(main())
