@@ -3,19 +3,19 @@
 use mathlib.Core.Path.{_≡_, refl, sym, ap, _∙_}
 use mathlib.Core.Bool.{Bool, true, false, not}
 use mathlib.Core.List.{List, [], _∷_}
-use Prim.Native.Nat.{ℕ, zero, suc, _≤_, _<_}
+use Prim.Native.Nat.{ℕ, zero, suc, _+_, _*_, _≤_, _<_}
 use native.Mathlib.Omega.{arith}
 use borrow.Author.Tests.{lt-ltb, le-ltb, le-leb, eq-eqb, ne-eqb}
 use lib.ListN.{length, getD, drop}
-use lib.Dec.{leb, eqb}
+use lib.Dec.{ltb, leb, eqb}
 use Rattle.lists.specs.Searched.{someBelow, someTo, times}
-use Rattle.lists.proofs.Tests.{or-true, to-ext}
+use Rattle.lists.proofs.Tests.{or-true, below-ext, to-ext}
 use Rattle.answers.specs.Answer.{firstThatApplies}
 use Rattle.answers.proofs.Refusals.{answer-accepted, answer-refused}
-use Rattle.grammar.specs.Layout.{nonterminals, words, rules, sizeOf}
+use Rattle.grammar.specs.Layout.{byteAt, nonterminals, words, rules, sizeOf}
 use Rattle.grammar.specs.Chains.{met}
 use Rattle.grammar.specs.Refusals.{within, tooShort, wrongSize, headAbove, nextAbove, badLink, metTwice, onNoChain, grammarRows, grammarRefusal}
-use Rattle.grammar.specs.Checks.{Counted}
+use Rattle.grammar.specs.Checks.{Sized, someAbove, Counted}
 use Rattle.grammar.specs.Answers.{checkGrammar}
 use Rattle.grammar.proofs.Acceptance.{within-high, within-both}
 
@@ -50,17 +50,31 @@ module _ (g : List ℕ) where
   unfolding wrongSize
   size-right e = ap not (eq-eqb (length g) (sizeOf g) e)
 
-  pub link-head : someBelow (headAbove g) (nonterminals g) ≡ true → badLink g ≡ true
-  unfolding badLink
-  link-head e = rw e
+module _ {g : List ℕ} {n r : ℕ} (s : Sized g n r) where
+  -- the heads stand one after another from 4 on, the nexts four bytes apart from N + 7 on
+  heads-above : someAbove g r 4 1 n ≡ someBelow (headAbove g) (nonterminals g)
+  heads-above =
+      rw (s .bodies, s .heads)
+      (below-ext (λ i. ltb (rules g) (byteAt g (4 + 1 * i))) (headAbove g) (nonterminals g)
+      (λ A. let e : 4 + 1 * A ≡ 4 + A = omega arith in rw e))
 
-  pub link-next : someTo (nextAbove g) (rules g) ≡ true → badLink g ≡ true
-  unfolding badLink
-  link-next e = or-true (someBelow (headAbove g) (nonterminals g)) (someTo (nextAbove g) (rules g)) e
+  nexts-above : someAbove g r (n + 7) 4 r ≡ someTo (nextAbove g) (rules g)
+  nexts-above =
+      rw (s .bodies, s .heads)
+      (below-ext (λ i. ltb (rules g) (byteAt g (nonterminals g + 7 + 4 * i))) (λ i. nextAbove g (suc i)) (rules g)
+      (λ i. let e : nonterminals g + 7 + 4 * i ≡ nonterminals g + 4 * suc i + 3 = omega arith in rw e))
 
-  pub links-right : someBelow (headAbove g) (nonterminals g) ≡ false → someTo (nextAbove g) (rules g) ≡ false → badLink g ≡ false
+  pub link-head : {b : Bool} → b ≡ someAbove g r 4 1 n → b ≡ true → badLink g ≡ true
   unfolding badLink
-  links-right e f = rw (e, f)
+  link-head e t = let h = sym heads-above ∙ sym e ∙ t in rw h
+
+  pub link-next : {b : Bool} → b ≡ someAbove g r (n + 7) 4 r → b ≡ true → badLink g ≡ true
+  unfolding badLink
+  link-next e t = or-true (someBelow (headAbove g) (nonterminals g)) (someTo (nextAbove g) (rules g)) (sym nexts-above ∙ sym e ∙ t)
+
+  pub links-right : {a b : Bool} → a ≡ someAbove g r 4 1 n → a ≡ false → b ≡ someAbove g r (n + 7) 4 r → b ≡ false → badLink g ≡ false
+  unfolding badLink
+  links-right e t f u = let h = sym heads-above ∙ sym e ∙ t in let k = sym nexts-above ∙ sym f ∙ u in rw (h, k)
 
 -- two or more, and none, as marks outside 0 to 1, and outside 1 to 65,535
 twice-outside : (x : ℕ) → not (within 0 1 x) ≡ leb 2 x

@@ -5,8 +5,9 @@ use mathlib.Core.Bool.{Bool, false}
 use mathlib.Core.List.{List}
 use Prim.Native.Nat.{ℕ, zero, suc, _+_, _*_, _≤_, _<_}
 use lib.ListN.{length, getD}
-use Rattle.lists.specs.Searched.{times}
-use Rattle.grammar.specs.Layout.{nonterminals, rules, kindOf, aOf, bOf}
+use lib.Dec.{ltb}
+use Rattle.lists.specs.Searched.{someBelow, times}
+use Rattle.grammar.specs.Layout.{byteAt, nonterminals, rules, kindOf, aOf, bOf}
 use Rattle.grammar.specs.Chains.{chainNumbers, met}
 use Rattle.grammar.specs.Refusals.{badRule, twins}
 
@@ -17,6 +18,16 @@ pub record Sized (g : List ℕ) (n r : ℕ) : Type 0 where
   pub few : n ≤ 32
   pub numbered : r ≤ 255
   pub size : length g ≡ 4 + n + 4 * r
+
+-- ---- 5: links
+
+-- the bytes at `at`, `at + step`, .., so many of them, are there
+abbrev pub Inside : (g : List ℕ) (at step count : ℕ) → Type 0
+Inside g at step count = (i : ℕ) → i < count → at + step * i < length g
+
+-- one of them is above r
+abbrev pub someAbove : (g : List ℕ) (r at step count : ℕ) → Bool
+someAbove g r at step count = someBelow (λ i. ltb r (byteAt g (at + step * i))) count
 
 -- ---- 6 and 7: how often each rule is met
 

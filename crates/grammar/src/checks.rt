@@ -3,10 +3,9 @@ ghost use mathlib.Core.Path.{_≡_};
 ghost use mathlib.Core.Bool.{false, not};
 ghost use Prim.Native.Nat.{_≤_};
 ghost use lib.ListN.{length, getD};
-ghost use Rattle.lists.specs.Searched.{someBelow, someTo};
-ghost use Rattle.grammar.specs.Layout.{nonterminals, rules};
-ghost use Rattle.grammar.specs.Refusals.{within, outOfRange, fits, badRule, headAbove, nextAbove, repeated};
-ghost use Rattle.grammar.specs.Checks.{Sized, Marking, Marked, Counted, slotOf, Stamping, Stamped};
+ghost use Rattle.lists.specs.Searched.{someTo};
+ghost use Rattle.grammar.specs.Refusals.{within, outOfRange, fits, badRule, repeated};
+ghost use Rattle.grammar.specs.Checks.{Sized, Inside, someAbove, Marking, Marked, Counted, slotOf, Stamping, Stamped};
 ghost use Rattle.grammar.specs.Answers.{refusalNumber, said, checkGrammar};
 
 pub enum GrammarRefusal {
@@ -108,32 +107,17 @@ fn bad_rule(g: &[u8], n: usize, r: usize) -> bool
     false
 }
 
-// 5, the heads.
-fn bad_head(g: &[u8], n: usize, r: usize) -> bool
-    requires { ⌜ Sized (now g) n r ⌝ }
-    ensures { λ b. ⌜ b ≡ someBelow (headAbove (now (g .entry))) (nonterminals (now (g .entry))) ⌝ }
+// Whether one of `count` bytes, the first at `at` and each `step` after the one before, is above r.
+fn some_above(g: &[u8], r: usize, at: usize, step: usize, count: usize) -> bool
+    requires { ⌜ Inside (now g) at step count ⌝ }
+    ensures { λ b. ⌜ b ≡ someAbove (now (g .entry)) r at step count ⌝ }
 {
-    let mut a = n;
-    while 0 < a {
-        if r < wide(g[3 + a]) {
-            return true;
-        }
-        a -= 1;
-    }
-    false
-}
-
-// 5, the nexts.
-fn bad_next(g: &[u8], n: usize, r: usize) -> bool
-    requires { ⌜ Sized (now g) n r ⌝ }
-    ensures { λ b. ⌜ b ≡ someTo (nextAbove (now (g .entry))) (rules (now (g .entry))) ⌝ }
-{
-    let mut i = r;
+    let mut i = count;
     while 0 < i {
-        if r < wide(g[n + 4 * i + 3]) {
+        i -= 1;
+        if r < wide(g[at + step * i]) {
             return true;
         }
-        i -= 1;
     }
     false
 }
@@ -260,10 +244,10 @@ pub fn check(g: &[u8]) -> GrammarAnswer
     if bad_rule(g, n, r) {
         return GrammarAnswer::Refused(GrammarRefusal::BadRule);
     }
-    if bad_head(g, n, r) {
+    if some_above(g, r, 4, 1, n) {
         return GrammarAnswer::Refused(GrammarRefusal::BadLink);
     }
-    if bad_next(g, n, r) {
+    if some_above(g, r, n + 7, 4, r) {
         return GrammarAnswer::Refused(GrammarRefusal::BadLink);
     }
     let marks = count_met(g, n, r);

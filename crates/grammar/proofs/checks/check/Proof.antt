@@ -82,7 +82,7 @@ past4 c = past3 (e3 c) ∙ row-passed 4 _ (rules-fit c)
 past5 : (c : tie.Else6) → Passed (bytes (e1 (e2 (e3 (e4 (e5 c)))))) 5
 past5 c =
     past4 (e4 (e5 c))
-    ∙ row-passed 5 _ (links-right _ (sym (e5 c .before .bad-head .ensures) ∙ e5 c .if5 .left) (sym (c .before .bad-next .ensures) ∙ c .if6 .left))
+    ∙ row-passed 5 _ (links-right (sized (e3 (e4 (e5 c)))) (e5 c .before .some-above .ensures) (e5 c .if5 .left) (c .before .some-above2 .ensures) (c .if6 .left))
 
 past6 : (c : tie.Else7) → Passed (bytes (e1 (e2 (e3 (e4 (e5 (e6 c))))))) 6
 past6 c = past5 (e6 c) ∙ row-passed 6 _ (twice _ _ (c .before .before .before .count-met .ensures) (sized (e3 (e4 (e5 (e6 c)))) .bodies) (c .before .some-outside .ensures) ∙ c .if7 .left)
@@ -129,17 +129,20 @@ bad-rule-requires c κs = sized c
 returns-4 : tie.Need-returns-4
 returns-4 c = refused _ 4 (past3 (c .before .before) ∙ row-applies 4 _ (sym (c .before .bad-rule .ensures) ∙ c .if4 .taken)) (lit< tt)
 
-bad-head-requires : tie.Need-bad-head-requires
-bad-head-requires c κs = sized (e3 c)
+some-above-requires : tie.Need-some-above-requires
+some-above-requires c κs = let s = sized (e3 c) in λ i h. omega arith
 
 returns-5 : tie.Need-returns-5
-returns-5 c = refused _ 5 (past4 (c .before .before) ∙ row-applies 5 _ (link-head _ (sym (c .before .bad-head .ensures) ∙ c .if5 .taken))) (lit< tt)
+returns-5 c = refused _ 5 (past4 (c .before .before) ∙ row-applies 5 _ (link-head (sized (e3 (c .before .before))) (c .before .some-above .ensures) (c .if5 .taken))) (lit< tt)
 
-bad-next-requires : tie.Need-bad-next-requires
-bad-next-requires c κs = sized (e3 (e4 c))
+add-some-above : tie.Need-add-some-above
+add-some-above c = let s = sized (e3 (e4 c)) in omega arith
+
+some-above-requires-2 : tie.Need-some-above-requires-2
+some-above-requires-2 c κs = let s = sized (e3 (e4 c)) in λ i h. omega arith
 
 returns-6 : tie.Need-returns-6
-returns-6 c = refused _ 5 (past4 (e4 (c .before .before)) ∙ row-applies 5 _ (link-next _ (sym (c .before .bad-next .ensures) ∙ c .if6 .taken))) (lit< tt)
+returns-6 c = refused _ 5 (past4 (e4 (c .before .before)) ∙ row-applies 5 _ (link-next (sized (e3 (e4 (c .before .before)))) (c .before .some-above2 .ensures) (c .if6 .taken))) (lit< tt)
 
 count-met-requires : tie.Need-count-met-requires
 count-met-requires c κs = sized (e3 (e4 (e5 c)))
@@ -190,9 +193,10 @@ check-spec =
     returns-3
     bad-rule-requires
     returns-4
-    bad-head-requires
+    some-above-requires
     returns-5
-    bad-next-requires
+    add-some-above
+    some-above-requires-2
     returns-6
     count-met-requires
     some-outside-requires
