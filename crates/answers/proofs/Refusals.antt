@@ -51,6 +51,11 @@ rows-pass ((t, n) ∷ a) b h e =
 
 -- ---- what is answered
 
+pub answer-number : (n : ℕ) (figures before after : List ℕ) → answerOf n figures before after .refusal ≡ n
+unfolding answerOf
+answer-number zero figures before after = refl
+answer-number (suc n) figures before after = refl
+
 pub answer-accepted : {n : ℕ} (figures before after : List ℕ) → n ≡ 0
     → answerOf n figures before after ≡ record { refusal = 0; figures = figures; buffer = after }
 unfolding answerOf

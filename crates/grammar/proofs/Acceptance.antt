@@ -9,28 +9,12 @@ use native.Mathlib.Omega.{arith}
 use lib.ListN.{length}
 use lib.Dec.{ltb, leb, eqb, lit<}
 use borrow.Author.Tests.{leb-true, leb-false, ltb-true, ltb-false, eqb-true, eqb-false, lt-leb, le-leb, lt-ltb, le-ltb, not-false}
-use Rattle.lists.specs.Searched.{someBelow, someTo, times}
-use Rattle.lists.proofs.Tests.{and-left, and-right, and-false, or-left, or-right, below-at}
+use Rattle.lists.specs.Searched.{within, someBelow, someTo, times}
+use Rattle.lists.proofs.Tests.{within-facts, within-low, within-high, within-both, and-left, and-right, or-left, or-right, below-at}
 use Rattle.answers.proofs.Refusals.{row-clear}
 use Rattle.grammar.specs.Layout.{nonterminals, words, rules, start, headOf, kindOf, aOf, bOf, nextOf, sizeOf}
 use Rattle.grammar.specs.Chains.{met}
-use Rattle.grammar.specs.Refusals.{within, tooShort, outOfRange, wrongSize, fits, misfit, badRule, headAbove, nextAbove, badLink, metTwice, onNoChain, Accepted}
-
--- ---- a number within bounds
-
-within-facts : (lo hi x : ℕ) → not (within lo hi x) ≡ false → (lo ≤ x) × (x ≤ hi)
-within-facts lo hi x e =
-    let t = not-false (within lo hi x) e in
-    (leb-true lo x (and-left (leb lo x) (leb x hi) t), leb-true x hi (and-right (leb lo x) (leb x hi) t))
-
-pub within-low : (lo hi x : ℕ) → x < lo → not (within lo hi x) ≡ true
-within-low lo hi x h = rw (lt-leb lo x h)
-
-pub within-high : (lo hi x : ℕ) → hi < x → not (within lo hi x) ≡ true
-within-high lo hi x h = rw (and-false (leb lo x) (leb x hi) (lt-leb x hi h))
-
-pub within-both : (lo hi x : ℕ) → lo ≤ x → x ≤ hi → not (within lo hi x) ≡ false
-within-both lo hi x h k = rw (le-leb lo x h, le-leb x hi k)
+use Rattle.grammar.specs.Refusals.{tooShort, outOfRange, wrongSize, fits, misfit, badRule, headAbove, nextAbove, badLink, metTwice, onNoChain, Accepted}
 
 -- ---- 2: the ranges
 

@@ -8,16 +8,15 @@ use native.Mathlib.Omega.{arith}
 use borrow.Author.Tests.{lt-ltb, le-ltb, le-leb, eq-eqb, ne-eqb}
 use lib.ListN.{length, getD, drop}
 use lib.Dec.{ltb, leb, eqb}
-use Rattle.lists.specs.Searched.{someBelow, someTo, times}
-use Rattle.lists.proofs.Tests.{or-true, below-ext, to-ext}
+use Rattle.lists.specs.Searched.{within, someBelow, someTo, times}
+use Rattle.lists.proofs.Tests.{within-high, within-both, or-true, below-ext, to-ext}
 use Rattle.answers.specs.Answer.{firstThatApplies}
 use Rattle.answers.proofs.Refusals.{answer-accepted, answer-refused}
 use Rattle.grammar.specs.Layout.{byteAt, nonterminals, words, rules, sizeOf}
 use Rattle.grammar.specs.Chains.{met}
-use Rattle.grammar.specs.Refusals.{within, tooShort, wrongSize, headAbove, nextAbove, badLink, metTwice, onNoChain, grammarRows, grammarRefusal}
+use Rattle.grammar.specs.Refusals.{tooShort, wrongSize, headAbove, nextAbove, badLink, metTwice, onNoChain, grammarRows, grammarRefusal}
 use Rattle.grammar.specs.Checks.{Sized, someAbove, Counted}
 use Rattle.grammar.specs.Answers.{checkGrammar}
-use Rattle.grammar.proofs.Acceptance.{within-high, within-both}
 
 -- the first k lines don't apply
 abbrev pub Passed : List ℕ → ℕ → Type 0

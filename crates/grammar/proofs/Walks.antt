@@ -6,16 +6,18 @@ use mathlib.Core.Path.{_≡_, refl, sym, ap, _∙_}
 use mathlib.Core.Logic.{_⊎_, inl, inr}
 use mathlib.Core.Bool.{Bool, true, false, cond, _&&_}
 use mathlib.Core.List.{List, [], _∷_, _++_, map, List·Memᴰ·head, List·Memᴰ·tail, List·Memᴰ·not-nil, Memᴰ·of-map}
-use Prim.Native.Nat.{ℕ, zero, suc, _+_, _≤_, _<_}
+use Prim.Native.Nat.{ℕ, zero, suc, _+_, _-_, _≤_, _<_}
 use native.Mathlib.Omega.{arith}
 use native.Mathlib.Numerals.{add-one}
 use native.Mathlib.Decide.{decLe}
 use lib.ListN.{length, length-map}
 use lib.Dec.{leb, eqb}
 use borrow.Author.Tests.{leb-true, le-leb, lt-leb, eq-eqb}
-use Rattle.lists.specs.Joined.{_∈_, concatMap, upFrom}
+use Rattle.lists.specs.Joined.{_∈_, sumOver, concatMap, upFrom}
 use Rattle.lists.specs.Ordered.{Distinct}
 use Rattle.lists.specs.Searched.{times}
+use Rattle.lists.proofs.Sums.{sum-append, sum-ext, length-concat}
+use Rattle.lists.proofs.Places.{upFrom-split}
 use Rattle.lists.proofs.Members.{∈-concat, concat-∈, upFrom-∈, ∈-upFrom}
 use Rattle.lists.proofs.Searches.{times-few, ∈-times, times-distinct, times-concat}
 use Rattle.lists.proofs.Tests.{and-left, and-right}
@@ -103,6 +105,16 @@ module _ (g : List ℕ) (ok : Known g) where
       let h′ : length (metFrom g n (nextOf g (suc r))) < n = omega (arith, ap length e) in
       rw e (goes {r = suc r} (omega arith) k (walk-from n (nextOf g (suc r)) (ok .nexts (suc r) (omega arith) k) h′))
 
+  -- no rule is met twice on all chains together
+  met-few : length (met g) ≤ rules g
+  met-few =
+      times-few 1 (rules g) (met g)
+      (λ x m.
+      let q = concat-∈ (chainNumbers g) (upFrom 0 (nonterminals g)) m in
+      let i = met-rules g (rules g + 1) (headOf g (q .0)) (q .2) in
+      omega arith)
+      (λ r m. let q = upFrom-∈ 1 (rules g) m in omega (arith, ok .once r (omega arith) (omega arith)))
+
 -- every chain's walk ends, no rule is met twice on them, and every rule is met
 pub record Chained (g : List ℕ) : Type 0 where
   pub over : (A : ℕ) → A < nonterminals g → Walk g (headOf g A) (chainNumbers g A)
@@ -178,3 +190,20 @@ unfolding rest
 rest-short g ok r =
     let few = known g ok .ranges .few-rules in
     omega (arith, length-map (metFrom g (rules g + 1) r) (ruleOf g), met-short g (rules g + 1) r)
+
+-- the chains of the first nonterminals have no more rules together than there are
+pub chains-few : (g : List ℕ) → Accepted g → (n : ℕ) → n ≤ nonterminals g → length (concatMap (chain g) (upFrom 0 n)) ≤ rules g
+unfolding rest
+chains-few g ok n h =
+    let later = upFrom (0 + n) (nonterminals g - n) in
+    let e : nonterminals g ≡ n + (nonterminals g - n) = omega arith in
+    let split : upFrom 0 (nonterminals g) ≡ upFrom 0 n ++ later = ap (upFrom 0) e ∙ upFrom-split 0 n (nonterminals g - n) in
+    omega (
+      arith,
+      length-concat (chain g) (upFrom 0 n),
+      sum-ext (λ A. length (chain g A)) (λ A. length (chainNumbers g A)) (upFrom 0 n) (λ A m. length-map (chainNumbers g A) (ruleOf g)),
+      length-concat (chainNumbers g) (upFrom 0 (nonterminals g)),
+      ap (sumOver (λ A. length (chainNumbers g A))) split,
+      sum-append (λ A. length (chainNumbers g A)) (upFrom 0 n) later,
+      met-few g (known g ok),
+    )

@@ -6,7 +6,7 @@ use mathlib.Core.List.{List, [], _∷_}
 use Prim.Native.Nat.{ℕ, zero, suc}
 use lib.ListN.{length}
 use lib.Dec.{ltb, leb, eqb}
-use Rattle.lists.specs.Searched.{someOf, someBelow, someTo, times}
+use Rattle.lists.specs.Searched.{within, someOf, someBelow, someTo, times}
 use Rattle.answers.specs.Answer.{Row, firstThatApplies}
 use Rattle.grammar.specs.Layout.{nonterminals, words, rules, start, headOf, kindOf, aOf, bOf, nextOf, sizeOf}
 use Rattle.grammar.specs.Chains.{chainNumbers, met}
@@ -14,10 +14,6 @@ use Rattle.grammar.specs.Chains.{chainNumbers, met}
 -- "1. The bank has fewer than 4 bytes."
 unfoldable pub tooShort : List ℕ → Bool
 tooShort g = ltb (length g) 4
-
--- x is from lo to hi
-abbrev pub within : (lo hi x : ℕ) → Bool
-within lo hi x = leb lo x && leb x hi
 
 -- "2. N, W, R or S is outside its range."
 unfoldable pub outOfRange : List ℕ → Bool

@@ -3,8 +3,8 @@ ghost use mathlib.Core.Path.{_≡_};
 ghost use mathlib.Core.Bool.{false, not};
 ghost use Prim.Native.Nat.{_≤_};
 ghost use lib.ListN.{length, getD};
-ghost use Rattle.lists.specs.Searched.{someTo};
-ghost use Rattle.grammar.specs.Refusals.{within, outOfRange, fits, badRule, repeated};
+ghost use Rattle.lists.specs.Searched.{within, someTo};
+ghost use Rattle.grammar.specs.Refusals.{outOfRange, fits, badRule, repeated};
 ghost use Rattle.grammar.specs.Checks.{Sized, Inside, someAbove, Marking, Marked, Counted, slotOf, Stamping, Stamped};
 ghost use Rattle.grammar.specs.Answers.{refusalNumber, said, checkGrammar};
 

@@ -6,3 +6,4 @@ pub mod Orders
 pub mod Tests
 pub mod Searches
 pub mod Strikes
+pub mod Parts

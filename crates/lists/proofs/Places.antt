@@ -36,16 +36,16 @@ module _ {X Y : Type 0} where
   getD-map f (a ∷ l) (suc n) x y h = getD-map f l n x y (omega arith)
 
 module _ {X Y Z : Type 0} where
-  combine-at : (f : X → Y → Z) (l : List X) (r : List Y) (a b : ℕ) (x : X) (y : Y) (z : Z) → a < length l → b < length r
+  pub getD-combine-at : (f : X → Y → Z) (l : List X) (r : List Y) (a b : ℕ) (x : X) (y : Y) (z : Z) → a < length l → b < length r
       → getD (combine f l r) (a * length r + b) z ≡ f (getD l a x) (getD r b y)
-  combine-at f [] r a b x y z h h′ = absurd (omega arith)
-  combine-at f (c ∷ l) r zero b x y z h h′ =
+  getD-combine-at f [] r a b x y z h h′ = absurd (omega arith)
+  getD-combine-at f (c ∷ l) r zero b x y z h h′ =
       let e : 0 * length r + b ≡ b = omega arith in
       let g : b < length (map (f c) r) = omega (arith, length-map r (f c)) in
       rw e (getD-left (map (f c) r) (combine f l r) b z g ∙ getD-map (f c) r b y z h′)
-  combine-at f (c ∷ l) r (suc a) b x y z h h′ =
+  getD-combine-at f (c ∷ l) r (suc a) b x y z h h′ =
       let e : suc a * length r + b ≡ length (map (f c) r) + (a * length r + b) = omega (arith, length-map r (f c)) in
-      rw e (getD-append-add (map (f c) r) (combine f l r) (a * length r + b) z ∙ combine-at f l r a b x y z (omega arith) h′)
+      rw e (getD-append-add (map (f c) r) (combine f l r) (a * length r + b) z ∙ getD-combine-at f l r a b x y z (omega arith) h′)
 
   -- the quotient chooses on the left, the remainder on the right
   pub getD-combine : (f : X → Y → Z) (l : List X) (r : List Y) (d : ℕ) (x : X) (y : Y) (z : Z) → d < length l * length r
@@ -54,7 +54,7 @@ module _ {X Y Z : Type 0} where
       let p : 0 < length r = some-right l r d h in
       let q : d / length r < length l = div-lt-iff-lt-mul p .1 h in
       ap (λ (k : ℕ). getD (combine f l r) k z) (sym (div-add-mod' d (length r)))
-      ∙ combine-at f l r (d / length r) (d % length r) x y z q (mod-lt d p)
+      ∙ getD-combine-at f l r (d / length r) (d % length r) x y z q (mod-lt d p)
 
 pub getD-upFrom : (k n i d : ℕ) → i < n → getD (upFrom k n) i d ≡ k + i
 getD-upFrom k zero i d h = absurd (omega arith)
@@ -64,6 +64,14 @@ getD-upFrom k (suc n) (suc i) d h = omega (arith, getD-upFrom (suc k) n i d (ome
 -- a loop that counts up to n meets the numbers so
 pub upFrom-step : (k n : ℕ) → k < n → upFrom k (n - k) ≡ k ∷ upFrom (k + 1) (n - (k + 1))
 upFrom-step k n h = let e : n - k ≡ suc (n - (k + 1)) = omega arith in rw (e, add-one k)
+
+-- a run of numbers in two parts
+pub upFrom-split : (k m n : ℕ) → upFrom k (m + n) ≡ upFrom k m ++ upFrom (k + m) n
+upFrom-split k zero n = let e : k + 0 ≡ k = omega arith in let z : 0 + n ≡ n = omega arith in rw (e, z)
+upFrom-split k (suc m) n =
+    let e : k + suc m ≡ suc k + m = omega arith in
+    let s : suc m + n ≡ suc (m + n) = omega arith in
+    rw (e, s, upFrom-split (suc k) m n)
 
 -- no entry above b is put among entries that are at most b
 pub set-le : (l : List ℕ) (i v b : ℕ) → v ≤ b → ((q : ℕ) → getD l q 0 ≤ b) → (q : ℕ) → getD (set l i v) q 0 ≤ b

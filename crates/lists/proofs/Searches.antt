@@ -1,11 +1,13 @@
--- How many elements pass a test, and the first that does, over `++`, map and combine; and counting a list of numbers by its values.
+-- How many elements pass a test, and the places of those that do, over `++`, map and combine; and counting a list of numbers by its
+-- values.
 -- Assumes nothing.
 use mathlib.Core.Path.{_≡_, refl, sym, ap, _∙_}
 use mathlib.Core.Logic.{_↔_}
-use mathlib.Core.Bool.{Bool, true, false, cond, _&&_}
+use mathlib.Core.Bool.{Bool, true, false, _&&_}
 use mathlib.Core.List.{List, [], _∷_, _++_, map, List·Memᴰ·head, List·Memᴰ·tail, List·Memᴰ·not-nil}
-use Prim.Native.Nat.{ℕ, zero, suc, _+_, _*_, _≤_, _<_}
+use Prim.Native.Nat.{ℕ, zero, suc, _+_, _*_, _-_, _/_, _%_, _≤_, _<_}
 use native.Mathlib.Omega.{arith}
+use native.Mathlib.Nat.{div-add-mod', mod-lt, div-lt-iff-lt-mul}
 use native.Mathlib.Decide.{ℕ-discrete}
 use borrow.Author.Tests.{eq-eqb, ne-eqb}
 use lib.Dec.{eqb}
@@ -13,7 +15,7 @@ use lib.ListN.{length, getD, set, length-map}
 use lib.Seq.{getD-set-same, getD-set-other}
 use Rattle.lists.specs.Joined.{_∈_, sumOver, concatMap, combine, upFrom}
 use Rattle.lists.specs.Ordered.{Distinct, none, more}
-use Rattle.lists.specs.Searched.{bit, howMany, firstPlace, times}
+use Rattle.lists.specs.Searched.{bit, howMany, placeNext, placeOf, times}
 use Rattle.lists.proofs.Sums.{sum-append, sum-ext, sum-map, sum-combine, sum-plus, sum-const, sum-le, length-upFrom}
 use Rattle.lists.proofs.Tests.{bit-le, bit-and}
 
@@ -26,7 +28,7 @@ module _ {X : Type 0} where
   pub many-le : (P : X → Bool) (l : List X) → howMany P l ≤ length l
   many-le P l = omega (arith, sum-le (λ x. bit (P x)) (λ x. 1) l (λ x m. bit-le (P x)), sum-const 1 l)
 
-  many-never : (l : List X) → howMany (λ x. false) l ≡ 0
+  pub many-never : (l : List X) → howMany (λ x. false) l ≡ 0
   many-never l = omega (arith, sum-const 0 l)
 
   -- an element that passes is one of them
@@ -41,91 +43,121 @@ module _ {X Y Z : Type 0} where
   many-combine f P p q l r h =
       sum-combine f (λ z. bit (P z)) (λ x. bit (p x)) (λ y. bit (q y)) l r (λ x mx y my. ap bit (h x mx y my) ∙ bit-and (p x) (q y))
 
--- ---- the first
+-- ---- the place of one that passes
 
-first-left-go : (b : Bool) (n m c : ℕ) → (1 ≤ c → n ≡ m) → 1 ≤ bit b + c → cond b 0 (suc n) ≡ cond b 0 (suc m)
-first-left-go true n m c ih h = refl
-first-left-go false n m c ih h = ap suc (ih (omega arith))
+left-go : (b : Bool) (n m : ℕ → ℕ) (c d : ℕ) → ((e : ℕ) → e < c → n e ≡ m e) → d < bit b + c → placeNext b n d ≡ placeNext b m d
+left-go true n m c zero ih h = refl
+left-go true n m c (suc d) ih h = ap suc (ih d (omega arith))
+left-go false n m c d ih h = ap suc (ih d (omega arith))
 
-first-right-go : (b : Bool) (n m k c : ℕ) → (c ≡ 0 → n ≡ m + k) → bit b + c ≡ 0 → cond b 0 (suc n) ≡ suc m + k
-first-right-go true n m k c ih h = absurd (omega arith)
-first-right-go false n m k c ih h = omega (arith, ih (omega arith))
+right-go : (b : Bool) (n m : ℕ → ℕ) (k c d : ℕ) → ((e : ℕ) → c ≤ e → n e ≡ k + m (e - c)) → bit b + c ≤ d → placeNext b n d ≡ suc k + m (d - (bit b + c))
+right-go true n m k c zero ih h = absurd (omega arith)
+right-go true n m k c (suc d) ih h =
+    let e : suc d - (1 + c) ≡ d - c = omega arith in
+    rw e (omega (arith, ih d (omega arith)))
+right-go false n m k c d ih h =
+    let e : d - (0 + c) ≡ d - c = omega arith in
+    rw e (omega (arith, ih d (omega arith)))
 
-first-lt-go : (b : Bool) (n k c : ℕ) → (1 ≤ c → n < k) → 1 ≤ bit b + c → cond b 0 (suc n) < suc k
-first-lt-go true n k c ih h = omega arith
-first-lt-go false n k c ih h = omega (arith, ih (omega arith))
+lt-go : (b : Bool) (n : ℕ → ℕ) (k c d : ℕ) → ((e : ℕ) → e < c → n e < k) → d < bit b + c → placeNext b n d < suc k
+lt-go true n k c zero ih h = omega arith
+lt-go true n k c (suc d) ih h = omega (arith, ih d (omega arith))
+lt-go false n k c d ih h = omega (arith, ih d (omega arith))
+
+same-go : (b : Bool) (n m : ℕ → ℕ) (d : ℕ) → ((e : ℕ) → n e ≡ m e) → placeNext b n d ≡ placeNext b m d
+same-go true n m zero h = refl
+same-go true n m (suc d) h = ap suc (h d)
+same-go false n m d h = ap suc (h d)
 
 module _ {X : Type 0} where
-  pub first-left : (P : X → Bool) (a b : List X) → 1 ≤ howMany P a → firstPlace P (a ++ b) ≡ firstPlace P a
-  first-left P [] b h = absurd (omega arith)
-  first-left P (x ∷ a) b h = first-left-go (P x) (firstPlace P (a ++ b)) (firstPlace P a) (howMany P a) (λ g. first-left P a b g) h
+  pub place-left : (P : X → Bool) (a b : List X) (d : ℕ) → d < howMany P a → placeOf P (a ++ b) d ≡ placeOf P a d
+  place-left P [] b d h = absurd (omega arith)
+  place-left P (x ∷ a) b d h = left-go (P x) (placeOf P (a ++ b)) (placeOf P a) (howMany P a) d (place-left P a b) h
 
-  pub first-right : (P : X → Bool) (a b : List X) → howMany P a ≡ 0 → firstPlace P (a ++ b) ≡ length a + firstPlace P b
-  first-right P [] b h = omega arith
-  first-right P (x ∷ a) b h =
-      first-right-go (P x) (firstPlace P (a ++ b)) (length a) (firstPlace P b) (howMany P a) (λ g. first-right P a b g) h
+  pub place-right : (P : X → Bool) (a b : List X) (d : ℕ) → howMany P a ≤ d → placeOf P (a ++ b) d ≡ length a + placeOf P b (d - howMany P a)
+  place-right P [] b d h = let e : d - 0 ≡ d = omega arith in rw e (omega arith)
+  place-right P (x ∷ a) b d h = right-go (P x) (placeOf P (a ++ b)) (placeOf P b) (length a) (howMany P a) d (place-right P a b) h
 
-  pub first-lt : (P : X → Bool) (l : List X) → 1 ≤ howMany P l → firstPlace P l < length l
-  first-lt P [] h = absurd (omega arith)
-  first-lt P (x ∷ l) h = first-lt-go (P x) (firstPlace P l) (length l) (howMany P l) (first-lt P l) h
+  pub place-lt : (P : X → Bool) (l : List X) (d : ℕ) → d < howMany P l → placeOf P l d < length l
+  place-lt P [] d h = absurd (omega arith)
+  place-lt P (x ∷ l) d h = lt-go (P x) (placeOf P l) (length l) (howMany P l) d (place-lt P l) h
 
-  pub first-ext : (P Q : X → Bool) (l : List X) → ((x : X) → x ∈ l → P x ≡ Q x) → firstPlace P l ≡ firstPlace Q l
-  first-ext P Q [] h = refl
-  first-ext P Q (x ∷ l) h = rw (h x (List·Memᴰ·head refl), first-ext P Q l (λ y m. h y (List·Memᴰ·tail m)))
+  pub place-ext : (P Q : X → Bool) (l : List X) → ((x : X) → x ∈ l → P x ≡ Q x) → (d : ℕ) → placeOf P l d ≡ placeOf Q l d
+  place-ext P Q [] h d = refl
+  place-ext P Q (x ∷ l) h d =
+      rw (h x (List·Memᴰ·head refl)) (same-go (Q x) (placeOf P l) (placeOf Q l) d (place-ext P Q l (λ y m. h y (List·Memᴰ·tail m))))
 
-  first-hit-go : (P : X → Bool) (x : X) (l : List X) (d : X) (b : Bool) → P x ≡ b
-      → (1 ≤ howMany P l → P (getD l (firstPlace P l) d) ≡ true) → 1 ≤ bit b + howMany P l
-      → P (getD (x ∷ l) (cond b 0 (suc (firstPlace P l))) d) ≡ true
-  first-hit-go P x l d true e ih h = e
-  first-hit-go P x l d false e ih h = ih (omega arith)
+  hit-go : (P : X → Bool) (x : X) (l : List X) (z : X) (b : Bool) (d : ℕ) → P x ≡ b
+      → ((e : ℕ) → e < howMany P l → P (getD l (placeOf P l e) z) ≡ true) → d < bit b + howMany P l
+      → P (getD (x ∷ l) (placeNext b (placeOf P l) d) z) ≡ true
+  hit-go P x l z true zero e ih h = e
+  hit-go P x l z true (suc d) e ih h = ih d (omega arith)
+  hit-go P x l z false d e ih h = ih d (omega arith)
 
-  -- what stands at the first place passes
-  pub first-hit : (P : X → Bool) (l : List X) (d : X) → 1 ≤ howMany P l → P (getD l (firstPlace P l) d) ≡ true
-  first-hit P [] d h = absurd (omega arith)
-  first-hit P (x ∷ l) d h = first-hit-go P x l d (P x) refl (first-hit P l d) h
+  -- what stands there passes
+  pub place-hit : (P : X → Bool) (l : List X) (d : ℕ) (z : X) → d < howMany P l → P (getD l (placeOf P l d) z) ≡ true
+  place-hit P [] d z h = absurd (omega arith)
+  place-hit P (x ∷ l) d z h = hit-go P x l z (P x) d refl (λ e k. place-hit P l e z k) h
 
-  first-only-go : (P : X → Bool) (l : List X) (i : ℕ) (z : X) (b : Bool) → bit b + howMany P l ≡ 1 → i < length l → P (getD l i z) ≡ true
-      → (howMany P l ≡ 1 → i ≡ firstPlace P l) → suc i ≡ cond b 0 (suc (firstPlace P l))
-  first-only-go P l i z true o h e ih = absurd (omega (arith, many-at P l i z h e))
-  first-only-go P l i z false o h e ih = ap suc (ih (omega arith))
+  only-go : (P : X → Bool) (l : List X) (i : ℕ) (z : X) (b : Bool) → bit b + howMany P l ≡ 1 → i < length l → P (getD l i z) ≡ true
+      → (howMany P l ≡ 1 → i ≡ placeOf P l 0) → suc i ≡ placeNext b (placeOf P l) 0
+  only-go P l i z true o h e ih = absurd (omega (arith, many-at P l i z h e))
+  only-go P l i z false o h e ih = ap suc (ih (omega arith))
 
-  -- where just one element passes, it is the first
-  pub first-only : (P : X → Bool) (l : List X) (i : ℕ) (z : X) → howMany P l ≡ 1 → i < length l → P (getD l i z) ≡ true → i ≡ firstPlace P l
-  first-only P [] i z o h e = absurd (omega arith)
-  first-only P (x ∷ l) zero z o h e = rw e
-  first-only P (x ∷ l) (suc i) z o h e =
-      first-only-go P l i z (P x) o (omega arith) e (λ c. first-only P l i z c (omega arith) e)
+  -- where just one element passes, that is its place
+  pub place-only : (P : X → Bool) (l : List X) (i : ℕ) (z : X) → howMany P l ≡ 1 → i < length l → P (getD l i z) ≡ true → i ≡ placeOf P l 0
+  place-only P [] i z o h e = absurd (omega arith)
+  place-only P (x ∷ l) zero z o h e = rw e
+  place-only P (x ∷ l) (suc i) z o h e = only-go P l i z (P x) o (omega arith) e (λ c. place-only P l i z c (omega arith) e)
+
+  -- where all pass, every place is its own
+  pub place-all : (P : X → Bool) (l : List X) (d : ℕ) → ((x : X) → x ∈ l → P x ≡ true) → d < length l → placeOf P l d ≡ d
+  place-all P [] d h k = absurd (omega arith)
+  place-all P (x ∷ l) zero h k = rw (h x (List·Memᴰ·head refl))
+  place-all P (x ∷ l) (suc d) h k = rw (h x (List·Memᴰ·head refl)) (ap suc (place-all P l d (λ y m. h y (List·Memᴰ·tail m)) (omega arith)))
 
 module _ {X Y : Type 0} where
-  pub first-map : (P : Y → Bool) (f : X → Y) (l : List X) → firstPlace P (map f l) ≡ firstPlace (λ x. P (f x)) l
-  first-map P f [] = refl
-  first-map P f (x ∷ l) = rw (first-map P f l)
+  pub place-map : (P : Y → Bool) (f : X → Y) (l : List X) (d : ℕ) → placeOf P (map f l) d ≡ placeOf (λ x. P (f x)) l d
+  place-map P f [] d = refl
+  place-map P f (x ∷ l) d = same-go (P (f x)) (placeOf P (map f l)) (placeOf (λ y. P (f y)) l) d (place-map P f l)
 
 module _ {X Y Z : Type 0} where
-  -- where a combination passes if both its parts do, the first is the combination of the first ones
-  pub first-combine : (f : X → Y → Z) (P : Z → Bool) (p : X → Bool) (q : Y → Bool) (l : List X) (r : List Y)
-      → ((x : X) → x ∈ l → (y : Y) → y ∈ r → P (f x y) ≡ p x && q y)
-      → 1 ≤ howMany p l → 1 ≤ howMany q r → firstPlace P (combine f l r) ≡ firstPlace p l * length r + firstPlace q r
-  first-combine f P p q [] r h hp hq = absurd (omega arith)
-  first-combine f P p q (x ∷ l) r h hp hq =
-      go (p x) refl hp (first-combine f P p q l r (λ z m. h z (List·Memᴰ·tail m)))
-    where
-      here : (b : Bool) → p x ≡ b → (y : Y) → y ∈ r → P (f x y) ≡ b && q y
-      here b e y m = h x (List·Memᴰ·head refl) y m ∙ ap (λ (c : Bool). c && q y) e
+  combine-go : (f : X → Y → Z) (P : Z → Bool) (p : X → Bool) (q : Y → Bool) (x : X) (l : List X) (r : List Y) (b : Bool) → p x ≡ b
+      → ((y : Y) → y ∈ r → P (f x y) ≡ b && q y)
+      → ((a e : ℕ) → a < howMany p l → e < howMany q r → placeOf P (combine f l r) (a * howMany q r + e) ≡ placeOf p l a * length r + placeOf q r e)
+      → (a e : ℕ) → a < bit b + howMany p l → e < howMany q r
+      → placeOf P (map (f x) r ++ combine f l r) (a * howMany q r + e) ≡ placeNext b (placeOf p l) a * length r + placeOf q r e
+  combine-go f P p q x l r true e h ih zero c ha hc =
+      let k : howMany P (map (f x) r) ≡ howMany q r = sum-map (f x) (λ z. bit (P z)) r ∙ many-ext (λ y. P (f x y)) q r h in
+      let z : 0 * howMany q r + c ≡ c = omega arith in
+      let w : placeOf P (map (f x) r) c ≡ placeOf q r c = place-map P (f x) r c ∙ place-ext (λ y. P (f x y)) q r h c in
+      rw z (place-left P (map (f x) r) (combine f l r) c (omega arith) ∙ w ∙ omega arith)
+  combine-go f P p q x l r true e h ih (suc a) c ha hc =
+      let k : howMany P (map (f x) r) ≡ howMany q r = sum-map (f x) (λ z. bit (P z)) r ∙ many-ext (λ y. P (f x y)) q r h in
+      let z : suc a * howMany q r + c - howMany P (map (f x) r) ≡ a * howMany q r + c = omega arith in
+      place-right P (map (f x) r) (combine f l r) (suc a * howMany q r + c) (omega arith)
+      ∙ rw z (omega (arith, ih a c (omega arith) hc, length-map r (f x)))
+  combine-go f P p q x l r false e h ih a c ha hc =
+      let k : howMany P (map (f x) r) ≡ 0 = sum-map (f x) (λ z. bit (P z)) r ∙ many-ext (λ y. P (f x y)) (λ y. false) r h ∙ many-never r in
+      let z : a * howMany q r + c - howMany P (map (f x) r) ≡ a * howMany q r + c = omega arith in
+      place-right P (map (f x) r) (combine f l r) (a * howMany q r + c) (omega arith)
+      ∙ rw z (omega (arith, ih a c (omega arith) hc, length-map r (f x)))
 
-      row : (b : Bool) → p x ≡ b → howMany P (map (f x) r) ≡ howMany (λ y. b && q y) r
-      row b e = sum-map (f x) (λ z. bit (P z)) r ∙ many-ext (λ y. P (f x y)) (λ y. b && q y) r (here b e)
+  -- where a combination passes if both its parts do: the places of the parts tell its place
+  place-combine-at : (f : X → Y → Z) (P : Z → Bool) (p : X → Bool) (q : Y → Bool) (l : List X) (r : List Y)
+      → ((x : X) → x ∈ l → (y : Y) → y ∈ r → P (f x y) ≡ p x && q y) → (a e : ℕ) → a < howMany p l → e < howMany q r
+      → placeOf P (combine f l r) (a * howMany q r + e) ≡ placeOf p l a * length r + placeOf q r e
+  place-combine-at f P p q [] r h a e ha he = absurd (omega arith)
+  place-combine-at f P p q (x ∷ l) r h a e ha he =
+      combine-go f P p q x l r (p x) refl (h x (List·Memᴰ·head refl)) (place-combine-at f P p q l r (λ z m. h z (List·Memᴰ·tail m))) a e ha he
 
-      go : (b : Bool) → p x ≡ b → 1 ≤ bit b + howMany p l
-          → (1 ≤ howMany p l → 1 ≤ howMany q r → firstPlace P (combine f l r) ≡ firstPlace p l * length r + firstPlace q r)
-          → firstPlace P (map (f x) r ++ combine f l r) ≡ cond b 0 (suc (firstPlace p l)) * length r + firstPlace q r
-      go true e hb ih =
-          let k = row true e in
-          let e₁ : firstPlace P (map (f x) r) ≡ firstPlace q r = first-map P (f x) r ∙ first-ext (λ y. P (f x y)) q r (here true e) in
-          omega (arith, first-left P (map (f x) r) (combine f l r) (omega arith))
-      go false e hb ih =
-          let k : howMany P (map (f x) r) ≡ 0 = row false e ∙ many-never r in
-          omega (arith, first-right P (map (f x) r) (combine f l r) k, length-map r (f x), ih (omega arith) hq)
+  -- the quotient chooses on the left, the remainder on the right
+  pub place-combine : (f : X → Y → Z) (P : Z → Bool) (p : X → Bool) (q : Y → Bool) (l : List X) (r : List Y)
+      → ((x : X) → x ∈ l → (y : Y) → y ∈ r → P (f x y) ≡ p x && q y) → (d : ℕ) → 0 < howMany q r → d < howMany p l * howMany q r
+      → placeOf P (combine f l r) d ≡ placeOf p l (d / howMany q r) * length r + placeOf q r (d % howMany q r)
+  place-combine f P p q l r h d hq hd =
+      ap (placeOf P (combine f l r)) (sym (div-add-mod' d (howMany q r)))
+      ∙ place-combine-at f P p q l r h (d / howMany q r) (d % howMany q r) (div-lt-iff-lt-mul hq .1 hd) (mod-lt d hq)
 
 -- ---- a list of numbers, counted by its values
 

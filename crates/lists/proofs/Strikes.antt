@@ -11,6 +11,7 @@ use lib.Seq.{ext-getD}
 use lib.ListN.{length, getD, length-map}
 use Rattle.lists.specs.Joined.{_∈_, upFrom}
 use Rattle.lists.specs.Ordered.{Pairwise, none, more}
+use Rattle.lists.specs.Searched.{bit, howMany, placeNext, placeOf}
 use Rattle.lists.specs.Struck.{keep, struck, numbered, skip}
 use Rattle.lists.proofs.Sums.{length-upFrom}
 use Rattle.lists.proofs.Places.{getD-map, getD-upFrom}
@@ -52,6 +53,17 @@ module _ {X : Type 0} where
       go true zero ih = rw (skip-zero (struck P l))
       go true (suc q) ih = rw (skip-suc q (struck P l)) (ih q)
       go false q ih = let z : leb 0 q ≡ true = leb·zero q in rw (z, skip-suc q (struck P l)) (ih q)
+
+  place-go : (P : X → Bool) (l : List X) (b : Bool) (d : ℕ) → ((e : ℕ) → e < howMany P l → placeOf P l e ≡ skip e (struck P l)) → d < bit b + howMany P l
+      → placeNext b (placeOf P l) d ≡ skip d (cond b (map suc (struck P l)) (0 ∷ map suc (struck P l)))
+  place-go P l true zero ih h = sym (skip-zero (struck P l))
+  place-go P l true (suc d) ih h = rw (skip-suc d (struck P l), ih d (omega arith))
+  place-go P l false d ih h = rw (leb·zero d, skip-suc d (struck P l), ih d (omega arith))
+
+  -- the skip of d is the place of the element that passes after d others that do
+  pub place-skip : (P : X → Bool) (l : List X) (d : ℕ) → d < howMany P l → placeOf P l d ≡ skip d (struck P l)
+  place-skip P [] d h = absurd (omega arith)
+  place-skip P (x ∷ l) d h = place-go P l (P x) d (place-skip P l) h
 
   pub skip-lt : (P : X → Bool) (l : List X) (q : ℕ) → q < length (keep P l) → skip q (struck P l) < length l
   skip-lt P [] q h = absurd (omega arith)

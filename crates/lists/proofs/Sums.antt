@@ -1,7 +1,7 @@
--- Sums and lengths over `++`, concatMap and combine. Each by induction on the list.
+-- Sums, lengths and maps over `++`, concatMap and combine. Each by induction on the list.
 -- Assumes nothing.
-use mathlib.Core.Path.{_≡_, refl}
-use mathlib.Core.List.{List, [], _∷_, _++_, map, List·Memᴰ·head, List·Memᴰ·tail}
+use mathlib.Core.Path.{_≡_, refl, sym, _∙_}
+use mathlib.Core.List.{List, [], _∷_, _++_, map, append-assoc, List·Memᴰ·head, List·Memᴰ·tail}
 use Prim.Native.Nat.{ℕ, zero, suc, _+_, _*_, _≤_}
 use native.Mathlib.Omega.{arith}
 use lib.ListN.{length, length-append, length-map}
@@ -54,6 +54,31 @@ module _ {X Y : Type 0} where
   pub length-concat : (f : X → List Y) (l : List X) → length (concatMap f l) ≡ sumOver (λ x. length (f x)) l
   length-concat f [] = refl
   length-concat f (x ∷ l) = omega (arith, length-append (f x) (concatMap f l), length-concat f l)
+
+  pub concat-append : (f : X → List Y) (a b : List X) → concatMap f (a ++ b) ≡ concatMap f a ++ concatMap f b
+  concat-append f [] b = refl
+  concat-append f (x ∷ a) b = rw (concat-append f a b) (sym (append-assoc (f x) (concatMap f a) (concatMap f b)))
+
+  pub map-append : (f : X → Y) (a b : List X) → map f (a ++ b) ≡ map f a ++ map f b
+  map-append f [] b = refl
+  map-append f (x ∷ a) b = rw (map-append f a b)
+
+-- map over lists that are made of lists
+module _ {X Y Z : Type 0} where
+  pub map-concat : (h : Y → Z) (f : X → List Y) (g : X → List Z) → ((x : X) → map h (f x) ≡ g x) → (l : List X)
+      → map h (concatMap f l) ≡ concatMap g l
+  map-concat h f g e [] = refl
+  map-concat h f g e (x ∷ l) = map-append h (f x) (concatMap f l) ∙ rw (e x, map-concat h f g e l)
+
+module _ {X Y Z X′ Y′ Z′ : Type 0} where
+  pub map-combine : (f : X → Y → Z) (g : X′ → Y′ → Z′) (a : X → X′) (b : Y → Y′) (h : Z → Z′) → ((x : X) (y : Y) → h (f x y) ≡ g (a x) (b y))
+      → (l : List X) (r : List Y) → map h (combine f l r) ≡ combine g (map a l) (map b r)
+  map-combine f g a b h e [] r = refl
+  map-combine f g a b h e (x ∷ l) r = map-append h (map (f x) r) (combine f l r) ∙ rw (row r, map-combine f g a b h e l r)
+    where
+      row : (r : List Y) → map h (map (f x) r) ≡ map (g (a x)) (map b r)
+      row [] = refl
+      row (y ∷ r) = rw (e x y, row r)
 
 module _ {X Y Z : Type 0} where
   pub length-combine : (f : X → Y → Z) (l : List X) (r : List Y) → length (combine f l r) ≡ length l * length r

@@ -2,17 +2,17 @@
 -- a bound as a loop meets it.
 -- Assumes nothing.
 use mathlib.Core.Path.{_≡_, refl, sym, ap, _∙_}
-use mathlib.Core.Bool.{Bool, true, false, _&&_, _||_, or-false}
+use mathlib.Core.Bool.{Bool, true, false, not, _&&_, _||_, or-false, false≢true}
 use mathlib.Core.List.{List, [], _∷_, List·Memᴰ·head, List·Memᴰ·tail}
 use Prim.Native.Nat.{ℕ, zero, suc, _-_, _*_, _≤_, _<_}
 use native.Mathlib.Omega.{arith}
 use native.Mathlib.Decide.{ℕ-discrete}
-use borrow.Author.Tests.{eq-eqb, ne-eqb}
-use lib.Dec.{eqb}
+use borrow.Author.Tests.{leb-true, le-leb, lt-leb, eqb-true, eq-eqb, ne-eqb, not-false}
+use lib.Dec.{leb, eqb}
 use lib.ListN.{length, getD, set}
 use lib.Seq.{getD-set-same, getD-set-other}
 use Rattle.lists.specs.Joined.{_∈_}
-use Rattle.lists.specs.Searched.{bit, someOf, someBelow, someTo}
+use Rattle.lists.specs.Searched.{within, bit, someOf, someBelow, someTo, same}
 
 pub bit-le : (b : Bool) → bit b ≤ 1
 bit-le true = omega arith
@@ -51,6 +51,22 @@ pub both-ways : (a b : Bool) → (a ≡ true → b ≡ true) → (b ≡ true →
 both-ways true b f g = sym (f refl)
 both-ways false true f g = g refl
 both-ways false false f g = refl
+
+-- ---- a number within bounds
+
+pub within-facts : (lo hi x : ℕ) → not (within lo hi x) ≡ false → (lo ≤ x) × (x ≤ hi)
+within-facts lo hi x e =
+    let t = not-false (within lo hi x) e in
+    (leb-true lo x (and-left (leb lo x) (leb x hi) t), leb-true x hi (and-right (leb lo x) (leb x hi) t))
+
+pub within-low : (lo hi x : ℕ) → x < lo → not (within lo hi x) ≡ true
+within-low lo hi x h = rw (lt-leb lo x h)
+
+pub within-high : (lo hi x : ℕ) → hi < x → not (within lo hi x) ≡ true
+within-high lo hi x h = rw (and-false (leb lo x) (leb x hi) (lt-leb x hi h))
+
+pub within-both : (lo hi x : ℕ) → lo ≤ x → x ≤ hi → not (within lo hi x) ≡ false
+within-both lo hi x h k = rw (le-leb lo x h, le-leb x hi k)
 
 -- ---- some element of a list
 
@@ -117,6 +133,21 @@ module _ (f : ℕ → Bool) where
         | no p ↦ below-at n i (or-right (f n) (someBelow f n) e) (omega arith)
       ]
 
+  pub below-clear : (n : ℕ) → ((i : ℕ) → i < n → f i ≡ false) → someBelow f n ≡ false
+  unfolding someBelow
+  below-clear zero h = refl
+  below-clear (suc n) h = rw (h n (omega arith)) (below-clear n (λ i l. h i (omega arith)))
+
+  -- one that passes is enough
+  pub below-some : (n i : ℕ) → i < n → f i ≡ true → someBelow f n ≡ true
+  unfolding someBelow
+  below-some zero i h e = absurd (omega arith)
+  below-some (suc n) i h e =
+      elim (ℕ-discrete i n) [
+        | yes p ↦ let q : f n ≡ true = rw p at e in rw q
+        | no p ↦ or-true (f n) (someBelow f n) (below-some n i (omega arith) e)
+      ]
+
   -- the same for the numbers from 1 to n
   pub to-step : (n : ℕ) → 0 < n → someTo f n ≡ (f n || someTo f (n - 1))
   unfolding someBelow
@@ -136,3 +167,22 @@ below-ext f g (suc n) h = rw (h n, below-ext f g n h)
 
 pub to-ext : (f g : ℕ → Bool) (n : ℕ) → ((i : ℕ) → f i ≡ g i) → someTo f n ≡ someTo g n
 to-ext f g n h = below-ext (λ i. f (suc i)) (λ i. g (suc i)) n (λ i. h (suc i))
+
+-- ---- the same list
+
+pub same-eq : (a b : List ℕ) → same a b ≡ true → a ≡ b
+same-eq [] [] e = refl
+same-eq [] (y ∷ b) e = absurd (false≢true e)
+same-eq (x ∷ a) [] e = absurd (false≢true e)
+same-eq (x ∷ a) (y ∷ b) e = rw (eqb-true x y (and-left (eqb x y) (same a b) e), same-eq a b (and-right (eqb x y) (same a b) e))
+
+pub same-refl : (a : List ℕ) → same a a ≡ true
+same-refl [] = refl
+same-refl (x ∷ a) = rw (eq-eqb x x refl) (same-refl a)
+
+pub to-clear : (f : ℕ → Bool) (n : ℕ) → ((i : ℕ) → 1 ≤ i → i ≤ n → f i ≡ false) → someTo f n ≡ false
+to-clear f n h = below-clear (λ i. f (suc i)) n (λ i l. h (suc i) (omega arith) (omega arith))
+
+pub to-some : (f : ℕ → Bool) (n i : ℕ) → 1 ≤ i → i ≤ n → f i ≡ true → someTo f n ≡ true
+to-some f n zero h k e = absurd (omega arith)
+to-some f n (suc i) h k e = below-some (λ j. f (suc j)) n i (omega arith) e

@@ -2,3 +2,4 @@ pub mod Joined
 pub mod Ordered
 pub mod Searched
 pub mod Struck
+pub mod Parts

@@ -1,24 +1,34 @@
--- Tests over lists and over numbers: how many elements pass, the first that does, whether some number below a bound does.
+-- Tests on numbers and over lists: whether a number is within bounds, how many elements pass, the place of one that does, whether some number below a bound does.
 -- Assumes nothing: these are definitions.
-use mathlib.Core.Bool.{Bool, true, false, cond, _||_}
+use mathlib.Core.Bool.{Bool, true, false, _&&_, _||_}
 use mathlib.Core.List.{List, [], _∷_}
 use Prim.Native.Nat.{ℕ, zero, suc}
-use lib.Dec.{eqb}
+use lib.Dec.{leb, eqb}
 use Rattle.lists.specs.Joined.{sumOver}
+
+-- x is from lo to hi
+abbrev pub within : (lo hi x : ℕ) → Bool
+within lo hi x = leb lo x && leb x hi
 
 abbrev pub bit : Bool → ℕ
 bit true = 1
 bit false = 0
+
+-- one element further: whether it passes, and the places among the others
+abbrev pub placeNext : Bool → (ℕ → ℕ) → ℕ → ℕ
+placeNext true place zero = 0
+placeNext true place (suc d) = suc (place d)
+placeNext false place d = suc (place d)
 
 module _ {X : Type 0} where
   -- how many elements pass
   abbrev pub howMany : (X → Bool) → List X → ℕ
   howMany P l = sumOver (λ x. bit (P x)) l
 
-  -- the place of the first element that passes; where none does, the length
-  abbrev pub firstPlace : (X → Bool) → List X → ℕ
-  firstPlace P [] = 0
-  firstPlace P (x ∷ l) = cond (P x) 0 (suc (firstPlace P l))
+  -- the place of the element that passes after d others that do
+  abbrev pub placeOf : (X → Bool) → List X → ℕ → ℕ
+  placeOf P [] d = 0
+  placeOf P (x ∷ l) d = placeNext (P x) (placeOf P l) d
 
   -- some element passes
   abbrev pub someOf : (X → Bool) → List X → Bool
@@ -37,3 +47,10 @@ someBelow f (suc n) = f n || someBelow f n
 -- some number from 1 to n passes
 abbrev pub someTo : (ℕ → Bool) → ℕ → Bool
 someTo f n = someBelow (λ i. f (suc i)) n
+
+-- two lists of numbers are the same
+abbrev pub same : List ℕ → List ℕ → Bool
+same [] [] = true
+same [] (y ∷ b) = false
+same (x ∷ a) [] = false
+same (x ∷ a) (y ∷ b) = eqb x y && same a b

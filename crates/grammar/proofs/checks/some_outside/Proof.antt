@@ -7,10 +7,8 @@ use Prim.Native.Nat.{ℕ, _≤_}
 use native.Mathlib.Omega.{arith}
 use denote.Ref.{now}
 use lib.ListN.{getD}
-use Rattle.lists.specs.Searched.{someTo}
-use Rattle.lists.proofs.Tests.{to-hit, to-miss, below-none}
-use Rattle.grammar.specs.Refusals.{within}
-use Rattle.grammar.proofs.Acceptance.{within-low, within-high, within-both}
+use Rattle.lists.specs.Searched.{within, someTo}
+use Rattle.lists.proofs.Tests.{within-low, within-high, within-both, to-hit, to-miss, below-none}
 use Rattle.grammar.proofs.checks.some_outside.Statement.{statement}
 use Rattle.grammar.proofs.checks.some_outside.Tie as tie
 

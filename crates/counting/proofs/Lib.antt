@@ -1,0 +1,8 @@
+-- The laws of totals, for the crates above.
+pub mod Totals
+pub mod Sentences
+pub mod Counts
+pub mod Indexing
+pub mod PairSums
+pub mod Filling
+pub mod Preparing

@@ -1,0 +1,7 @@
+pub mod Totals
+pub mod Sentences
+pub mod Tables
+pub mod Indexing
+pub mod Prepared
+pub mod Answers
+pub mod Filling
