@@ -49,6 +49,15 @@ rows-pass ((t, n) ∷ a) b h e =
     let q = row-clear n a t (ltb-true 0 n (and-left (ltb 0 n) (numbered a) h)) e in
     row-passed n (a ++ b) (q .0) ∙ rows-pass a b (and-right (ltb 0 n) (numbered a) h) (q .1)
 
+-- where nothing of two lists applies, nothing of either does
+pub rows-clear : (a b : List Row) → numbered a ≡ true → firstThatApplies (a ++ b) ≡ 0 → (firstThatApplies a ≡ 0) × (firstThatApplies b ≡ 0)
+unfolding firstThatApplies
+rows-clear [] b h e = (refl, e)
+rows-clear ((t, n) ∷ a) b h e =
+    let q = row-clear n (a ++ b) t (ltb-true 0 n (and-left (ltb 0 n) (numbered a) h)) e in
+    let r = rows-clear a b (and-right (ltb 0 n) (numbered a) h) (q .1) in
+    (row-passed n a (q .0) ∙ r .0, r .1)
+
 -- ---- what is answered
 
 pub answer-number : (n : ℕ) (figures before after : List ℕ) → answerOf n figures before after .refusal ≡ n

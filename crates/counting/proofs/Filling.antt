@@ -4,7 +4,7 @@
 -- Assumes nothing.
 use mathlib.Core.Path.{_≡_, refl, sym, ap, _∙_}
 use mathlib.Core.Bool.{Bool, true, false, not, false≢true}
-use mathlib.Core.List.{List, [], _∷_, List·Memᴰ·head, List·Memᴰ·tail}
+use mathlib.Core.List.{List}
 use Prim.Native.Nat.{ℕ, zero, suc, _+_, _*_, _-_, _≤_, _<_}
 use native.Mathlib.Omega.{arith}
 use native.Mathlib.Decide.{ℕ-discrete}
@@ -13,13 +13,12 @@ use borrow.Author.Tests.{lt-ltb, le-ltb, eq-eqb, ne-eqb, not-true, not-false}
 use lib.Dec.{ltb}
 use lib.ListN.{length, getD, set, drop, length-set}
 use lib.Seq.{drop-cons, drop-length, getD-set-same, getD-set-other}
-use Rattle.lists.specs.Joined.{_∈_, sumOver}
+use Rattle.lists.specs.Joined.{sumOver}
 use Rattle.lists.proofs.Tests.{below-clear, below-some, to-clear, to-some}
-use Rattle.grammar.specs.Layout.{nonterminals, headOf}
-use Rattle.grammar.specs.Chains.{Rule, word, pair, chain}
+use Rattle.grammar.specs.Layout.{nonterminals}
+use Rattle.grammar.specs.Chains.{chain}
 use Rattle.grammar.specs.Refusals.{Accepted}
 use Rattle.grammar.proofs.Acceptance.{known}
-use Rattle.grammar.proofs.Walks.{rest-inside}
 use Rattle.counting.specs.Totals.{T}
 use Rattle.counting.specs.Sentences.{pairsOf}
 use Rattle.counting.specs.Tables.{wordFrom, pairFrom, Indexed, cell, most, tooLarge}
@@ -27,7 +26,9 @@ use Rattle.counting.specs.Prepared.{Filled}
 use Rattle.counting.specs.Filling.{Says, partSum, Halves, RowTo, Deriving, longer, stored, rowTooLarge, RowFilled, RowFilling}
 use Rattle.counting.specs.declared.plain.Tally.{Tally}
 use Rattle.counting.specs.declared.plain.Tally.the-variants.{Fits, Over}
-use Rattle.counting.proofs.PairSums.{part-le, part-none, part-end, part-ext, pairSum, T-one, T-more}
+use Rattle.counting.proofs.Totals.{T-one}
+use Rattle.counting.proofs.Indexing.{pair-there, pair-here, pair-inside}
+use Rattle.counting.proofs.PairSums.{part-le, part-none, part-end, part-ext, pairSum, T-pairs}
 
 -- ---- the loop over a pair rule's left lengths
 
@@ -74,14 +75,6 @@ module _ {g plain : List ℕ} {m a : ℕ} (r : RowTo g plain m a) {B C : ℕ} (h
 
 -- ---- the loop over a nonterminal's pair rules
 
--- the pair rule at a place stands on the chain
-pair-∈ : (rs : List Rule) (i : ℕ) → i < length (pairsOf rs)
-    → pair (getD (pairsOf rs) i (0, 0) .0) (getD (pairsOf rs) i (0, 0) .1) ∈ rs
-pair-∈ [] i h = absurd (omega arith)
-pair-∈ (word w ∷ rs) i h = List·Memᴰ·tail (pair-∈ rs i h)
-pair-∈ (pair B C ∷ rs) zero h = List·Memᴰ·head refl
-pair-∈ (pair B C ∷ rs) (suc i) h = List·Memᴰ·tail (pair-∈ rs i (omega arith))
-
 -- before the pair rule at i of the index: the sum so far, with what the pair rules from there on add, is T(a, m)
 pub record Summing (g index : List ℕ) (a m i sum : ℕ) : Type 0 where
   pub from : pairFrom index a ≤ i
@@ -95,7 +88,7 @@ module _ {g index plain : List ℕ} {m a : ℕ} (d : Deriving g index plain m a)
       record {
         from = omega arith;
         to = omega (arith, d .indexed .pair-count a (d .inside));
-        due = rw z (omega (arith, T-more (chain g) a m (d .more)));
+        due = rw z (omega (arith, T-pairs (chain g) a m (d .more)));
       }
 
   module _ {i sum : ℕ} (w : Summing g index a m i sum) where
@@ -108,31 +101,20 @@ module _ {g index plain : List ℕ} {m a : ℕ} (d : Deriving g index plain m a)
       abbrev rule : ℕ × ℕ
       rule = getD (pairsOf (chain g a)) (i - pairFrom index a) (0, 0)
 
-      there : i - pairFrom index a < length (pairsOf (chain g a))
-      there = omega (arith, d .indexed .pair-count a (d .inside))
-
-      is-left : B ≡ rule .0
-      is-left =
-          let z : 256 + i ≡ 256 + pairFrom index a + (i - pairFrom index a) = omega arith in
-          eB ∙ rw z (d .indexed .lefts a (i - pairFrom index a) (d .inside) there)
-
-      is-right : C ≡ rule .1
-      is-right =
-          let z : 512 + i ≡ 512 + pairFrom index a + (i - pairFrom index a) = omega arith in
-          eC ∙ rw z (d .indexed .rights a (i - pairFrom index a) (d .inside) there)
+      here : rule ≡ (B, C)
+      here = pair-here (d .indexed) (d .inside) (w .from) l ∙ rw (eB, eC)
 
       inside : (B < nonterminals g) × (C < nonterminals g)
-      inside =
-          rw (is-left, is-right)
-          (rest-inside g (d .accepted) (headOf g a) (pair-∈ (chain g a) (i - pairFrom index a) there))
+      inside = rw (eB, eC) (pair-inside (d .indexed) (d .inside) (w .from) l (d .accepted))
 
       step : sum + partSum (cell plain) B C m (m - 1)
           + sumOver (pairSum (T (chain g)) m) (drop (i + 1 - pairFrom index a) (pairsOf (chain g a))) ≡ T (chain g) a m
       step =
           let z : i + 1 - pairFrom index a ≡ suc (i - pairFrom index a) = omega arith in
-          let here : partSum (cell plain) B C m (m - 1) ≡ pairSum (T (chain g)) m rule =
-          part-counts (d .table) (inside .0) (inside .1) (m - 1) (omega arith) ∙ rw (is-left, is-right) in
-          rw z (omega (arith, rw (drop-cons (pairsOf (chain g a)) (i - pairFrom index a) (0, 0) there) at (w .due), here))
+          let added : partSum (cell plain) B C m (m - 1) ≡ pairSum (T (chain g)) m rule =
+          part-counts (d .table) (inside .0) (inside .1) (m - 1) (omega arith) ∙ rw here in
+          let there = pair-there (d .indexed) (d .inside) (w .from) l in
+          rw z (omega (arith, rw (drop-cons (pairsOf (chain g a)) (i - pairFrom index a) (0, 0) there) at (w .due), added))
 
       pub summing-asks : Halves plain B C m
       summing-asks =

@@ -1,24 +1,25 @@
 -- Building the index. What is entered stands in runs, one for each kind of entry, and each store adds one entry to one run and leaves
 -- the others alone. The rules entered so far, with those that the walk still yields, are the rules of the nonterminals up to this one;
--- there are no more of them than the grammar has rules, so no run meets the next.
+-- there are no more of them than the grammar has rules, so no run meets the next. And reading it: the pair rule at a place.
 -- Assumes nothing.
 use mathlib.Core.Path.{_≡_, refl, sym, ap, _∙_}
-use mathlib.Core.List.{List, [], _∷_, _++_, append-assoc, append-nil}
+use mathlib.Core.List.{List, [], _∷_, _++_, append-assoc, append-nil, List·Memᴰ·head, List·Memᴰ·tail, List·Memᴰ·not-nil}
 use Prim.Native.Nat.{ℕ, suc, _+_, _-_, _≤_, _<_}
 use native.Mathlib.Omega.{arith}
 use native.Mathlib.Decide.{ℕ-discrete}
 use lib.ListN.{length, getD, set, length-set, length-append}
 use lib.Seq.{getD-set-same, getD-set-other, getD-append-add, getD-append-seam}
-use Rattle.lists.specs.Joined.{concatMap, upFrom}
+use Rattle.lists.specs.Joined.{_∈_, concatMap, upFrom}
+use Rattle.lists.proofs.Members.{getD-∈}
 use Rattle.lists.proofs.Sums.{concat-append}
 use Rattle.lists.proofs.Places.{getD-left, upFrom-split}
-use Rattle.grammar.specs.Layout.{nonterminals}
+use Rattle.grammar.specs.Layout.{nonterminals, headOf}
 use Rattle.grammar.specs.Chains.{Rule, word, pair, rest, chain}
 use Rattle.grammar.specs.Refusals.{Accepted}
 use Rattle.grammar.specs.Steps.{yielded}
 use Rattle.grammar.specs.declared.cursor.Step.{Step}
 use Rattle.grammar.proofs.Acceptance.{known}
-use Rattle.grammar.proofs.Walks.{chains-few}
+use Rattle.grammar.proofs.Walks.{chains-few, rest-inside}
 use Rattle.counting.specs.Sentences.{wordsOf, pairsOf}
 use Rattle.counting.specs.Tables.{wordFrom, pairFrom, Indexed}
 use Rattle.counting.specs.Indexing.{before, Run, Entered, Entering}
@@ -277,3 +278,32 @@ build-end {g} {index} {n} ok inside e =
 
     pairs-of : (a : ℕ) → a < n → Part (pairsOf (before g n)) (pairsOf (before g a)) (pairsOf (chain g a))
     pairs-of a h = kind-part pairsOf pairs-append g a n h
+
+-- ---- reading it
+
+pairs-∈ : {x : ℕ × ℕ} (rs : List Rule) → x ∈ pairsOf rs → pair (x .0) (x .1) ∈ rs
+pairs-∈ [] i = absurd (List·Memᴰ·not-nil i)
+pairs-∈ (word w ∷ rs) i = List·Memᴰ·tail (pairs-∈ rs i)
+pairs-∈ (pair B C ∷ rs) (List·Memᴰ·head e) = List·Memᴰ·head (ap (λ (x : ℕ × ℕ). pair (x .0) (x .1)) e)
+pairs-∈ (pair B C ∷ rs) (List·Memᴰ·tail i) = List·Memᴰ·tail (pairs-∈ rs i)
+
+-- the pair rule at the place i, among those of a
+module _ {g index : List ℕ} {n a i : ℕ} (x : Indexed g index n) (inside : a < n) (from : pairFrom index a ≤ i) (to : i < pairFrom index (a + 1)) where
+  abbrev at : ℕ
+  at = i - pairFrom index a
+
+  pub pair-there : at < length (pairsOf (chain g a))
+  pair-there = omega (arith, x .pair-count a inside)
+
+  pub pair-here : getD (pairsOf (chain g a)) at (0, 0) ≡ (getD index (256 + i) 0, getD index (512 + i) 0)
+  pair-here =
+      let el : 256 + pairFrom index a + at ≡ 256 + i = omega arith in
+      let er : 512 + pairFrom index a + at ≡ 512 + i = omega arith in
+      let l = rw el at (x .lefts a at inside pair-there) in
+      let r = rw er at (x .rights a at inside pair-there) in
+      rw (l, r)
+
+  -- its nonterminals are the grammar's
+  pub pair-inside : Accepted g → (getD index (256 + i) 0 < nonterminals g) × (getD index (512 + i) 0 < nonterminals g)
+  pair-inside ok =
+      rest-inside g ok (headOf g a) (rw pair-here at (pairs-∈ (chain g a) (getD-∈ (pairsOf (chain g a)) at (0, 0) pair-there)))

@@ -3,6 +3,7 @@ pub mod Totals
 pub mod Sentences
 pub mod Counts
 pub mod Indexing
+pub mod OneLength
 pub mod PairSums
 pub mod Filling
 pub mod Preparing

@@ -1,6 +1,5 @@
 -- What a pair rule has added after a left length: the sum of its products for the left lengths up to there (001, formula 4a). With the
--- products for the later ones it comes to all that the rule adds; and T is the sum of what the pair rules add, for T doesn't mind the
--- position of the first word.
+-- products for the later ones it comes to all that the rule adds; and T is the sum of what the pair rules add.
 -- Assumes nothing.
 use mathlib.Core.Path.{_≡_, refl, sym, _∙_}
 use mathlib.Core.List.{List}
@@ -8,15 +7,14 @@ use Prim.Native.Nat.{ℕ, zero, suc, _+_, _*_, _-_, _/_, _≤_, _<_}
 use native.Mathlib.Omega.{arith}
 use native.Mathlib.Nat.{mul-le-mul, le-div-iff-mul-le, div-lt-iff-lt-mul}
 use native.Mathlib.Numerals.{add-one}
-use lib.ListN.{length}
 use Rattle.lists.specs.Joined.{sumOver}
-use Rattle.lists.proofs.Sums.{sum-ext, sum-one}
-use Rattle.grammar.specs.Chains.{Rule, word, pair}
-use Rattle.counting.specs.Totals.{splitSum, ruleTotal, total, T}
-use Rattle.counting.specs.Sentences.{wordsOf, pairsOf}
+use Rattle.lists.proofs.Sums.{sum-ext}
+use Rattle.grammar.specs.Chains.{Rule}
+use Rattle.counting.specs.Totals.{splitSum, T}
+use Rattle.counting.specs.Sentences.{pairsOf}
 use Rattle.counting.specs.Tables.{most}
 use Rattle.counting.specs.Filling.{partSum}
-use Rattle.counting.proofs.Totals.{pairTotal, total-eq, total-one, total-more, split-step, split-end, split-dead, split-skip}
+use Rattle.counting.proofs.Totals.{pairTotal, T-more, split-step, split-end, split-dead, split-skip}
 
 -- ---- a product more
 
@@ -75,49 +73,8 @@ pairSum count m x = partSum count (x .0) (x .1) m (m - 1)
 
 -- ---- T as a sum of products
 
--- a sum of products of counts that don't mind the position
-split-flat : (f : ℕ → ℕ → ℕ → ℕ) (B C p k j : ℕ) → 1 ≤ k → ((q A i : ℕ) → i < k + j → f q A i ≡ f 0 A i)
-    → splitSum f B C p k j ≡ splitSum (λ q. f 0) B C 0 k j
-split-flat f B C p k zero h e = refl
-split-flat f B C p k (suc j) h e =
-    rw (e p B k (omega arith), e (p + k) C (suc j) (omega arith), split-flat f B C p (suc k) j (omega arith) (λ q A i u. e q A i (omega arith)))
-
--- every word counts for 1
-abbrev one : ℕ → ℕ → ℕ
-one p w = 1
-
-rule-flat : (f : ℕ → ℕ → ℕ → ℕ) (p m : ℕ) (r : Rule) → ((q A i : ℕ) → i < m → f q A i ≡ f 0 A i)
-    → ruleTotal one f p m r ≡ ruleTotal one (λ q. f 0) 0 m r
-rule-flat f p m (word w) e = refl
-rule-flat f p zero (pair B C) e = refl
-rule-flat f p (suc m) (pair B C) e = split-flat f B C p 1 (suc m - 1) (omega arith) (λ q A i u. e q A i (omega arith))
-
--- where every word counts for 1, the position of the first doesn't matter
-module _ (chain : ℕ → List Rule) where
-  flat-by : (p A m : ℕ) → ((q B k : ℕ) → k < m → total chain one q B k ≡ T chain B k)
-      → total chain one p A m ≡ sumOver (ruleTotal one (λ q. T chain) 0 m) (chain A)
-  flat-by p A m e =
-      total-eq chain one p A m
-      ∙ sum-ext (ruleTotal one (total chain one) p m) (ruleTotal one (λ q. T chain) 0 m) (chain A)
-      (λ r i. rule-flat (total chain one) p m r e)
-
-  flat-below : (n p A m : ℕ) → m < n → total chain one p A m ≡ T chain A m
-  flat-below zero p A m h = absurd (omega arith)
-  flat-below (suc n) p A m h =
-      flat-by p A m (λ q B k u. flat-below n q B k (omega arith)) ∙ sym (flat-by 0 A m (λ q B k u. flat-below n q B k (omega arith)))
-
-  total-flat : (p A m : ℕ) → total chain one p A m ≡ T chain A m
-  total-flat p A m = flat-below (suc m) p A m (omega arith)
-
-  pair-adds : (B C m : ℕ) → 1 ≤ m → partSum (T chain) B C m (m - 1) ≡ pairTotal (total chain one) 0 m (B, C)
-  pair-adds B C m h =
-      part-all (T chain) B C m h ∙ sym (split-flat (total chain one) B C 0 1 (m - 1) (omega arith) (λ q A i u. total-flat q A i))
-
-  -- T of length 1 is the number of word rules; of a greater length, what the pair rules add together
-  pub T-one : (A : ℕ) → T chain A 1 ≡ length (wordsOf (chain A))
-  T-one A = total-one chain one 0 A ∙ sum-one (wordsOf (chain A))
-
-  pub T-more : (A m : ℕ) → 2 ≤ m → T chain A m ≡ sumOver (pairSum (T chain) m) (pairsOf (chain A))
-  T-more A m h =
-      total-more chain one 0 A m h
-      ∙ sum-ext (pairTotal (total chain one) 0 m) (pairSum (T chain) m) (pairsOf (chain A)) (λ x i. sym (pair-adds (x .0) (x .1) m (omega arith)))
+-- T of a length of 2 or more is what the pair rules add together
+pub T-pairs : (chain : ℕ → List Rule) (A m : ℕ) → 2 ≤ m → T chain A m ≡ sumOver (pairSum (T chain) m) (pairsOf (chain A))
+T-pairs chain A m h =
+    T-more chain A m h
+    ∙ sum-ext (pairTotal (λ q. T chain) 0 m) (pairSum (T chain) m) (pairsOf (chain A)) (λ x i. sym (part-all (T chain) (x .0) (x .1) m (omega arith)))

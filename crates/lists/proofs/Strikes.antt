@@ -1,7 +1,7 @@
 -- The struck places, the skip over them, and the list of what a skip finds: the kept elements, each with its place.
 -- Assumes nothing.
 use mathlib.Core.Path.{_≡_, refl, sym, ap, _∙_}
-use mathlib.Core.Logic.{inl, inr, _↔_}
+use mathlib.Core.Logic.{inl, inr, _↔_, _≢_}
 use mathlib.Core.Bool.{Bool, true, false, cond}
 use mathlib.Core.List.{List, [], _∷_, map, List·Memᴰ·head, List·Memᴰ·tail, List·Memᴰ·not-nil, List·Memᴰ·cases-cons, Memᴰ·map, Memᴰ·of-map}
 use Prim.Native.Nat.{ℕ, zero, suc, _+_, _-_, _<_}
@@ -10,7 +10,7 @@ use lib.Dec.{leb, leb·zero, leb·suc-suc, leb·suc-zero}
 use lib.Seq.{ext-getD}
 use lib.ListN.{length, getD, length-map}
 use Rattle.lists.specs.Joined.{_∈_, upFrom}
-use Rattle.lists.specs.Ordered.{Pairwise, none, more}
+use Rattle.lists.specs.Ordered.{Pairwise, none, more, Distinct, Exactly}
 use Rattle.lists.specs.Searched.{bit, howMany, placeNext, placeOf}
 use Rattle.lists.specs.Struck.{keep, struck, numbered, skip}
 use Rattle.lists.proofs.Sums.{length-upFrom}
@@ -42,6 +42,51 @@ module _ {X : Type 0} where
           → length (cond b (x ∷ keep P l) (keep P l)) + length (cond b (map suc (struck P l)) (0 ∷ map suc (struck P l))) ≡ suc (length l)
       go true e = omega (arith, length-map (struck P l) suc)
       go false e = omega (arith, length-map (struck P l) suc)
+
+  -- the kept elements are those that pass, in the order that they had
+  pub keep-many : (P : X → Bool) (l : List X) → length (keep P l) ≡ howMany P l
+  keep-many P [] = refl
+  keep-many P (x ∷ l) = go (P x) (keep-many P l)
+    where
+      go : (b : Bool) → length (keep P l) ≡ howMany P l → length (cond b (x ∷ keep P l) (keep P l)) ≡ bit b + howMany P l
+      go true e = omega arith
+      go false e = omega arith
+
+  keep-∈ : (P : X → Bool) (l : List X) (u : X) → u ∈ keep P l → (u ∈ l) × (P u ≡ true)
+  keep-∈ P [] u m = absurd (List·Memᴰ·not-nil m)
+  keep-∈ P (x ∷ l) u m = go (P x) refl (λ n. keep-∈ P l u n) m
+    where
+      go : (b : Bool) → P x ≡ b → (u ∈ keep P l → (u ∈ l) × (P u ≡ true)) → u ∈ cond b (x ∷ keep P l) (keep P l) → (u ∈ (x ∷ l)) × (P u ≡ true)
+      go true e ih (List·Memᴰ·head q) = (List·Memᴰ·head q, ap P q ∙ e)
+      go true e ih (List·Memᴰ·tail n) = let r = ih n in (List·Memᴰ·tail (r .0), r .1)
+      go false e ih n = let r = ih n in (List·Memᴰ·tail (r .0), r .1)
+
+  ∈-keep : (P : X → Bool) (l : List X) (u : X) → u ∈ l → P u ≡ true → u ∈ keep P l
+  ∈-keep P [] u m t = absurd (List·Memᴰ·not-nil m)
+  ∈-keep P (x ∷ l) u (List·Memᴰ·head q) t = rw (sym (ap P q) ∙ t) (List·Memᴰ·head q)
+  ∈-keep P (x ∷ l) u (List·Memᴰ·tail n) t = go (P x) (∈-keep P l u n t)
+    where
+      go : (b : Bool) → u ∈ keep P l → u ∈ cond b (x ∷ keep P l) (keep P l)
+      go true k = List·Memᴰ·tail k
+      go false k = k
+
+  keep-pairwise : (R : X → X → Type 0) (P : X → Bool) (l : List X) → Pairwise R l → Pairwise R (keep P l)
+  keep-pairwise R P [] s = s
+  keep-pairwise R P (x ∷ l) (more f s) = go (P x) (keep-pairwise R P l s)
+    where
+      go : (b : Bool) → Pairwise R (keep P l) → Pairwise R (cond b (x ∷ keep P l) (keep P l))
+      go true k = more (λ y m. f y (keep-∈ P l y m .0)) k
+      go false k = k
+
+  -- as many things of a list without repetition pass as are counted
+  pub exactly-many : (P : X → Bool) (l : List X) → Distinct l → Exactly (howMany P l) (λ u. (u ∈ l) × (P u ≡ true))
+  exactly-many P l s =
+      record {
+        listed = keep P l;
+        many = keep-many P l;
+        once = keep-pairwise _≢_ P l s;
+        all = λ u. (λ q. ∈-keep P l u (q .0) (q .1), keep-∈ P l u);
+      }
 
   -- entry q of what is kept is the whole list's entry at the skip of q
   pub keep-at : (P : X → Bool) (l : List X) (q : ℕ) (d : X) → getD (keep P l) q d ≡ getD l (skip q (struck P l)) d

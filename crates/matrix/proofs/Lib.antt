@@ -1,2 +1,3 @@
 -- The theorems of the table, for the crates above.
 pub mod Rules
+pub mod Counts
