@@ -25,6 +25,11 @@ split-ext f g B C p k zero h e = refl
 split-ext f g B C p k (suc j) h e =
     rw (e p B k h (omega arith), e (p + k) C (suc j) (omega arith) (omega arith), split-ext f g B C p (suc k) j (omega arith) (λ q A i l u. e q A i l (omega arith)))
 
+-- halves that are equal from p on make equal products
+split-from : (f g : ℕ → ℕ → ℕ → ℕ) (B C p k j : ℕ) → ((q A i : ℕ) → p ≤ q → f q A i ≡ g q A i) → splitSum f B C p k j ≡ splitSum g B C p k j
+split-from f g B C p k zero e = refl
+split-from f g B C p k (suc j) e = rw (e p B k (omega arith), e (p + k) C (suc j) (omega arith), split-from f g B C p (suc k) j e)
+
 -- one left length more, as a loop that counts up to m meets it
 pub split-step : (f : ℕ → ℕ → ℕ → ℕ) (B C p k m : ℕ) → k < m
     → splitSum f B C p k (m - k) ≡ f p B k * f (p + k) C (m - k) + splitSum f B C p (k + 1) (m - (k + 1))
@@ -66,6 +71,11 @@ rule-ext : (v : ℕ → ℕ → ℕ) (f g : ℕ → ℕ → ℕ → ℕ) (p m : 
 rule-ext v f g p m (word w) e = refl
 rule-ext v f g p zero (pair B C) e = refl
 rule-ext v f g p (suc m) (pair B C) e = split-ext f g B C p 1 (suc m - 1) (omega arith) (λ q A i l u. e q A i l (omega arith))
+
+rule-from : (v u : ℕ → ℕ → ℕ) (f g : ℕ → ℕ → ℕ → ℕ) (p m : ℕ) (r : Rule) → ((w : ℕ) → v p w ≡ u p w) → ((q A i : ℕ) → p ≤ q → f q A i ≡ g q A i)
+    → ruleTotal v f p m r ≡ ruleTotal u g p m r
+rule-from v u f g p m (word w) h e = rw (h w)
+rule-from v u f g p m (pair B C) h e = split-from f g B C p 1 (m - 1) e
 
 -- what a pair rule adds
 abbrev pub pairTotal : (f : ℕ → ℕ → ℕ → ℕ) (p m : ℕ) → ℕ × ℕ → ℕ
@@ -137,6 +147,21 @@ module _ (chain : ℕ → List Rule) where
   unfolding total
   T-anywhere p A m =
       omega (arith, le-below (λ q w. 1) (λ q w. omega arith) (suc m) p 0 A m, le-below (λ q w. 1) (λ q w. omega arith) (suc m) 0 p A m)
+
+  -- ---- weights that are equal from p on
+
+  ext-below : (v u : ℕ → ℕ → ℕ) (n p A m : ℕ) → ((q w : ℕ) → p ≤ q → v q w ≡ u q w) → totalTo chain v n p A m ≡ totalTo chain u n p A m
+  unfolding totalTo
+  ext-below v u zero p A m e = refl
+  ext-below v u (suc n) p A m e =
+      sum-ext (ruleTotal v (totalTo chain v n) p m) (ruleTotal u (totalTo chain u n) p m) (chain A)
+      (λ r i. rule-from v u (totalTo chain v n) (totalTo chain u n) p m r (λ w. e p w (omega arith))
+      (λ q D k h. ext-below v u n q D k (λ x w l. e x w (omega arith))))
+
+  -- make equal totals at p
+  pub total-ext : (v u : ℕ → ℕ → ℕ) (p A m : ℕ) → ((q w : ℕ) → p ≤ q → v q w ≡ u q w) → total chain v p A m ≡ total chain u p A m
+  unfolding total
+  total-ext v u p A m e = ext-below v u (suc m) p A m e
 
   -- T by its rules
   pub T-one : (A : ℕ) → T chain A 1 ≡ length (wordsOf (chain A))
