@@ -1,6 +1,6 @@
 -- Which line of a list of refusals applies, where the list is one list after another; and what is answered then.
 -- Assumes nothing.
-use mathlib.Core.Path.{_≡_, refl, ap, _∙_}
+use mathlib.Core.Path.{_≡_, refl, _∙_}
 use mathlib.Core.Bool.{Bool, true, false, _&&_}
 use mathlib.Core.List.{List, [], _∷_, _++_}
 use Prim.Native.Nat.{ℕ, zero, suc, _<_}
@@ -8,7 +8,7 @@ use native.Mathlib.Omega.{arith}
 use borrow.Author.Tests.{ltb-true}
 use lib.Dec.{ltb}
 use Rattle.lists.proofs.Tests.{and-left, and-right}
-use Rattle.answers.specs.Answer.{Row, firstThatApplies, Answer, zeros, answerOf}
+use Rattle.answers.specs.Answer.{Row, firstThatApplies, zeros, answerOf}
 
 -- ---- line by line
 

@@ -10,7 +10,7 @@ use Rattle.lists.specs.Joined.{_∈_, concatMap, combine}
 use Rattle.lists.proofs.Sums.{map-concat, map-combine, concat-append}
 use Rattle.grammar.specs.Chains.{Rule, word, pair}
 use Rattle.grammar.specs.Trees.{Tree, leaf, node, size, sentence}
-use Rattle.grammar.specs.FullList.{Choice, one, two, splits, ruleChoices, choicesFrom, expand, choices, trees}
+use Rattle.grammar.specs.FullList.{Choice, one, two, splits, choicesFrom, expand, choices, trees}
 use Rattle.grammar.proofs.Enumeration.{trees-eq, sound, derives-size}
 use Rattle.counting.specs.Sentences.{sentences, wordsOf, pairsOf, splitList}
 

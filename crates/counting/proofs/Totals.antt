@@ -1,7 +1,7 @@
 -- Totals by the rules of a chain: of length 1 by its word rules, of a greater length by its pair rules. The depth of the definition is
 -- met here and nowhere else.
 -- Assumes nothing.
-use mathlib.Core.Path.{_≡_, refl, sym, ap, _∙_}
+use mathlib.Core.Path.{_≡_, refl, _∙_}
 use mathlib.Core.Bool.{Bool, true, false, cond}
 use mathlib.Core.List.{List, [], _∷_}
 use Prim.Native.Nat.{ℕ, zero, suc, _+_, _*_, _-_, _≤_, _<_}
@@ -10,7 +10,7 @@ use native.Mathlib.Nat.{mul-le-mul}
 use native.Mathlib.Numerals.{add-one}
 use borrow.Author.Tests.{ne-eqb}
 use lib.Dec.{eqb}
-use Rattle.lists.specs.Joined.{_∈_, sumOver}
+use Rattle.lists.specs.Joined.{sumOver}
 use Rattle.lists.proofs.Sums.{sum-ext, sum-le, sum-one}
 use lib.ListN.{length}
 use Rattle.grammar.specs.Chains.{Rule, word, pair}

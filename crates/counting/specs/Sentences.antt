@@ -2,7 +2,7 @@
 -- Assumes nothing: these are definitions.
 use mathlib.Core.List.{List, [], _∷_, _++_, map}
 use Prim.Native.Nat.{ℕ, zero, suc, _*_}
-use Rattle.lists.specs.Joined.{concatMap, combine}
+use Rattle.lists.specs.Joined.{combine}
 use Rattle.grammar.specs.Chains.{Rule, word, pair}
 use Rattle.grammar.specs.Trees.{sentence}
 use Rattle.grammar.specs.FullList.{trees}

@@ -3,26 +3,20 @@
 -- The argument: R rules, none of them met twice, make walks of at most R steps, so none of the R + 1 allowed is missing.
 -- Assumes nothing.
 use mathlib.Core.Path.{_≡_, refl, sym, ap, _∙_}
-use mathlib.Core.Logic.{_⊎_, inl, inr}
-use mathlib.Core.Bool.{Bool, true, false, cond, _&&_}
+use mathlib.Core.Logic.{inl, inr}
 use mathlib.Core.List.{List, [], _∷_, _++_, map, List·Memᴰ·head, List·Memᴰ·tail, List·Memᴰ·not-nil, Memᴰ·of-map}
 use Prim.Native.Nat.{ℕ, zero, suc, _+_, _-_, _≤_, _<_}
 use native.Mathlib.Omega.{arith}
-use native.Mathlib.Numerals.{add-one}
-use native.Mathlib.Decide.{decLe}
 use lib.ListN.{length, length-map}
-use lib.Dec.{leb, eqb}
-use borrow.Author.Tests.{leb-true, le-leb, lt-leb, eq-eqb}
+use borrow.Author.Tests.{eq-eqb}
 use Rattle.lists.specs.Joined.{_∈_, sumOver, concatMap, upFrom}
 use Rattle.lists.specs.Ordered.{Distinct}
-use Rattle.lists.specs.Searched.{times}
 use Rattle.lists.proofs.Sums.{sum-append, sum-ext, length-concat}
 use Rattle.lists.proofs.Places.{upFrom-split}
-use Rattle.lists.proofs.Members.{∈-concat, concat-∈, upFrom-∈, ∈-upFrom}
+use Rattle.lists.proofs.Members.{concat-∈, upFrom-∈, ∈-upFrom}
 use Rattle.lists.proofs.Searches.{times-few, ∈-times, times-distinct, times-concat}
-use Rattle.lists.proofs.Tests.{and-left, and-right}
 use Rattle.grammar.specs.Layout.{nonterminals, words, rules, headOf, kindOf, aOf, bOf, nextOf}
-use Rattle.grammar.specs.Chains.{Rule, word, pair, ruleOf, isRule, metFrom, chainNumbers, met, rest, chain, Walk, ends, goes}
+use Rattle.grammar.specs.Chains.{Rule, word, pair, ruleOf, metFrom, chainNumbers, met, rest, chain, Walk, ends, goes}
 use Rattle.grammar.specs.Refusals.{Accepted}
 use Rattle.grammar.proofs.Acceptance.{Known, known, fits-cases}
 use Rattle.grammar.proofs.Bounded.{met-zero, met-above, met-more, place, at-rule, at-end, met-rules, met-short}

@@ -1,14 +1,13 @@
 -- The table's acceptance and its chain rule, each by one computation over the whole table.
 -- Assumes nothing.
 use mathlib.Core.Path.{_≡_, refl}
-use mathlib.Core.List.{List, [], _∷_, _++_, map}
-use Prim.Native.Nat.{ℕ}
+use mathlib.Core.List.{[], _∷_, map}
 use lib.ListN.{length}
 use Rattle.lists.specs.Joined.{upFrom}
 use Rattle.answers.specs.Answer.{firstThatApplies}
 use Rattle.answers.proofs.Refusals.{answer-accepted}
 use Rattle.lists.specs.Searched.{someBelow}
-use Rattle.grammar.specs.Chains.{Rule, word, pair, ruleOf, metFrom, chainNumbers}
+use Rattle.grammar.specs.Chains.{word, pair, ruleOf, metFrom, chainNumbers}
 use Rattle.grammar.specs.Refusals.{tooShort, outOfRange, wrongSize, fits, badRule, badLink, metTwice, onNoChain, twins, repeated, Accepted}
 use Rattle.grammar.specs.Answers.{checkGrammar}
 use Rattle.matrix.specs.Table.{table, accepted}

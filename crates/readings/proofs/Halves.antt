@@ -1,7 +1,7 @@
 -- What a pair rule adds, left length after left length: what those passed add, with what those ahead add, comes to all of it. The left
 -- lengths before the first and past the last leave a half without a derivation, so they add nothing.
 -- Assumes nothing.
-use mathlib.Core.Path.{_≡_, refl, sym, ap, _∙_}
+use mathlib.Core.Path.{_≡_, refl, sym, _∙_}
 use mathlib.Core.List.{List}
 use Prim.Native.Nat.{ℕ, _+_, _*_, _-_, _≤_, _<_}
 use native.Mathlib.Omega.{arith}

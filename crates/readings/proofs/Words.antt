@@ -1,17 +1,16 @@
 -- The word rules of a nonterminal whose word is x: how many are counted so far, with those ahead, come to all of them.
 -- Assumes nothing.
-use mathlib.Core.Path.{_≡_, sym, ap, _∙_}
+use mathlib.Core.Path.{_≡_, sym, _∙_}
 use mathlib.Core.List.{List}
 use Prim.Native.Nat.{ℕ, _+_, _-_, _≤_, _<_}
 use native.Mathlib.Omega.{arith}
 use borrow.Author.Tests.{ne-eqb}
 use lib.Dec.{eqb}
-use lib.ListN.{length, getD, drop, drop-of-length-le}
+use lib.ListN.{getD, drop, drop-of-length-le}
 use Rattle.lists.specs.Joined.{sumOver}
 use Rattle.lists.specs.Searched.{bit, times}
 use Rattle.lists.proofs.Places.{drop-next}
 use Rattle.lists.proofs.Sums.{sum-one}
-use Rattle.grammar.specs.Layout.{nonterminals}
 use Rattle.grammar.specs.Chains.{chain}
 use Rattle.counting.specs.Sentences.{wordsOf}
 use Rattle.counting.specs.Tables.{wordFrom, Rows, cell}

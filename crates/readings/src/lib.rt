@@ -6,7 +6,6 @@ ghost use lib.Dec.{eqb};
 ghost use lib.ListN.{length};
 ghost use Rattle.lists.specs.Joined.{sumOver};
 ghost use Rattle.lists.specs.Searched.{bit, times};
-ghost use Rattle.grammar.specs.Layout.{nonterminals};
 ghost use Rattle.grammar.specs.Chains.{chain};
 ghost use Rattle.counting.specs.Totals.{splitSum, total};
 ghost use Rattle.counting.specs.Sentences.{wordsOf};

@@ -1,6 +1,6 @@
 -- `byte_at` meets its contract: within the pattern its byte, past the end the blank.
 -- Assumes nothing.
-use mathlib.Core.Path.{_≡_, sym}
+use mathlib.Core.Path.{sym}
 use denote.Ref.{now}
 use lib.ListN.{List·getD-eq-default}
 use Rattle.lists.proofs.Places.{getD-within}

@@ -4,15 +4,12 @@
 use mathlib.Core.Path.{_≡_, sym, _∙_}
 use mathlib.Core.Bool.{false}
 use mathlib.Core.List.{List}
-use Prim.Native.Nat.{ℕ, _≤_}
+use Prim.Native.Nat.{ℕ}
 use native.Mathlib.Omega.{arith}
 use denote.Ref.{now}
 use lib.Dec.{lit<}
-use lib.ListN.{getD}
 use Rattle.answers.proofs.Refusals.{row-applies, row-passed}
-use Rattle.lists.specs.Searched.{someBelow}
-use Rattle.grammar.specs.Layout.{nonterminals}
-use Rattle.grammar.specs.Refusals.{headAbove, badRule}
+use Rattle.grammar.specs.Refusals.{badRule}
 use Rattle.grammar.specs.Checks.{Sized}
 use Rattle.grammar.proofs.Acceptance.{Ranges, range-facts}
 use Rattle.grammar.proofs.Outcome.{Passed, refused, accepted, short, long, size-wrong, size-right, link-head, link-next, links-right, twice, missed}

@@ -1,0 +1,77 @@
+-- What *Give* and *Number* answer, and the paper's number and figures of each case of the answers.
+-- Assumes nothing: these are definitions.
+use mathlib.Core.Bool.{Bool}
+use mathlib.Core.List.{List, [], _∷_, _++_}
+use Prim.Native.Nat.{ℕ}
+use lib.ListN.{length, getD, drop}
+use lib.Dec.{ltb, leb, eqb}
+use Rattle.lists.specs.Searched.{howMany, placeOf, same}
+use Rattle.answers.specs.Answer.{Row, Answer, answer}
+use Rattle.grammar.specs.Layout.{start}
+use Rattle.grammar.specs.Chains.{chain}
+use Rattle.grammar.specs.Trees.{Tree, leaf, sentence}
+use Rattle.grammar.specs.FullList.{trees}
+use Rattle.counting.specs.Totals.{T}
+use Rattle.counting.specs.Prepared.{preparedRows, countNumber}
+use Rattle.ranking.specs.declared.unrank.UnrankAnswer.{UnrankAnswer}
+use Rattle.ranking.specs.declared.unrank.UnrankAnswer.the-variants.{Given, NotGiven, Beyond, Short}
+use Rattle.ranking.specs.declared.rank.RankAnswer.{RankAnswer}
+use Rattle.ranking.specs.declared.rank.RankAnswer.the-variants.{Ranked, NotRanked, Underivable, Ambiguous}
+
+-- the full list of the start symbol and a length
+abbrev pub fullList : List ℕ → ℕ → List Tree
+fullList g n = trees (chain g) (start g) n
+
+-- T(S, n)
+abbrev pub totalOf : List ℕ → ℕ → ℕ
+totalOf g n = T (chain g) (start g) n
+
+-- ---- *Give*
+
+-- the paper's number, figure and bytes of each case
+abbrev pub unrankSaid : UnrankAnswer → List ℕ → Answer
+unrankSaid (Given t) out = record { refusal = 0; figures = t ∷ []; buffer = out }
+unrankSaid (NotGiven r) out = record { refusal = countNumber r; figures = 0 ∷ []; buffer = out }
+unrankSaid Beyond out = record { refusal = 16; figures = 0 ∷ []; buffer = out }
+unrankSaid Short out = record { refusal = 20; figures = 0 ∷ []; buffer = out }
+
+-- the sentence with derivation number d: that of the full list's entry d
+abbrev pub entryOf : List ℕ → ℕ → ℕ → List ℕ
+entryOf g n d = sentence (getD (fullList g n) d (leaf 0 0))
+
+-- "16. The number is T or more (*Give*)", "20. The sentence buffer is shorter than the length (*Give*, *Draw*)."
+abbrev pub unrankRows : (g : List ℕ) (n d : ℕ) (out : List ℕ) → List Row
+unrankRows g n d out = preparedRows g n ++ ((leb (totalOf g n) d, 16) ∷ (ltb (length out) n, 20) ∷ [])
+
+-- "*Give* (bank, length, derivation number, buffer) writes that sentence into the buffer's first bytes and gives T."
+unfoldable pub unrankOf : (g : List ℕ) (n d : ℕ) (out : List ℕ) → Answer
+unrankOf g n d out = answer (unrankRows g n d out) (totalOf g n ∷ []) out (entryOf g n d ++ drop n out)
+
+-- ---- *Number*
+
+-- the paper's number and figures of each case
+abbrev pub rankSaid : RankAnswer → Answer
+rankSaid (Ranked d t) = record { refusal = 0; figures = d .0 ∷ t ∷ []; buffer = [] }
+rankSaid (NotRanked r) = record { refusal = countNumber r; figures = 0 ∷ 0 ∷ []; buffer = [] }
+rankSaid Underivable = record { refusal = 17; figures = 0 ∷ 0 ∷ []; buffer = [] }
+rankSaid Ambiguous = record { refusal = 18; figures = 0 ∷ 0 ∷ []; buffer = [] }
+
+-- the derivation has the sentence s
+abbrev pub derives : List ℕ → Tree → Bool
+derives s t = same (sentence t) s
+
+-- how many derivations of S the sentence has
+abbrev pub readingsOf : (g s : List ℕ) → ℕ
+readingsOf g s = howMany (derives s) (fullList g (length s))
+
+-- how many derivations stand before the sentence's first one: the derivation number of its one derivation
+abbrev pub numberOf : (g s : List ℕ) → ℕ
+numberOf g s = placeOf (derives s) (fullList g (length s)) 0
+
+-- "17. The sentence has no derivation from S (*Number*)." "18. The sentence has two or more derivations from S (*Number*)."
+abbrev pub rankRows : (g s : List ℕ) → List Row
+rankRows g s = preparedRows g (length s) ++ ((eqb (readingsOf g s) 0, 17) ∷ (leb 2 (readingsOf g s), 18) ∷ [])
+
+-- "*Number* (bank, sentence) gives its derivation number and T."
+unfoldable pub rankOf : (g s : List ℕ) → Answer
+rankOf g s = answer (rankRows g s) (numberOf g s ∷ totalOf g (length s) ∷ []) [] []

@@ -1,0 +1,57 @@
+-- Demand 2 as one statement: counts, sentences and numbers are those of the grammar's derivation trees in document 01's order. Trees, their
+-- sentences and their order are those of the grammar's specs/Trees.antt, and nothing of the lists or sums that the answers are made of.
+-- Assumes nothing: these are definitions.
+use mathlib.Core.Path.{_≡_}
+use mathlib.Core.List.{List, [], _∷_, _++_}
+use Prim.Native.Nat.{ℕ, _≤_}
+use lib.ListN.{length, take, drop}
+use Rattle.lists.specs.Ordered.{Exactly}
+use Rattle.answers.specs.Answer.{Answer}
+use Rattle.grammar.specs.Layout.{start}
+use Rattle.grammar.specs.Chains.{chain}
+use Rattle.grammar.specs.Trees.{Tree, sentence, Derives, Before}
+use Rattle.counting.specs.Answers.{countOf}
+use Rattle.ranking.specs.Answers.{totalOf, unrankOf, rankOf}
+
+-- t is a derivation of S with length n
+abbrev pub Derivation : (g : List ℕ) (n : ℕ) → Tree → Type 0
+Derivation g n t = Derives (chain g) (start g) n t
+
+-- "The derivation number is how many stand before it."
+pub record HasNumber (g : List ℕ) (n : ℕ) (t : Tree) (d : ℕ) : Type 0 where
+  pub derivation : Derivation g n t
+  pub before : Exactly d (λ u. Derivation g n u × Before u t)
+
+-- t is a derivation of the sentence s, and there is no other
+pub record OneDerivation (g s : List ℕ) (t : Tree) : Type 0 where
+  pub derivation : Derivation g (length s) t
+  pub says : sentence t ≡ s
+  pub alone : (u : Tree) → Derivation g (length s) u → sentence u ≡ s → u ≡ t
+
+-- an answer of a call that is lent no buffer, and one with the buffer as it is then
+abbrev pub told : List ℕ → Answer
+told figures = record { refusal = 0; figures = figures; buffer = [] }
+
+abbrev pub written : List ℕ → List ℕ → Answer
+written figures buffer = record { refusal = 0; figures = figures; buffer = buffer }
+
+pub record Demand2 (g : List ℕ) : Type 0 where
+  -- T is how many derivations of S with length n there are, and *Count* gives it where it isn't refused
+  pub counted : (n : ℕ) → Exactly (totalOf g n) (Derivation g n)
+  pub counts : (n : ℕ) → countOf g n .refusal ≡ 0 → countOf g n ≡ told (totalOf g n ∷ [])
+  -- *Give*, where it isn't refused, writes the sentence of the derivation that has the number d
+  pub gives : (n d : ℕ) (out : List ℕ) → unrankOf g n d out .refusal ≡ 0
+      → (t : Tree) × HasNumber g n t d × (unrankOf g n d out ≡ written (totalOf g n ∷ []) (sentence t ++ drop n out))
+  -- *Number*, where it isn't refused, gives the number of the sentence's one derivation
+  pub numbers : (s : List ℕ) → rankOf g s .refusal ≡ 0
+      → (t : Tree) × OneDerivation g s t × (d : ℕ) × HasNumber g (length s) t d × (rankOf g s ≡ told (d ∷ totalOf g (length s) ∷ []))
+  -- where T can be given, *Number* refuses with 17 a sentence without a derivation, with 18 one with two or more, and no other
+  pub readings : (s : List ℕ) → countOf g (length s) .refusal ≡ 0
+      → (k : ℕ) × Exactly k (λ t. Derivation g (length s) t × (sentence t ≡ s))
+      × (k ≡ 0 → rankOf g s .refusal ≡ 17) × (k ≡ 1 → rankOf g s .refusal ≡ 0) × (2 ≤ k → rankOf g s .refusal ≡ 18)
+  -- *Give* after *Number*: a sentence's number gives the sentence
+  pub there : (s out : List ℕ) (d : ℕ) → rankOf g s ≡ told (d ∷ totalOf g (length s) ∷ []) → length s ≤ length out
+      → unrankOf g (length s) d out ≡ written (totalOf g (length s) ∷ []) (s ++ drop (length s) out)
+  -- *Number* after *Give*: a sentence that was given has the number that it was given by, unless it has a second derivation
+  pub back : (n d : ℕ) (out s : List ℕ) → unrankOf g n d out .refusal ≡ 0 → s ≡ take n (unrankOf g n d out .buffer) → rankOf g s .refusal ≡ 0
+      → rankOf g s ≡ told (d ∷ totalOf g n ∷ [])

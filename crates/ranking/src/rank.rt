@@ -1,0 +1,110 @@
+// *Number*: the derivation number of a sentence.
+ghost use mathlib.Core.Path.{_≡_};
+ghost use Prim.Native.Nat.{_≤_};
+ghost use lib.ListN.{length};
+ghost use Rattle.lists.specs.Searched.{someOf};
+ghost use lib.Dec.{leb};
+ghost use Rattle.ranking.specs.Answers.{rankSaid, rankOf};
+ghost use Rattle.ranking.specs.Ranking.{RankReady, RankSought};
+use crate::locate;
+use crate::unrank::DerivationNumber;
+use counting::prepare;
+use counting::prepare::CountRefusal;
+use counting::prepare::Prepared;
+use counting::tables;
+use grammar::fields;
+use readings::readings;
+
+pub enum RankAnswer {
+    Ranked(DerivationNumber, u64),
+    NotRanked(CountRefusal),
+    Underivable,
+    Ambiguous,
+}
+
+// Whether some word of the sentence is w or more.
+fn some_foreign(sentence: &[u8], w: u8) -> bool
+    ensures { λ b. ⌜ b ≡ someOf (leb w) (now (sentence .entry)) ⌝ }
+{
+    let mut i = 0;
+    while i < sentence.len() {
+        if w <= sentence[i] {
+            return true;
+        }
+        i += 1;
+    }
+    false
+}
+
+// With the tables and a memo at hand, of a sentence whose words are all the grammar's.
+fn number(
+    g: &[u8],
+    index: &[u8; 1024],
+    plain: &[u64; 544],
+    sentence: &[u8],
+    memo: &mut [u64],
+) -> RankAnswer
+    requires { ⌜ RankSought (now g) (now index) (now plain) (now sentence) (now memo) ⌝ }
+    ensures { λ r. ⌜ rankSaid r ≡ rankOf (now (g .entry)) (now (sentence .entry)) ⌝ }
+{
+    let n = sentence.len();
+    let s = tables::wide(fields::start(g));
+    let count = readings(g, index, plain, sentence, 1, s, 0, n, memo);
+    if count == 0 {
+        return RankAnswer::Underivable;
+    }
+    if 2 <= count {
+        return RankAnswer::Ambiguous;
+    }
+    let mut words = [0u8; 16];
+    let d = locate::choose(
+        g,
+        index,
+        plain,
+        sentence,
+        1,
+        s,
+        0,
+        0,
+        memo,
+        &mut words[0..n],
+    );
+    RankAnswer::Ranked(DerivationNumber(d), tables::plain_at(plain, s, n))
+}
+
+// A memo for sentences of up to five words, and one for all: clearing it is much of the time that a short sentence takes.
+fn number_short(g: &[u8], index: &[u8; 1024], plain: &[u64; 544], sentence: &[u8]) -> RankAnswer
+    requires { ⌜ RankReady (now g) (now index) (now plain) (now sentence) × (length (now sentence) ≤ 5) ⌝ }
+    ensures { λ r. ⌜ rankSaid r ≡ rankOf (now (g .entry)) (now (sentence .entry)) ⌝ }
+{
+    let mut memo = [0u64; 2048];
+    number(g, index, plain, sentence, &mut memo)
+}
+
+fn number_long(g: &[u8], index: &[u8; 1024], plain: &[u64; 544], sentence: &[u8]) -> RankAnswer
+    requires { ⌜ RankReady (now g) (now index) (now plain) (now sentence) ⌝ }
+    ensures { λ r. ⌜ rankSaid r ≡ rankOf (now (g .entry)) (now (sentence .entry)) ⌝ }
+{
+    let mut memo = [0u64; 17408];
+    number(g, index, plain, sentence, &mut memo)
+}
+
+pub fn rank(g: &[u8], sentence: &[u8]) -> RankAnswer
+    ensures { λ r. ⌜ rankSaid r ≡ rankOf (now (g .entry)) (now (sentence .entry)) ⌝ }
+{
+    let mut index = [0u8; 1024];
+    let mut plain = [0u64; 544];
+    let p = prepare::prepare(g, sentence.len() as u64, &mut index, &mut plain);
+    match p {
+        Prepared::Refused(r) => RankAnswer::NotRanked(r),
+        Prepared::Ready => {
+            if some_foreign(sentence, fields::words(g)) {
+                return RankAnswer::Underivable;
+            }
+            if sentence.len() <= 5 {
+                return number_short(g, &index, &plain, sentence);
+            }
+            number_long(g, &index, &plain, sentence)
+        }
+    }
+}
