@@ -13,14 +13,21 @@ Kind grammar (document 01: Check bank): a case is two bytes size, low byte first
 line is "0 N W" where they are accepted and "refused K" where not.
 
 Kind matrix (document 01: house matrix bank): no input, and one line, the table's bytes parted by a space.
+
+Kind ranking (document 01: Count, Give, Number): a case is one byte call, eight bytes length, eight bytes
+number, two bytes size, all with the low byte first, and that many bytes. Call 0 has no line: its bytes are
+the grammar of the calls after it. 1 is Count; 2 is Give into a buffer of that many bytes, each 7; 3 is
+Number, its bytes the sentence. The line is "0" and the figures, or "refused K"; with Give a colon and the
+buffer's bytes after the call follow.
 """
 import argparse
+import itertools
 import pathlib
 import sys
 from typing import NamedTuple
 
 import oracle
-from generate import Rng, damaged, grammar, low_high, pair, random_damage, random_grammar, word
+from generate import Rng, brimful, damaged, grammar, low_high, pair, random_damage, random_grammar, word
 from oracle import F, G
 
 
@@ -333,9 +340,154 @@ def matrix_table():
     return [Case('house bank', b'', ' '.join(map(str, oracle.matrix())))]
 
 
+# ---- Kind ranking
+
+BANK, COUNT, GIVE, NUMBER = range(4)
+SOME = 7  # what a buffer holds before Give writes
+
+
+def framed(call, length, number, data):
+    return bytes([call]) + length.to_bytes(8, 'little') + number.to_bytes(8, 'little') + low_high(len(data)) + data
+
+
+class Calls:
+    """The calls on one grammar, each with the brute-force program's answer."""
+
+    def __init__(self, name, data):
+        self.name, self.data, self.calls = name, data, {}
+
+    def add(self, name, stdin, line):
+        if stdin not in self.calls:
+            self.calls[stdin] = Case(f'{self.name}: {name}', stdin, line)
+
+    def count(self, length):
+        self.add(f'Count {length}', framed(COUNT, length, 0, b''), line(*oracle.count(self.data, length)))
+
+    def give(self, length, number, room):
+        buffer = bytes([SOME]) * room
+        refusal, total, after = oracle.unrank(self.data, length, number, buffer)
+        shown = ''.join(f' {byte}' for byte in after)
+        self.add(f'Give {length} {number} into {room} bytes', framed(GIVE, length, number, buffer), f'{line(refusal, total)}:{shown}')
+
+    def number(self, sentence):
+        self.add(f'Number {list(sentence)}', framed(NUMBER, 0, 0, sentence), line(*oracle.rank(self.data, sentence)))
+
+    def there_and_back(self, length, number):
+        """Give, and Number of what it gave."""
+        self.give(length, number, length + number % 3)
+        refusal, _, after = oracle.unrank(self.data, length, number, bytes(length))
+        if refusal == 0:
+            self.number(after)
+
+    def framed_cases(self):
+        """The grammar's frame goes with the first call."""
+        first, *others = self.calls.values()
+        return [first._replace(stdin=framed(BANK, 0, 0, self.data) + first.stdin), *others]
+
+
+EDGES = [0, 1, 16, 17, 18, 255, 256, 2**16, 2**32, 2**32 + 5, 2**63, 2**64 - 1]
+
+
+def edges(calls):
+    """Lengths and numbers from 0 to 2^64 - 1, buffers and sentences of every size to 17 and above."""
+    for length in EDGES:
+        calls.count(length)
+        calls.give(length, 0, 18)
+        calls.give(2, length, 3)
+    for size in [*range(19), 32]:
+        calls.give(3, 0, size)
+        calls.give(16, 2**64 - 1, size)
+    for size in [*range(19), 31, 255, 256, 512]:
+        for byte in (0, 1, 255):
+            calls.number(bytes([byte]) * size)
+
+
+def every_number(calls, lengths):
+    """Count, and there and back from every number of these lengths and from the first beyond."""
+    for length in lengths:
+        calls.count(length)
+        _, total = oracle.count(calls.data, length)
+        for number in range(total + 1):
+            calls.there_and_back(length, number)
+
+
+def some_numbers(calls, rng, length, many):
+    """The same from the ends of the full list and from many numbers between, also of a list too long to write down."""
+    calls.count(length)
+    _, total = oracle.count(calls.data, length)
+    for number in sorted({0, 1, total // 2, total - 2, total - 1, total, *(rng.below(total) for _ in range(many))}):
+        if number in range(2**64):
+            calls.there_and_back(length, number)
+
+
+def every_sentence(calls, words, lengths):
+    """Number of every sentence of these lengths over the words below that number, derivable or not."""
+    for length in lengths:
+        for sentence in itertools.product(range(words), repeat=length):
+            calls.number(bytes(sentence))
+
+
+def huge_times_zero():
+    """One half has 2^60 derivations of 15 words, the other none of 1; and the same the other way round."""
+    s, d, e = 0, 1, 2
+    sixteen = [word(i) for i in range(16)]
+    return grammar(17, s, [[pair(d, e), pair(e, d), word(16)], sixteen + [pair(3, 1)], [pair(e, e)], sixteen])
+
+
+def small_grammars(rng, count):
+    """Random grammars with some derivations, and not many, of the lengths up to 6."""
+    while count:
+        data = random_grammar(rng, 4, 3, 9)
+        totals = [oracle.count(data, length)[1] for length in range(1, 7)]
+        if 3 <= sum(totals) <= 150 and totals[1:].count(0) < 5:
+            count -= 1
+            yield data
+
+
+def ranking_cases():
+    rng = Rng(31415)
+    stated = {
+        'F': F, 'G': G, 'matrix': oracle.matrix(), 'F with 15 words': oracle.f_words(15), 'F with 16 words': oracle.f_words(16),
+        'brimful': brimful(), 'one too many': brimful(1), 'huge times zero': huge_times_zero(), 'full': FULL,
+        'S has an empty chain': grammar(1, 1, [[word(0)], []]), 'nothing derived': grammar(1, 0, [[pair(0, 0)]]),
+        'refused by 1': F[:3], 'refused by 3': F[:-1], 'refused by 8': grammar(1, 0, [[word(0), word(0)]]),
+    }
+    banks = {name: Calls(name, data) for name, data in stated.items()}
+    edges(banks['F'])
+    edges(banks['refused by 3'])
+    for name, calls in banks.items():
+        for length in [0, 1, 2, 3, 5, 15, 16, 17]:
+            calls.count(length)
+            calls.give(length, 0, 16)
+            calls.number(bytes(length))
+    every_number(banks['F'], range(1, 7))
+    every_sentence(banks['F'], 3, range(1, 5))
+    every_number(banks['G'], range(1, 7))
+    some_numbers(banks['G'], rng, 16, 5)
+    banks['matrix'].there_and_back(5, 31415)
+    for length in range(1, 17):
+        banks['matrix'].count(length)
+    some_numbers(banks['matrix'], rng, 5, 60)
+    banks['matrix'].number(bytes([0, 10, 20, 30, 39]))
+    banks['matrix'].number(bytes([10, 0, 20, 30, 40]))
+    banks['matrix'].number(bytes([0, 10, 20, 30, 50]))
+    for name in ['F with 15 words', 'brimful', 'huge times zero']:
+        for length in [1, 2, 3, 15, 16]:
+            some_numbers(banks[name], rng, length, 12)
+    for number in [2**64 - 1, 2**64 - 2]:
+        banks['brimful'].give(16, number, 16)
+    made = []
+    for i, data in enumerate(small_grammars(rng, 40)):
+        calls = Calls(f'random {i}', data)
+        every_number(calls, range(1, 7))
+        every_sentence(calls, data[1] + 1, range(1, 4))
+        made.append(calls)
+    return [case for calls in [*banks.values(), *made] for case in calls.framed_cases()]
+
+
 # ---- Writing and checking
 
-KINDS = {'grammar': grammar_cases, 'matrix': matrix_table}
+KINDS = {'grammar': grammar_cases, 'matrix': matrix_table, 'ranking': ranking_cases}
 
 
 def files(cases):
