@@ -13,7 +13,7 @@ use Rattle.counting.proofs.Totals.{split-step, split-dead, split-skip}
 use Rattle.readings.specs.Pattern.{fitting}
 use Rattle.readings.specs.Memo.{Remembers, Ready, Asked, Counted, reading, AskedPair, AskedSplit}
 use Rattle.readings.proofs.Patterns.{fitting-none}
-use Rattle.readings.proofs.Given.{ready-within}
+use Rattle.readings.proofs.Given.{ready-within, read-past}
 
 -- ---- left lengths
 
@@ -94,6 +94,9 @@ module _ {g index plain pattern : List ℕ} {t b c p k j : ℕ} {memo : List ℕ
     record { inside = w .left; some = w .some; short = omega (arith, w .short); run = λ l. omega (arith, w .run l) },
   )
 
+  pub right-in : p < length pattern → p + k < length pattern
+  right-in l = omega (arith, w .run l, w .more)
+
   module _ {memo′ : List ℕ} {x : ℕ} (r : Counted g pattern t memo′ left x) where
     pub left-none : x ≡ 0 → Counted g pattern t memo′ (left * right) 0
     left-none z = record { value = zero-times left right (sym (r .value) ∙ z); remembers = r .remembers }
@@ -110,3 +113,14 @@ module _ {g index plain pattern : List ℕ} {t b c p k j : ℕ} {memo : List ℕ
 
       pub both-fits : x * y ≤ most
       both-fits = omega (arith, both .value, w .fits)
+
+  -- past the pattern's end
+  module _ {x y : ℕ} (l : length pattern ≤ p) (ex : x ≡ cell plain b k) (ey : y ≡ cell plain c j) where
+    pub past-both : Counted g pattern t memo (left * right) (x * y)
+    past-both =
+        let r = read-past (left-asks .0) (left-asks .1) l ex in
+        let a = right-asks r in
+        both r (read-past (a .0) (a .1) (omega arith) ey)
+
+    pub past-fits : x * y ≤ most
+    past-fits = omega (arith, past-both .value, w .fits)

@@ -35,11 +35,7 @@ pub fn readings(
     if m == 1 {
         return leaf(g, index, plain, pattern[p], a);
     }
-    let i = spot(pattern.len(), a, p, m);
-    if memo[i] == t {
-        return memo[i + 1];
-    }
-    scan(g, index, plain, pattern, t, a, p, m, memo)
+    known(g, index, plain, pattern, t, a, p, m, memo)
 }
 
 // The byte that the word at the position p must fit: past the pattern's end a blank.
@@ -81,6 +77,31 @@ fn equal(x: u8, w: u8) -> u8
     if x == w { 1 } else { 0 }
 }
 
+// The readings of two positions or more in the pattern: from the memo, or else by the rules and into the memo.
+fn known(
+    g: &[u8],
+    index: &[u8; 1024],
+    plain: &[u64; 544],
+    pattern: &[u8],
+    t: u64,
+    a: usize,
+    p: usize,
+    m: usize,
+    memo: &mut [u64],
+) -> u64
+    requires { ⌜ Ready (now g) (now index) (now plain) (now pattern) t (now memo) m × Asked (now g) (now pattern) 2 a p m × (p < length (now pattern)) ⌝ }
+    ensures { λ r. ⌜ Counted (now (g .entry)) (now (pattern .entry)) t (now (memo .exit)) (reading (now (g .entry)) (now (pattern .entry)) p a m) r ⌝ }
+{
+    let i = spot(pattern.len(), a, p, m);
+    if memo[i] == t {
+        return memo[i + 1];
+    }
+    let v = scan(g, index, plain, pattern, t, a, p, m, memo);
+    memo[i] = t;
+    memo[i + 1] = v;
+    v
+}
+
 // Where the memo has the stamp of a cell; its value stands after it.
 fn spot(n: usize, a: usize, p: usize, m: usize) -> usize
     requires { ⌜ (n ≤ 16) × (a < 32) × (p < n) × (m ≤ n) ⌝ }
@@ -89,7 +110,7 @@ fn spot(n: usize, a: usize, p: usize, m: usize) -> usize
     2 * (32 * (m * n + p) + a)
 }
 
-// The same for two positions or more, by the pair rules of a; and the memo keeps it.
+// The same by the pair rules of a.
 fn scan(
     g: &[u8],
     index: &[u8; 1024],
@@ -122,9 +143,6 @@ fn scan(
         );
         i += 1;
     }
-    let cell = spot(pattern.len(), a, p, m);
-    memo[cell] = t;
-    memo[cell + 1] = sum;
     sum
 }
 
@@ -172,7 +190,8 @@ fn splits(
     sum
 }
 
-// What one left length adds: nothing where a half has no derivation at all, or the left half none that fits.
+// What one left length adds: nothing where a half has no derivation at all, or the left half none that fits. Most halves are leaves:
+// they are told apart here, before any call.
 pub fn split(
     g: &[u8],
     index: &[u8; 1024],
@@ -189,16 +208,30 @@ pub fn split(
     requires { ⌜ Ready (now g) (now index) (now plain) (now pattern) t (now memo) (k + j) × AskedSplit (now g) (now pattern) b c p k j ⌝ }
     ensures { λ r. ⌜ Counted (now (g .entry)) (now (pattern .entry)) t (now (memo .exit)) (reading (now (g .entry)) (now (pattern .entry)) p b k * reading (now (g .entry)) (now (pattern .entry)) (p + k) c j) r ⌝ }
 {
-    if tables::plain_at(plain, b, k) == 0 {
+    let left = tables::plain_at(plain, b, k);
+    if left == 0 {
         return 0;
     }
-    if tables::plain_at(plain, c, j) == 0 {
+    let right = tables::plain_at(plain, c, j);
+    if right == 0 {
         return 0;
     }
-    let x = readings(g, index, plain, pattern, t, b, p, k, memo);
+    if pattern.len() <= p {
+        return left * right;
+    }
+    let x = if k == 1 {
+        leaf(g, index, plain, pattern[p], b)
+    } else {
+        known(g, index, plain, pattern, t, b, p, k, memo)
+    };
     if x == 0 {
         return 0;
     }
-    let y = readings(g, index, plain, pattern, t, c, p + k, j, memo);
+    let q = p + k;
+    let y = if j == 1 {
+        leaf(g, index, plain, pattern[q], c)
+    } else {
+        known(g, index, plain, pattern, t, c, q, j, memo)
+    };
     x * y
 }

@@ -1,9 +1,11 @@
--- The readings meet their contracts. `readings`, `scan`, `splits` and `split` call each other in a cycle, and each call has a shorter
--- length, or the same and stands further on in that order: the measures are 4 m + 3, 4 m + 2, 4 m + 1 and 4 m.
--- `readings` reads a cell of the memo, and `scan` writes it. `scan` keeps `Scanning` and `splits` keeps `Splitting`: what is summed,
--- with what is still to be added, comes to the answer. As the answer is at most T, which fits, no sum and no product wraps.
+-- The readings of two positions or more meet their contracts. `known`, `scan`, `splits` and `split` call each other in a cycle, and each
+-- call has a shorter length, or the same and stands further on in that order: the measures are 4 m + 3, 4 m + 2, 4 m + 1 and 4 m.
+-- `known` reads and writes one cell of the memo. `scan` keeps `Scanning` and `splits` keeps `Splitting`: what is summed, with what is
+-- still to be added, comes to the answer. As the answer is at most T, which fits, no sum and no product wraps.
 -- A need that is plain arithmetic has no name: it is answered where the needs of its function come together.
 -- Assumes nothing.
+use mathlib.Core.Path.{_≡_, refl}
+use mathlib.Core.Logic.{⊎-elim}
 use mathlib.Core.List.{List}
 use Prim.Native.Nat.{ℕ, _+_, _*_, _-_, _<_}
 use native.Mathlib.Omega.{arith}
@@ -11,22 +13,23 @@ use lib.ListN.{length, length-set}
 use borrow.Fn.Kind.{PK}
 use borrow.Fn.Kinds.{In, Out}
 use borrow.Fn.PlainCycle.{Measures, is, falls, and}
+use Rattle.readings.specs.Memo.{Counted, reading}
 use Rattle.readings.proofs.Memo.{Spot, remembers-in, remembers-read, remembers-store}
-use Rattle.readings.proofs.Given.{few, read-past, leaf-asks, read-leaf, read-more, spot-asks, spot-found}
+use Rattle.readings.proofs.Given.{few, leaf-asks, read-leaf, read-more, spot-asks, spot-found}
 use Rattle.readings.proofs.Scans.{Scanning, Meeting, scan-start, scan-asks, scan-fits, scan-next, scan-end}
-use Rattle.readings.proofs.Halves.{Splitting, split-start, split-asks, split-fits, split-next, split-end, none-left, none-right, left-asks, left-none, right-asks, both, both-fits}
-use Rattle.readings.proofs.readings.Reads as readings
-use Rattle.readings.proofs.readings.Kinds as readings-kinds
-use Rattle.readings.proofs.+readings+scan+split+splits.Lts-readings as readings-lts
+use Rattle.readings.proofs.Halves.{Splitting, split-start, split-asks, split-fits, split-next, split-end, none-left, none-right, left-asks, left-none, right-in, right-asks, both, both-fits, past-both, past-fits}
+use Rattle.readings.proofs.known.Reads as known
+use Rattle.readings.proofs.known.Kinds as known-kinds
+use Rattle.readings.proofs.+known+scan+split+splits.Lts-known as known-lts
 use Rattle.readings.proofs.scan.Reads as scan
 use Rattle.readings.proofs.scan.Kinds as scan-kinds
-use Rattle.readings.proofs.+readings+scan+split+splits.Lts-scan as scan-lts
+use Rattle.readings.proofs.+known+scan+split+splits.Lts-scan as scan-lts
 use Rattle.readings.proofs.split.Reads as split
 use Rattle.readings.proofs.split.Kinds as split-kinds
-use Rattle.readings.proofs.+readings+scan+split+splits.Lts-split as split-lts
+use Rattle.readings.proofs.+known+scan+split+splits.Lts-split as split-lts
 use Rattle.readings.proofs.splits.Reads as splits
 use Rattle.readings.proofs.splits.Kinds as splits-kinds
-use Rattle.readings.proofs.+readings+scan+split+splits.Lts-splits as splits-lts
+use Rattle.readings.proofs.+known+scan+split+splits.Lts-splits as splits-lts
 use Rattle.counting.proofs.tables.left_at.Reads as left-at-reads
 use Rattle.counting.proofs.tables.pair_from.Reads as pair-from-reads
 use Rattle.counting.proofs.tables.plain_at.Reads as plain-at-reads
@@ -35,13 +38,13 @@ use Rattle.readings.proofs.first.Reads as first-reads
 use Rattle.readings.proofs.leaf.Reads as leaf-reads
 use Rattle.readings.proofs.past.Reads as past-reads
 use Rattle.readings.proofs.spot.Reads as spot-reads
-use Rattle.readings.proofs.+readings+scan+split+splits.{statement}
-use Rattle.readings.proofs.+readings+scan+split+splits.Tie.{close}
+use Rattle.readings.proofs.+known+scan+split+splits.{statement}
+use Rattle.readings.proofs.+known+scan+split+splits.Tie.{close}
 
 -- ---- the measures, of the arguments by their places
 
-abbrev μ-readings : Measures 5 readings-kinds.ps ℕ
-μ-readings κs a = 4 * (a .1 .1 .1 .1 .1 .1 .1 .0) + 3
+abbrev μ-known : Measures 5 known-kinds.ps ℕ
+μ-known κs a = 4 * (a .1 .1 .1 .1 .1 .1 .1 .0) + 3
 
 abbrev μ-scan : Measures 5 scan-kinds.ps ℕ
 μ-scan κs a = 4 * (a .1 .1 .1 .1 .1 .1 .1 .0) + 2
@@ -60,96 +63,97 @@ module _ (d : ℕ) where
   abbrev below : (ps : List (PK 5)) → Measures 5 ps ℕ → In 5 ps → In 5 ps
   below ps μ asked = and 5 ps (falls 5 ps _<_ μ d) asked
 
-  -- ---- `readings`: past the end, a leaf, a cell of the memo, or the rules
+  -- ---- `known`: a cell of the memo
 
-  abbrev readings-calls : readings-lts.Claims
-  readings-calls = (plain-at-reads.Asked, plain-at-reads.Learnt, leaf-reads.Asked, leaf-reads.Learnt, spot-reads.Asked, spot-reads.Learnt, below scan-kinds.ps μ-scan scan.Pre, scan.Post)
+  abbrev known-calls : known-lts.Claims
+  known-calls = (spot-reads.Asked, spot-reads.Learnt, below scan-kinds.ps μ-scan scan.Pre, scan.Post)
 
-  abbrev readings-at : In 5 readings-kinds.ps
-  readings-at = at readings-kinds.ps μ-readings readings.Pre
+  abbrev known-at : In 5 known-kinds.ps
+  known-at = at known-kinds.ps μ-known known.Pre
 
-  abbrev in-readings : (readings-lts.Claims → In 5 readings-kinds.ps → Out 5 readings-kinds.ps readings-kinds.r → Type 0) → Type 0
-  in-readings need = need readings-calls readings-at readings.Post
+  abbrev in-known : (known-lts.Claims → In 5 known-kinds.ps → Out 5 known-kinds.ps known-kinds.r → Type 0) → Type 0
+  in-known need = need known-calls known-at known.Post
 
-  abbrev readings-entry : in-readings readings-lts.Else1 → in-readings readings-lts.Start
-  readings-entry c = c .before .before .before .before
+  abbrev known-entry : in-known known-lts.After-spot → in-known known-lts.Start
+  known-entry c = c .before .before .before .before
 
-  abbrev readings-begun : in-readings readings-lts.After-spot → in-readings readings-lts.Start
-  readings-begun c = readings-entry (c .before .before)
+  -- where the place was found, from where the rules are summed
+  abbrev known-found : in-known known-lts.After-slice-known4 → in-known known-lts.After-spot
+  known-found c = c .before .before .before .before .before .before
 
-  abbrev readings-Spot : in-readings readings-lts.After-spot → Type 0
-  readings-Spot c = let x = readings-begun c .args in Spot (length (x .pattern .now)) (x .a) (x .p) (x .m) (c .spot .result)
+  abbrev known-Spot : in-known known-lts.After-spot → Type 0
+  known-Spot c = let x = known-entry c .args in Spot (length (x .pattern .now)) (x .a) (x .p) (x .m) (c .spot .result)
 
-  readings-spot : (c : in-readings readings-lts.After-spot) → readings-Spot c
-  readings-spot c = let q = readings-begun c .pre .1 in spot-found (q .0) (q .1) (c .before .before .if1 .left) (c .spot .ensures .0)
+  known-spot : (c : in-known known-lts.After-spot) → known-Spot c
+  known-spot c = let q = known-entry c .pre .1 in spot-found (q .0) (q .1) (q .2) (c .spot .ensures .0)
 
-  readings-inside : (c : in-readings readings-lts.After-spot) → c .spot .result + 1 < length (readings-begun c .args .memo .now)
-  readings-inside c = remembers-in (readings-begun c .pre .1 .0 .remembers) (readings-spot c)
+  known-inside : (c : in-known known-lts.After-spot) → c .spot .result + 1 < length (known-entry c .args .memo .now)
+  known-inside c = remembers-in (known-entry c .pre .1 .0 .remembers) (known-spot c)
 
-  readings-plain-at-requires : in-readings readings-lts.Need-plain-at-requires
-  readings-plain-at-requires c κs = omega (arith, few (c .before .before .before .before .pre .1 .0))
+  known-spot-requires : in-known known-lts.Need-spot-requires
+  known-spot-requires c κs = let q = c .before .before .before .pre .1 in spot-asks (q .0) (q .1) (q .2)
 
-  readings-returns : in-readings readings-lts.Need-returns
-  readings-returns c =
-      let q = c .before .before .before .before .before .pre .1 in
-      read-past (q .0) (q .1) (c .before .if1 .taken) (c .plain-at .ensures)
+  known-slice-read-if1 : in-known known-lts.Need-slice-read-if1
+  known-slice-read-if1 c = omega (arith, known-inside (c .before))
 
-  readings-leaf-requires : in-readings readings-lts.Need-leaf-requires
-  readings-leaf-requires c κs = let q = readings-entry (c .before .before) .pre .1 in leaf-asks (q .0) (q .1)
+  known-slice-read-result : in-known known-lts.Need-slice-read-result
+  known-slice-read-result c = known-inside (c .before .before .before)
 
-  readings-returns-2 : in-readings readings-lts.Need-returns-2
-  readings-returns-2 c =
-      let l = c .before .before in
-      let q = readings-entry (l .before) .pre .1 in
-      read-leaf (q .0) (q .1) (l .before .if1 .left) (l .if2 .taken) (c .leaf .ensures)
-
-  readings-spot-requires : in-readings readings-lts.Need-spot-requires
-  readings-spot-requires c κs = let q = readings-entry (c .before) .pre .1 in spot-asks (q .0) (q .1) (c .before .if1 .left)
-
-  readings-slice-read-if3 : in-readings readings-lts.Need-slice-read-if3
-  readings-slice-read-if3 c = omega (arith, readings-inside (c .before))
-
-  readings-slice-read-result : in-readings readings-lts.Need-slice-read-result
-  readings-slice-read-result c = readings-inside (c .before .before .before)
-
-  readings-returns-3 : in-readings readings-lts.Need-returns-3
-  readings-returns-3 c =
+  known-returns : in-known known-lts.Need-returns
+  known-returns c =
       let l = c .before .before .before in
-      let r = readings-begun l .pre .1 .0 .remembers in
-      record { value = remembers-read r (readings-spot l) (c .before .if3 .taken); remembers = r }
+      let r = known-entry l .pre .1 .0 .remembers in
+      record { value = remembers-read r (known-spot l) (c .before .if1 .taken); remembers = r }
 
-  readings-scan-requires : in-readings readings-lts.Need-scan-requires
-  readings-scan-requires c κs =
-      let l = c .before .before .before in
-      let q = readings-begun l .pre .1 in
-      (omega arith, read-more (q .0) (q .1) (l .before .before .if1 .left) (l .before .if2 .left))
+  known-scan-requires : in-known known-lts.Need-scan-requires
+  known-scan-requires c κs = (omega arith, known-entry (c .before .before .before) .pre .1)
 
-  readings-returns-4 : in-readings readings-lts.Need-returns-4
-  readings-returns-4 c = c .before .before .scan .ensures
+  known-slice-write-memo : in-known known-lts.Need-slice-write-memo
+  known-slice-write-memo c = omega (arith, remembers-in (c .before .before .scan .ensures .remembers) (known-spot (known-found c)))
 
-  readings-holds : {M : Type 1} → readings-lts.Closed readings-calls readings-at readings.Post M
-  readings-holds =
-      readings-lts.spec readings-calls readings-at readings.Post
-      readings-plain-at-requires
-      readings-returns
-      (λ c. omega arith)
-      readings-leaf-requires
-      readings-returns-2
-      readings-spot-requires
-      (λ c. omega arith)
-      readings-slice-read-if3
-      (λ c. omega arith)
-      (λ c. omega arith)
-      readings-slice-read-result
-      readings-returns-3
-      readings-scan-requires
-      (λ c. omega arith)
-      readings-returns-4
+  known-slice-write-memo-2 : in-known known-lts.Need-slice-write-memo-2
+  known-slice-write-memo-2 c = simp length-set (remembers-in (c .before .before .scan .ensures .remembers) (known-spot (known-found c)))
 
-  -- ---- `scan`: the pair rules, and the cell that keeps their sum
+  known-same-length : in-known known-lts.Need-same-length
+  known-same-length c = simp length-set (omega arith)
+
+  known-returns-2 : in-known known-lts.Need-returns-2
+  known-returns-2 c =
+      let r = c .before .before .scan .ensures in
+      record { value = r .value; remembers = remembers-store (r .remembers) (known-spot (known-found c)) (r .value) }
+
+  known-holds : {M : Type 1} → known-lts.Closed known-calls known-at known.Post M
+  known-holds =
+      known-lts.spec known-calls known-at known.Post
+      known-spot-requires
+      (λ c. omega arith)
+      known-slice-read-if1
+      (λ c. omega arith)
+      (λ c. omega arith)
+      known-slice-read-result
+      known-returns
+      known-scan-requires
+      (λ c. omega arith)
+      known-slice-write-memo
+      (λ c. omega arith)
+      (λ c. omega arith)
+      known-slice-write-memo-2
+      known-same-length
+      known-returns-2
+
+  -- ---- `scan`: the pair rules
 
   abbrev scan-calls : scan-lts.Claims
-  scan-calls = (pair-from-reads.Asked, pair-from-reads.Learnt, left-at-reads.Asked, left-at-reads.Learnt, right-at-reads.Asked, right-at-reads.Learnt, below splits-kinds.ps μ-splits splits.Pre, splits.Post, spot-reads.Asked, spot-reads.Learnt)
+  scan-calls = (
+    pair-from-reads.Asked,
+    pair-from-reads.Learnt,
+    left-at-reads.Asked,
+    left-at-reads.Learnt,
+    right-at-reads.Asked,
+    right-at-reads.Learnt,
+    below splits-kinds.ps μ-splits splits.Pre,
+    splits.Post,
+  )
 
   abbrev scan-at : In 5 scan-kinds.ps
   scan-at = at scan-kinds.ps μ-scan scan.Pre
@@ -190,12 +194,6 @@ module _ (d : ℕ) where
         right = c .right-at .ensures .0;
       }
 
-  abbrev scan-Spot : in-scan scan-lts.After-spot → Type 0
-  scan-Spot c = let x = scan-head (c .before .before) .args in Spot (length (x .pattern .now)) (x .a) (x .p) (x .m) (c .spot .result)
-
-  scan-spot : (c : in-scan scan-lts.After-spot) → scan-Spot c
-  scan-spot c = let q = scan-head (c .before .before) .pre .1 in spot-found (q .0) (q .1) (q .2) (c .spot .ensures .0)
-
   scan-add-pair-from : in-scan scan-lts.Need-add-pair-from
   scan-add-pair-from c = omega (arith, few (scan-entry c .pre .1 .0))
 
@@ -217,24 +215,11 @@ module _ (d : ℕ) where
   scan-loop-again : in-scan scan-lts.Need-loop-again
   scan-loop-again c = scan-next (scan-met (c .before .before .before .before)) (c .before .before .splits .ensures) (omega arith)
 
-  scan-spot-requires : in-scan scan-lts.Need-spot-requires
-  scan-spot-requires c κs = let q = scan-head (c .before) .pre .1 in spot-asks (q .0) (q .1) (q .2)
-
-  scan-slice-write-memo : in-scan scan-lts.Need-slice-write-memo
-  scan-slice-write-memo c = omega (arith, remembers-in (c .before .before .loop .inv .remembers) (scan-spot c))
-
-  scan-slice-write-memo-2 : in-scan scan-lts.Need-slice-write-memo-2
-  scan-slice-write-memo-2 c = simp length-set (remembers-in (c .before .before .loop .inv .remembers) (scan-spot c))
-
   scan-same-length : in-scan scan-lts.Need-same-length
-  scan-same-length c = simp length-set (c .before .before .loop .inv .kept)
+  scan-same-length c = c .before .loop .inv .kept
 
   scan-returns : in-scan scan-lts.Need-returns
-  scan-returns c =
-      let l = c .before .before in
-      let q = scan-head l .pre .1 in
-      let r = scan-end (q .0) (q .1) (omega arith) (l .loop .inv) in
-      record { value = r .value; remembers = remembers-store (r .remembers) (scan-spot c) (r .value) }
+  scan-returns c = let q = scan-head (c .before) .pre .1 in scan-end (q .0) (q .1) (omega arith) (c .before .loop .inv)
 
   scan-holds : {M : Type 1} → scan-lts.Closed scan-calls scan-at scan.Post M
   scan-holds =
@@ -250,19 +235,13 @@ module _ (d : ℕ) where
       (λ c. omega arith)
       (λ c. omega arith)
       scan-loop-again
-      scan-spot-requires
-      (λ c. omega arith)
-      scan-slice-write-memo
-      (λ c. omega arith)
-      (λ c. omega arith)
-      scan-slice-write-memo-2
       scan-same-length
       scan-returns
 
   -- ---- `split`: one left length
 
   abbrev split-calls : split-lts.Claims
-  split-calls = (plain-at-reads.Asked, plain-at-reads.Learnt, below readings-kinds.ps μ-readings readings.Pre, readings.Post)
+  split-calls = (plain-at-reads.Asked, plain-at-reads.Learnt, leaf-reads.Asked, leaf-reads.Learnt, below known-kinds.ps μ-known known.Pre, known.Post)
 
   abbrev split-at : In 5 split-kinds.ps
   split-at = at split-kinds.ps μ-split split.Pre
@@ -273,12 +252,42 @@ module _ (d : ℕ) where
   abbrev split-entry : in-split split-lts.After-plain-at → in-split split-lts.Start
   split-entry c = c .before .before .before .before
 
-  abbrev split-begun : in-split split-lts.After-readings → in-split split-lts.Start
-  split-begun c = split-entry (c .before .before .before .before .before)
+  -- where the positions lie in the pattern
+  abbrev split-open : in-split split-lts.Else3 → in-split split-lts.Start
+  split-open c = split-entry (c .before .before .before .before)
 
-  -- where the left half was read, from where both are
-  abbrev split-left : in-split split-lts.After-slice-known3 → in-split split-lts.After-readings
-  split-left c = c .before .before .before .before .before .before .before
+  -- where the left half has been read, as a leaf or not; and further on the right half
+  abbrev split-Left : in-split split-lts.Joined4 → Type 0
+  split-Left c =
+      let x = split-open (c .before) .args in
+      Counted (x .g .now) (x .pattern .now) (x .t) (c .if4 .memo) (reading (x .g .now) (x .pattern .now) (x .p) (x .b) (x .k)) (c .if4 .x)
+      × (length (c .if4 .memo) ≡ length (x .memo .now))
+
+  split-left : (c : in-split split-lts.Joined4) → split-Left c
+  split-left c =
+      let q = split-open (c .before) .pre .1 in
+      let a = left-asks (q .0) (q .1) in
+      ⊎-elim
+      (λ w. rw (w .3, w .4) (read-leaf (a .0) (a .1) (c .before .if3 .left) (w .0 .taken) (w .2 .ensures), refl))
+      (λ w. rw (w .5, w .6) (w .2 .ensures, omega arith))
+      (c .if4 .came)
+
+  abbrev split-Right : in-split split-lts.Joined6 → Type 0
+  split-Right c =
+      let l = c .before .before in
+      let x = split-open (l .before) .args in
+      Counted (x .g .now) (x .pattern .now) (x .t) (c .if6 .memo) (reading (x .g .now) (x .pattern .now) (x .p + x .k) (x .c) (x .j)) (c .if6 .y)
+      × (length (c .if6 .memo) ≡ length (l .if4 .memo))
+
+  split-right : (c : in-split split-lts.Joined6) → split-Right c
+  split-right c =
+      let l = c .before .before in
+      let q = split-open (l .before) .pre .1 in
+      let a = right-asks (q .0) (q .1) (split-left l .0) in
+      ⊎-elim
+      (λ w. rw (w .3, w .4) (read-leaf (a .0) (a .1) (right-in (q .0) (q .1) (l .before .if3 .left)) (w .0 .taken) (w .2 .ensures), refl))
+      (λ w. rw (w .5, w .6) (w .2 .ensures, omega arith))
+      (c .if6 .came)
 
   split-plain-at-requires : in-split split-lts.Need-plain-at-requires
   split-plain-at-requires c κs = let q = c .before .before .before .pre .1 in omega (arith, few (q .0), q .0 .short)
@@ -292,29 +301,71 @@ module _ (d : ℕ) where
   split-returns-2 : in-split split-lts.Need-returns-2
   split-returns-2 c = let q = split-entry (c .before .before .before) .pre .1 in none-right (q .0) (q .1) (c .before .plain-at2 .ensures) (c .if2 .taken)
 
-  split-readings-requires : in-split split-lts.Need-readings-requires
-  split-readings-requires c κs = let q = split-entry (c .before .before .before .before) .pre .1 in (omega arith, left-asks (q .0) (q .1))
-
-  split-returns-3 : in-split split-lts.Need-returns-3
-  split-returns-3 c = let l = c .before .before .before in let q = split-begun l .pre .1 in left-none (q .0) (q .1) (l .readings .ensures) (c .if3 .taken)
-
-  split-readings-requires-2 : in-split split-lts.Need-readings-requires-2
-  split-readings-requires-2 c κs =
-      let l = c .before .before .before .before in
-      let q = split-begun l .pre .1 in
-      (omega arith, right-asks (q .0) (q .1) (l .readings .ensures))
-
   split-mul-result : in-split split-lts.Need-mul-result
   split-mul-result c =
-      let l = split-left c in
-      let q = split-begun l .pre .1 in
-      omega (arith, both-fits (q .0) (q .1) (l .readings .ensures) (c .before .before .readings2 .ensures))
+      let l = c .before .before in
+      let q = split-entry (l .before .before) .pre .1 in
+      omega (arith, past-fits (q .0) (q .1) (c .if3 .taken) (l .before .before .plain-at .ensures) (l .plain-at2 .ensures))
+
+  split-returns-3 : in-split split-lts.Need-returns-3
+  split-returns-3 c =
+      let l = c .before .before in
+      let q = split-entry (l .before .before) .pre .1 in
+      past-both (q .0) (q .1) (c .if3 .taken) (l .before .before .plain-at .ensures) (l .plain-at2 .ensures)
+
+  split-leaf-requires : in-split split-lts.Need-leaf-requires
+  split-leaf-requires c κs = let q = split-open (c .before .before) .pre .1 in let a = left-asks (q .0) (q .1) in leaf-asks (a .0) (a .1)
+
+  split-known-requires : in-split split-lts.Need-known-requires
+  split-known-requires c κs =
+      let l = c .before .before in
+      let q = split-open l .pre .1 in
+      let a = left-asks (q .0) (q .1) in
+      (omega arith, read-more (a .0) (a .1) (l .if3 .left) (c .before .if4 .left))
+
+  split-same-length : in-split split-lts.Need-same-length
+  split-same-length c = split-left (c .before) .1
 
   split-returns-4 : in-split split-lts.Need-returns-4
   split-returns-4 c =
-      let l = split-left c in
-      let q = split-begun l .pre .1 in
-      both (q .0) (q .1) (l .readings .ensures) (c .before .before .readings2 .ensures)
+      let l = c .before in
+      let q = split-open (l .before) .pre .1 in
+      left-none (q .0) (q .1) (split-left l .0) (c .if5 .taken)
+
+  split-shared-slice-read-leaf-2 : in-split split-lts.Need-shared-slice-read-leaf-2
+  split-shared-slice-read-leaf-2 c =
+      let l = c .before .before .before in
+      let q = split-open (l .before) .pre .1 in
+      right-in (q .0) (q .1) (l .before .if3 .left)
+
+  split-leaf-requires-2 : in-split split-lts.Need-leaf-requires-2
+  split-leaf-requires-2 c κs =
+      let l = c .before .before .before in
+      let q = split-open (l .before) .pre .1 in
+      let a = right-asks (q .0) (q .1) (split-left l .0) in
+      leaf-asks (a .0) (a .1)
+
+  split-known-requires-2 : in-split split-lts.Need-known-requires-2
+  split-known-requires-2 c κs =
+      let l = c .before .before .before in
+      let q = split-open (l .before) .pre .1 in
+      let a = right-asks (q .0) (q .1) (split-left l .0) in
+      (omega arith, read-more (a .0) (a .1) (right-in (q .0) (q .1) (l .before .if3 .left)) (c .before .if6 .left))
+
+  split-mul-result-2 : in-split split-lts.Need-mul-result-2
+  split-mul-result-2 c =
+      let r = c .before .before in
+      let q = split-open (r .before .before .before) .pre .1 in
+      omega (arith, both-fits (q .0) (q .1) (split-left (r .before .before) .0) (split-right r .0))
+
+  split-same-length-2 : in-split split-lts.Need-same-length-2
+  split-same-length-2 c = let r = c .before .before in omega (arith, split-left (r .before .before) .1, split-right r .1)
+
+  split-returns-5 : in-split split-lts.Need-returns-5
+  split-returns-5 c =
+      let r = c .before .before in
+      let q = split-open (r .before .before .before) .pre .1 in
+      both (q .0) (q .1) (split-left (r .before .before) .0) (split-right r .0)
 
   split-holds : {M : Type 1} → split-lts.Closed split-calls split-at split.Post M
   split-holds =
@@ -323,19 +374,34 @@ module _ (d : ℕ) where
       split-returns
       split-plain-at-requires-2
       split-returns-2
-      split-readings-requires
-      (λ c. omega arith)
+      split-mul-result
       split-returns-3
       (λ c. omega arith)
-      split-readings-requires-2
-      split-mul-result
-      (λ c. omega arith)
+      split-leaf-requires
+      split-known-requires
+      split-same-length
       split-returns-4
+      (λ c. omega arith)
+      split-shared-slice-read-leaf-2
+      split-leaf-requires-2
+      split-known-requires-2
+      split-mul-result-2
+      split-same-length-2
+      split-returns-5
 
   -- ---- `splits`: the left lengths of a pair rule
 
   abbrev splits-calls : splits-lts.Claims
-  splits-calls = (plain-at-reads.Asked, plain-at-reads.Learnt, past-reads.Asked, past-reads.Learnt, first-reads.Asked, first-reads.Learnt, below split-kinds.ps μ-split split.Pre, split.Post)
+  splits-calls = (
+    plain-at-reads.Asked,
+    plain-at-reads.Learnt,
+    past-reads.Asked,
+    past-reads.Learnt,
+    first-reads.Asked,
+    first-reads.Learnt,
+    below split-kinds.ps μ-split split.Pre,
+    split.Post,
+  )
 
   abbrev splits-at : In 5 splits-kinds.ps
   splits-at = at splits-kinds.ps μ-splits splits.Pre
@@ -412,10 +478,10 @@ module _ (d : ℕ) where
       splits-same-length
       splits-returns
 
-pub +readings+scan+split+splits-spec : {M : Type 1} → statement M
-+readings+scan+split+splits-spec =
-    close μ-readings μ-scan μ-split μ-splits
-    (λ d. readings-holds d)
+pub +known+scan+split+splits-spec : {M : Type 1} → statement M
++known+scan+split+splits-spec =
+    close μ-known μ-scan μ-split μ-splits
+    (λ d. known-holds d)
     (λ d. scan-holds d)
     (λ d. split-holds d)
     (λ d. splits-holds d)
