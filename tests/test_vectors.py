@@ -55,5 +55,58 @@ class GrammarVectors(unittest.TestCase):
             self.assertEqual(vectors.differing(folder, self.cases), [folder / 'stdin', folder / 'stdout'])
 
 
+class RankingVectors(unittest.TestCase):
+    @classmethod
+    def setUpClass(cls):
+        cls.cases = vectors.ranking_cases()
+        cls.lines = {case.name: case.line for case in cls.cases}
+
+    def test_examples_of_document_01(self):
+        for name, line in {
+            'F: Count 3': '0 8',
+            'F with 15 words: Count 16': f'0 {15**16}',
+            'F with 16 words: Count 16': 'refused 10',
+            'F with 16 words: Count 15': f'0 {16**15}',
+            'matrix: Count 5': '0 100000',
+            'matrix: Count 4': '0 0',
+            'matrix: Give 5 31415 into 7 bytes': '0 100000: 3 11 24 31 45 7 7',
+            'matrix: Number [3, 11, 24, 31, 45]': '0 31415 100000',
+            'G: Number [0, 0, 0]': 'refused 18',
+            'brimful: Count 16': f'0 {2**64 - 1}',
+            'one too many: Count 16': 'refused 10',
+        }.items():
+            with self.subTest(name):
+                self.assertEqual(self.lines[name], line)
+
+    def test_every_refusal_is_there_several_times(self):
+        refusals = collections.Counter(line.split(':')[0] for line in self.lines.values())
+        for refusal in [1, 3, 8, 9, 10, 16, 17, 18, 20]:
+            self.assertGreaterEqual(refusals[f'refused {refusal}'], 3)
+
+    def test_size(self):
+        self.assertIn(len(self.cases), range(5000, 7001))
+        self.assertLess(len(vectors.files(self.cases)['stdin']), 262_144)
+
+    def test_the_frames_hold_the_cases(self):
+        stdin, at, grammar, lines = vectors.files(self.cases)['stdin'], 0, b'', []
+        while at < len(stdin):
+            call, length, number = stdin[at], int.from_bytes(stdin[at + 1:at + 9], 'little'), int.from_bytes(stdin[at + 9:at + 17], 'little')
+            end = at + 19 + oracle.two_bytes(stdin, at + 17)
+            data, at = stdin[at + 19:end], end
+            if call == vectors.BANK:
+                grammar = data
+            elif call == vectors.COUNT:
+                lines.append(vectors.line(*oracle.count(grammar, length)))
+            elif call == vectors.GIVE:
+                *answer, after = oracle.unrank(grammar, length, number, data)
+                lines.append(f'{vectors.line(*answer)}:' + ''.join(f' {byte}' for byte in after))
+            else:
+                lines.append(vectors.line(*oracle.rank(grammar, data)))
+        self.assertEqual('\n'.join(lines).encode() + b'\n', vectors.files(self.cases)['stdout'])
+
+    def test_a_second_run_gives_the_same(self):
+        self.assertEqual(vectors.ranking_cases(), self.cases)
+
+
 if __name__ == '__main__':
     unittest.main()

@@ -428,10 +428,10 @@ def every_sentence(calls, words, lengths):
 
 
 def huge_times_zero():
-    """One half has 2^60 derivations of 15 words, the other none of 1; and the same the other way round."""
-    s, d, e = 0, 1, 2
-    sixteen = [word(i) for i in range(16)]
-    return grammar(17, s, [[pair(d, e), pair(e, d), word(16)], sixteen + [pair(3, 1)], [pair(e, e)], sixteen])
+    """One half has 15^15 derivations of 15 words, the other none of 1; and the same the other way round."""
+    s, many, none, any_word = range(4)
+    fifteen = [word(i) for i in range(15)]
+    return grammar(16, s, [[pair(many, none), pair(none, many), word(15)], fifteen + [pair(any_word, many)], [pair(none, none)], fifteen])
 
 
 def small_grammars(rng, count):
