@@ -19,7 +19,6 @@ use Rattle.lists.proofs.Searches.{many-le}
 use Rattle.lists.proofs.Parts.{passed-none, passed-size, passed-many, passed-more, passed-part, part-within}
 use Rattle.grammar.specs.Layout.{nonterminals}
 use Rattle.grammar.specs.Chains.{word, chain}
-use Rattle.grammar.proofs.Acceptance.{known}
 use Rattle.counting.specs.Totals.{total, T}
 use Rattle.counting.specs.Sentences.{sentences, wordsOf, pairsOf, splitList}
 use Rattle.counting.specs.Tables.{wordFrom, pairFrom, cell, most}
@@ -29,6 +28,7 @@ use Rattle.counting.proofs.Indexing.{pair-here, pair-inside}
 use Rattle.counting.proofs.Counts.{T-sentences}
 use Rattle.readings.specs.Pattern.{byteAt, suits, fitsFrom, fitting}
 use Rattle.readings.specs.Memo.{Remembers, Ready, AskedSplit, Counted}
+use Rattle.readings.proofs.Given.{ready-within}
 use Rattle.ranking.specs.declared.locate.Split.{Split}
 use Rattle.ranking.specs.Located.{WordSought, PickedAs, halvesOf, ruleOf, SplitSought, SplitAs, Sought, ChosenAs}
 use Rattle.ranking.proofs.Fitting.{many-fit, many-halves, length-halves, list-step, list-end}
@@ -89,27 +89,6 @@ module _ {g index : List ℕ} {x a d : ℕ} (s : WordSought g index x a d) where
 
 suits-le : (s : List ℕ) (q w : ℕ) → fitting s q w ≤ 1
 suits-le s q w = bit-le (suits (byteAt s q) w)
-
--- the tables serve shorter lengths too
-pub ready-shorter : {g index plain pattern : List ℕ} {t : ℕ} {memo memo′ : List ℕ} {m : ℕ} → (k : ℕ) → Ready g index plain pattern t memo m → k ≤ m
-    → Remembers (chain g) (fitting pattern) (length pattern) t memo′ → Ready g index plain pattern t memo′ k
-ready-shorter k r h u =
-    record {
-      accepted = r .accepted;
-      indexed = r .indexed;
-      rows = record {
-        long = r .rows .long;
-        right = λ A i l b c. r .rows .right A i l b (omega arith);
-        longest = λ A i l b c. r .rows .longest A i l b (omega arith);
-      };
-      fits = λ A i l b. r .fits A i l (omega arith);
-      short = r .short;
-      remembers = u;
-    }
-
--- there are no more than 32 nonterminals
-pub ready-few : {g index plain pattern : List ℕ} {t : ℕ} {memo : List ℕ} {m : ℕ} → Ready g index plain pattern t memo m → nonterminals g ≤ 32
-ready-few {g} r = known g (r .accepted) .ranges .few-nonterminals
 
 -- what the table has of two halves
 pub ready-halves : {g index plain pattern : List ℕ} {t : ℕ} {memo : List ℕ} {m : ℕ} → Ready g index plain pattern t memo m
@@ -276,7 +255,7 @@ module _ {g index plain pattern : List ℕ} {t : ℕ} {memo₀ : List ℕ} {a p 
     ruling-asks b c e f =
         rw (e, f)
         (record {
-          ready = ready-shorter m (s .ready) (omega arith) (w .remembers);
+          ready = ready-within (s .ready) (omega arith) (w .remembers);
           left-inside = ruling-inside .0;
           right-inside = ruling-inside .1;
           some = omega (arith, s .asked .some);

@@ -21,11 +21,11 @@ use Rattle.counting.proofs.Sentences.{sentences-one}
 use Rattle.counting.proofs.Counts.{T-sentences}
 use Rattle.readings.specs.Pattern.{byteAt, suits, fitsFrom, fitting}
 use Rattle.readings.specs.Memo.{Remembers, Ready, Asked, Counted}
+use Rattle.readings.proofs.Given.{ready-within, few}
 use Rattle.ranking.specs.declared.locate.Picked.{Picked}
 use Rattle.ranking.specs.declared.locate.Chosen.{Chosen}
 use Rattle.ranking.specs.Located.{WordSought, PickedAs, halvesOf, Sought, ChosenAs, Located, HalvesSought, HalvesLocated}
 use Rattle.ranking.proofs.Fitting.{many-fit, halves-fit, many-halves}
-use Rattle.ranking.proofs.Choosing.{ready-shorter, ready-few}
 
 -- ---- a single word
 
@@ -43,7 +43,7 @@ module _ {g index plain pattern : List ℕ} {t : ℕ} {memo : List ℕ} {a p m d
   word-sought =
       record {
         indexed = s .ready .indexed;
-        few = ready-few (s .ready);
+        few = few (s .ready);
         inside = s .asked .inside;
         some = rw f (rw (e, total-one (chain g) (fitting pattern) p a) at (s .inside));
       }
@@ -86,7 +86,7 @@ module _ {g index plain pattern : List ℕ} {t : ℕ} {memo : List ℕ} {a p m d
   pub halves-sought : HalvesSought g index plain pattern t memo′ r p m
   halves-sought =
       record {
-        ready = ready-shorter m (s .ready) (omega arith) (q .remembers);
+        ready = ready-within (s .ready) (omega arith) (q .remembers);
         left-inside = q .left-inside;
         right-inside = q .right-inside;
         some = q .some;
@@ -124,7 +124,7 @@ module _ {g index plain pattern : List ℕ} {t : ℕ} {memo : List ℕ} {r : Cho
       record { inside = s .right-inside; some = omega (arith, s .short); short = omega (arith, s .small); run = λ l. omega (arith, s .run (omega arith), s .short) }
 
   pub right-ready : Ready g index plain pattern t memo (m - r .k)
-  right-ready = ready-shorter (m - r .k) (s .ready) (omega arith) (s .ready .remembers)
+  right-ready = ready-within (s .ready) (omega arith) (s .ready .remembers)
 
   module _ {memo₁ : List ℕ} (y : ℕ) (q : Counted g pattern t memo₁ (total (chain g) (fitting pattern) (p + r .k) (r .c) (m - r .k)) y) where
     rights-many : howMany (fitsFrom pattern (p + r .k)) rights ≡ y
@@ -154,7 +154,7 @@ module _ {g index plain pattern : List ℕ} {t : ℕ} {memo : List ℕ} {r : Cho
     left-sought u k e =
         rw e
         (record {
-          ready = ready-shorter (r .k) (s .ready) (omega (arith, s .short)) u;
+          ready = ready-within (s .ready) (omega (arith, s .short)) u;
           asked = record { inside = s .left-inside; some = s .some; short = omega (arith, s .short, s .small); run = λ l. omega (arith, s .run l, s .short) };
           inside = rw (← lefts-many) quotient-inside;
         })
@@ -164,7 +164,7 @@ module _ {g index plain pattern : List ℕ} {t : ℕ} {memo : List ℕ} {r : Cho
     right-sought u j e =
         rw e
         (record {
-          ready = ready-shorter (m - r .k) (s .ready) (omega arith) u;
+          ready = ready-within (s .ready) (omega arith) u;
           asked = right-asked;
           inside = rw (← many-fit (chain g) pattern (p + r .k) (r .c) (m - r .k)) remainder-inside;
         })

@@ -1,7 +1,7 @@
--- The laws of the memo and of patterns, for the crates above, and those of the loops.
+-- The laws of the memo, of patterns and of what a reading is promised, for the crates above; and those of the loops.
 pub mod Memo
 pub mod Patterns
-pub mod Words
+mod Words
 pub mod Given
-pub mod Scans
-pub mod Halves
+mod Scans
+mod Halves

@@ -5,8 +5,8 @@ use mathlib.Core.Path.{_≡_, refl, ap, _∙_}
 use mathlib.Core.List.{List, _++_}
 use lib.ListN.{length, take, drop, length-append}
 use borrow.Rule.Slice.PartMut.{postOf}
+use Rattle.readings.proofs.Given.{few}
 use Rattle.ranking.specs.Located.{Located}
-use Rattle.ranking.proofs.Choosing.{ready-few}
 use Rattle.ranking.proofs.Joined.{left-length, right-length, two-halves}
 use Rattle.ranking.proofs.Halving.{word-sought, word-located, sought-more, halves-sought, halves-located, right-asked, right-ready, some-right, left-sought, right-sought, sums-fit, both-located}
 use denote.Ref.{now}
@@ -210,7 +210,7 @@ write-halves-choose-requires-2 t c κs =
     (omega (arith, s .pre .0, h .some, h .short, l), right-sought h _ (c .before .before .before .before .before .before .before .before .before .before .before .before .before .readings .ensures) (w .choose .ensures .remembers) _ l)
 
 write-halves-plain-at-requires : (t : ℕ) → write-halves-lts.Need-plain-at-requires (halves-calls t) (write-halves-at t) write-halves.Post
-write-halves-plain-at-requires t c κs = let s = c .before .before .before .before .before .before .before .before .before .before .before .before .before .before .before .before .before .before .before .before .before .before .before .before .pre .1 in omega (arith, ready-few (s .ready), s .right-inside, s .small, s .short)
+write-halves-plain-at-requires t c κs = let s = c .before .before .before .before .before .before .before .before .before .before .before .before .before .before .before .before .before .before .before .before .before .before .before .before .pre .1 in omega (arith, few (s .ready), s .right-inside, s .small, s .short)
 
 write-halves-mul-result : (t : ℕ) → write-halves-lts.Need-mul-result (halves-calls t) (write-halves-at t) write-halves.Post
 write-halves-mul-result t c = let b = c .before .before .before .before .before in omega (arith, sums-fit (from b .pre .1) _ (counted b .readings .ensures) (left-found b) (right-found b) _ (c .plain-at .ensures))

@@ -5,7 +5,8 @@ use mathlib.Core.Path.{_≡_, refl}
 use Prim.Native.Nat.{_-_, _<_}
 use native.Mathlib.Omega.{arith}
 use lib.ListN.{length}
-use Rattle.ranking.proofs.Choosing.{ready-few, Ruling, next, ruling-start, ruling-low, ruling-left, ruling-right, ruling-asks, ruling-room, ruling-found, ruling-next}
+use Rattle.readings.proofs.Given.{few}
+use Rattle.ranking.proofs.Choosing.{Ruling, next, ruling-start, ruling-low, ruling-left, ruling-right, ruling-asks, ruling-room, ruling-found, ruling-next}
 use Rattle.ranking.proofs.locate.choose_rule.Statement.{statement}
 use Rattle.ranking.proofs.locate.choose_rule.Tie as tie
 
@@ -32,7 +33,7 @@ right-is : (c : tie.After-choose-split Inv-loop μ-loop) → c .before .before .
 right-is c = ruling-right (start (at-loop c) .pre) (at-loop c .loop .inv .0) _ (c .before .before .right-at .ensures .0)
 
 pair-from-requires : tie.Need-pair-from-requires Inv-loop μ-loop
-pair-from-requires c κs = let s = c .before .before .before .pre in omega (arith, ready-few (s .ready), s .asked .inside)
+pair-from-requires c κs = let s = c .before .before .before .pre in omega (arith, few (s .ready), s .asked .inside)
 
 loop-holds : tie.Need-loop-holds Inv-loop μ-loop
 loop-holds c = (ruling-start (c .before .before .before .before .pre) _ (c .pair-from .ensures .0), refl)

@@ -9,7 +9,8 @@ use lib.ListN.{length}
 use Rattle.grammar.specs.Chains.{chain}
 use Rattle.counting.specs.Totals.{T}
 use Rattle.counting.specs.Tables.{most}
-use Rattle.ranking.proofs.Choosing.{Splitting, splitting-start, splitting-end, splitting-room, splitting-asks, splitting-found, splitting-next, ready-shorter, ready-few, ready-halves}
+use Rattle.readings.proofs.Given.{ready-within, few}
+use Rattle.ranking.proofs.Choosing.{Splitting, splitting-start, splitting-end, splitting-room, splitting-asks, splitting-found, splitting-next, ready-halves}
 use Rattle.ranking.proofs.locate.choose_split.Statement.{statement}
 use Rattle.ranking.proofs.locate.choose_split.Tie as tie
 
@@ -32,7 +33,7 @@ split-requires : tie.Need-split-requires Inv-loop μ-loop
 split-requires c κs =
     let l = c .before .before in
     let h = c .before .loop-test .taken in
-    (ready-shorter _ (start l .pre .ready) (omega arith) (l .loop .inv .0 .remembers), splitting-asks (start l .pre) _ (l .loop .inv .0) h)
+    (ready-within (start l .pre .ready) (omega arith) (l .loop .inv .0 .remembers), splitting-asks (start l .pre) _ (l .loop .inv .0) h)
 
 same-length : tie.Need-same-length Inv-loop μ-loop
 same-length c = omega (arith, c .before .before .before .split .kept .1 .1 .1 .1 .1 .1 .1 .1 .1 .1 .0)
@@ -43,13 +44,13 @@ returns c =
     splitting-found (start l .pre) _ (l .loop .inv .0) (c .before .before .before .before .before .loop-test .taken) _ (c .before .before .before .split .ensures) (c .if1 .taken)
 
 plain-at-requires : tie.Need-plain-at-requires Inv-loop μ-loop
-plain-at-requires c κs = let s = start (c .before .before .before .before .before .before) .pre in omega (arith, ready-few (s .ready), s .left-inside, s .short)
+plain-at-requires c κs = let s = start (c .before .before .before .before .before .before) .pre in omega (arith, few (s .ready), s .left-inside, s .short)
 
 sub-plain-at : tie.Need-sub-plain-at Inv-loop μ-loop
 sub-plain-at c = omega arith
 
 plain-at-requires-2 : tie.Need-plain-at-requires-2 Inv-loop μ-loop
-plain-at-requires-2 c κs = let s = start (c .before .before .before .before .before .before .before) .pre in omega (arith, ready-few (s .ready), s .right-inside, s .short)
+plain-at-requires-2 c κs = let s = start (c .before .before .before .before .before .before .before) .pre in omega (arith, few (s .ready), s .right-inside, s .short)
 
 -- what stands before the next left length
 product : (c : tie.After-plain-at2 Inv-loop μ-loop) → let l = c .before .before .before .before .before .before .before .before in
