@@ -23,6 +23,13 @@ abbrev μ-loop : tie.MeasureT-loop
 abbrev start : tie.At-loop Inv-loop μ-loop → tie.Start Inv-loop μ-loop
 start c = c .before .before .before .before
 
+-- from the place where a left length is counted, and from the one where both halves' counts are read, back to the loop's test
+abbrev counted : tie.After-split Inv-loop μ-loop → tie.In-loop Inv-loop μ-loop
+counted c = c .before .before
+
+abbrev read : tie.After-plain-at2 Inv-loop μ-loop → tie.After-split Inv-loop μ-loop
+read c = c .before .before .before .before .before
+
 loop-holds : tie.Need-loop-holds Inv-loop μ-loop
 loop-holds c = (splitting-start (c .before .before .before .pre) _, refl)
 
@@ -40,8 +47,9 @@ same-length c = omega (arith, c .before .before .before .split .kept .1 .1 .1 .1
 
 returns : tie.Need-returns Inv-loop μ-loop
 returns c =
-    let l = c .before .before .before .before .before .before in
-    splitting-found (start l .pre) _ (l .loop .inv .0) (c .before .before .before .before .before .loop-test .taken) _ (c .before .before .before .split .ensures) (c .if1 .taken)
+    let s = c .before .before .before in
+    let l = counted s .before in
+    splitting-found (start l .pre) _ (l .loop .inv .0) (counted s .loop-test .taken) _ (s .split .ensures) (c .if1 .taken)
 
 plain-at-requires : tie.Need-plain-at-requires Inv-loop μ-loop
 plain-at-requires c κs = let s = start (c .before .before .before .before .before .before) .pre in omega (arith, few (s .ready), s .left-inside, s .short)
@@ -53,18 +61,18 @@ plain-at-requires-2 : tie.Need-plain-at-requires-2 Inv-loop μ-loop
 plain-at-requires-2 c κs = let s = start (c .before .before .before .before .before .before .before) .pre in omega (arith, few (s .ready), s .right-inside, s .short)
 
 -- what stands before the next left length
-product : (c : tie.After-plain-at2 Inv-loop μ-loop) → let l = c .before .before .before .before .before .before .before .before in
+product : (c : tie.After-plain-at2 Inv-loop μ-loop) → let l = counted (read c) .before in
     let a = start l .args in
     c .before .plain-at .result * c .plain-at2 .result ≡ T (chain (now (a .g))) (a .b) (l .loop .k) * T (chain (now (a .g))) (a .c) (a .m - l .loop .k)
 product c =
-    let l = c .before .before .before .before .before .before .before .before in
+    let l = counted (read c) .before in
     let s = start l .pre in
     ready-halves (s .ready) _ _ _ _ _ _ (s .left-inside) (s .right-inside) (l .loop .inv .0 .low) (omega arith) (omega arith) (omega arith) (c .before .plain-at .ensures) (c .plain-at2 .ensures)
 
-room : (c : tie.After-plain-at2 Inv-loop μ-loop) → c .before .before .before .before .before .before .before .before .loop .before + c .before .plain-at .result * c .plain-at2 .result ≤ most
+room : (c : tie.After-plain-at2 Inv-loop μ-loop) → counted (read c) .before .loop .before + c .before .plain-at .result * c .plain-at2 .result ≤ most
 room c =
-    let l = c .before .before .before .before .before .before .before .before in
-    omega (arith, product c, splitting-room (start l .pre) _ (l .loop .inv .0) (c .before .before .before .before .before .before .before .loop-test .taken))
+    let l = counted (read c) .before in
+    omega (arith, product c, splitting-room (start l .pre) _ (l .loop .inv .0) (counted (read c) .loop-test .taken))
 
 mul-before : tie.Need-mul-before Inv-loop μ-loop
 mul-before c = omega (arith, room c)
@@ -80,8 +88,11 @@ loop-less c = omega arith
 
 loop-again : tie.Need-loop-again Inv-loop μ-loop
 loop-again c =
-    let l = c .before .before .before .before .before .before .before .before in
-    (splitting-next (start l .pre) _ (l .loop .inv .0) (c .before .before .before .before .before .before .before .loop-test .taken) _ (c .before .before .before .before .before .split .ensures) (c .before .before .if1 .left) _ (omega (arith, product c)), omega (arith, c .before .before .before .before .before .split .kept .1 .1 .1 .1 .1 .1 .1 .1 .1 .1 .0))
+    let s = read c in
+    let l = counted s .before in (
+      splitting-next (start l .pre) _ (l .loop .inv .0) (counted s .loop-test .taken) _ (s .split .ensures) (c .before .before .if1 .left) _ (omega (arith, product c)),
+      omega (arith, s .split .kept .1 .1 .1 .1 .1 .1 .1 .1 .1 .1 .0),
+    )
 
 same-length-2 : tie.Need-same-length-2 Inv-loop μ-loop
 same-length-2 c = c .before .loop .inv .1
