@@ -15,7 +15,7 @@ use Rattle.lists.specs.Joined.{concatMap}
 use Rattle.lists.specs.Searched.{bit, howMany, placeNext}
 use Rattle.lists.specs.Parts.{Passed}
 use Rattle.lists.proofs.Tests.{bit-le}
-use Rattle.lists.proofs.Searches.{many-le}
+use Rattle.lists.proofs.Searches.{many-le, place-all}
 use Rattle.lists.proofs.Parts.{passed-none, passed-size, passed-many, passed-more, passed-part, part-within}
 use Rattle.grammar.specs.Layout.{nonterminals}
 use Rattle.grammar.specs.Chains.{word, chain}
@@ -84,6 +84,20 @@ module _ {g index : List ℕ} {x a d : ℕ} (s : WordSought g index x a d) where
             at = omega (arith, p .at);
             passed = passed-more (w ∷ []) (drop (before + 1) (wordsOf (chain g a))) one-more (before + 1) (left - h) (omega arith) (omega (arith, fits-here));
           }
+
+  -- every word fits a blank
+  words-enough : d < length (wordsOf (chain g a))
+  words-enough = omega (arith, s .some, many-le (suits x) (wordsOf (chain g a)))
+
+  pub blank-low : wordFrom index a + d < 255
+  blank-low = omega (arith, words-enough, s .indexed .word-count a (s .inside), s .indexed .word-low (a + 1) (omega (arith, s .inside)))
+
+  pub blank-picked : x ≡ 255 → (i w : ℕ) → i ≡ wordFrom index a + d → w ≡ getD index i 0 → PickedAs g x a d (record { word = w; before = d })
+  blank-picked b i w e f =
+      record {
+        number = sym (place-all (suits x) (wordsOf (chain g a)) d (λ v m. rw b) words-enough);
+        word = f ∙ ap (λ (n : ℕ). getD index n 0) e ∙ s .indexed .words a d (s .inside) words-enough;
+      }
 
 -- ---- a left length
 

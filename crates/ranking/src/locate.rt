@@ -46,8 +46,8 @@ fn fit(x: u8, w: u8) -> u64
     0
 }
 
-// Of the word rules of a the one that fits the byte x after d others.
-fn pick_word(g: &[u8], index: &[u8; 1024], x: u8, a: usize, d: u64) -> Picked
+// Of the word rules of a the one that fits the byte x after d others, one after another.
+fn find_word(g: &[u8], index: &[u8; 1024], x: u8, a: usize, d: u64) -> Picked
     requires { ⌜ WordSought (now g) (now index) x a d ⌝ }
     ensures { λ r. ⌜ PickedAs (now (g .entry)) x a d r ⌝ }
 {
@@ -64,6 +64,21 @@ fn pick_word(g: &[u8], index: &[u8; 1024], x: u8, a: usize, d: u64) -> Picked
         before += 1;
         i += 1;
     }
+}
+
+// The same at once where every word fits.
+fn pick_word(g: &[u8], index: &[u8; 1024], x: u8, a: usize, d: u64) -> Picked
+    requires { ⌜ WordSought (now g) (now index) x a d ⌝ }
+    ensures { λ r. ⌜ PickedAs (now (g .entry)) x a d r ⌝ }
+{
+    if x == 255 {
+        let i = tables::word_from(index, a) + d as usize;
+        return Picked {
+            word: tables::word_at(index, i),
+            before: d,
+        };
+    }
+    find_word(g, index, x, a, d)
 }
 
 // Of the left lengths of a pair rule (b, c) the one that holds the derivation that fits after d others.
