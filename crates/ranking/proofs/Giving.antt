@@ -72,8 +72,8 @@ module _ {g index plain s : List ℕ} (t : RankReady g index plain s) {a : ℕ} 
   rank-located m f l = (rw (e, f) at l) .number ∙ number-is g s (t .tabled .accepted) (t .native)
 
 -- a memo for five words, and one for sixteen
-pub room-short : (n : ℕ) → n ≤ 5 → room n ≤ 2048
-room-short n h = let l : n + 1 ≤ 6 = omega arith in let q : n * (n + 1) ≤ 5 * 6 = mul-le-mul h l in omega arith
+pub room-short : (n : ℕ) → n ≤ 5 → room n ≤ 1280
+room-short n h = let l : n - 1 ≤ 4 = omega arith in let q : (n - 1) * n ≤ 4 * 5 = mul-le-mul l h in omega arith
 
-pub room-long : (n : ℕ) → n ≤ 16 → room n ≤ 17408
-room-long n h = let l : n + 1 ≤ 17 = omega arith in let q : n * (n + 1) ≤ 16 * 17 = mul-le-mul h l in omega arith
+pub room-long : (n : ℕ) → n ≤ 16 → room n ≤ 15360
+room-long n h = let l : n - 1 ≤ 15 = omega arith in let q : (n - 1) * n ≤ 15 * 16 = mul-le-mul l h in omega arith

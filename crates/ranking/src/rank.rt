@@ -77,7 +77,7 @@ fn number_short(g: &[u8], index: &[u8; 1024], plain: &[u64; 544], sentence: &[u8
     requires { ⌜ RankReady (now g) (now index) (now plain) (now sentence) × (length (now sentence) ≤ 5) ⌝ }
     ensures { λ r. ⌜ rankSaid r ≡ rankOf (now (g .entry)) (now (sentence .entry)) ⌝ }
 {
-    let mut memo = [0u64; 2048];
+    let mut memo = [0u64; 1280];
     number(g, index, plain, sentence, &mut memo)
 }
 
@@ -85,7 +85,7 @@ fn number_long(g: &[u8], index: &[u8; 1024], plain: &[u64; 544], sentence: &[u8]
     requires { ⌜ RankReady (now g) (now index) (now plain) (now sentence) ⌝ }
     ensures { λ r. ⌜ rankSaid r ≡ rankOf (now (g .entry)) (now (sentence .entry)) ⌝ }
 {
-    let mut memo = [0u64; 17408];
+    let mut memo = [0u64; 15360];
     number(g, index, plain, sentence, &mut memo)
 }
 

@@ -44,12 +44,12 @@ module _ {g index plain pattern : List ℕ} {t : ℕ} {memo : List ℕ} {m : ℕ
       }
 
   -- the place of its cell
-  module _ {least a p : ℕ} (w : Asked g pattern least a p m) (l : p < length pattern) where
-    pub spot-asks : (length pattern ≤ 16) × (a < 32) × (p < length pattern) × (m ≤ length pattern)
-    spot-asks = (h .short, omega (arith, few, w .inside), l, omega (arith, w .run l))
+  module _ {a p : ℕ} (w : Asked g pattern 2 a p m) (l : p < length pattern) where
+    pub spot-asks : (length pattern ≤ 16) × (a < 32) × (p < length pattern) × (2 ≤ m) × (m ≤ length pattern)
+    spot-asks = (h .short, omega (arith, few, w .inside), l, w .some, omega (arith, w .run l))
 
     pub spot-found : {i : ℕ} → i ≡ place (length pattern) a p m → Spot (length pattern) a p m i
-    spot-found e = record { inside = spot-asks .1; begins = l; ends = spot-asks .3; at = e }
+    spot-found e = record { inside = spot-asks .1; begins = l; more = w .some; ends = spot-asks .4; at = e }
 
   module _ {a p : ℕ} (w : Asked g pattern 1 a p m) where
     pub read-past : {r : ℕ} → length pattern ≤ p → r ≡ cell plain a m → Counted g pattern t memo (reading g pattern p a m) r

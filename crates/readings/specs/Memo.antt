@@ -11,18 +11,18 @@ use Rattle.counting.specs.Totals.{splitSum, total, T}
 use Rattle.counting.specs.Tables.{Indexed, Rows, most}
 use Rattle.readings.specs.Pattern.{fitting}
 
--- Each nonterminal a, position p and length m has a cell of its own: a stamp, and after it a value. n is the pattern's length.
+-- Each nonterminal a, position p and length m of 2 or more has a cell of its own: a stamp, and after it a value. n is the pattern's length.
 abbrev pub place : (n a p m : ℕ) → ℕ
-place n a p m = 64 * (m * n + p) + 2 * a
+place n a p m = 64 * ((m - 2) * n + p) + 2 * a
 
 -- how many numbers a memo for patterns of length n has
 abbrev pub room : ℕ → ℕ
-room n = 64 * (n * (n + 1))
+room n = 64 * ((n - 1) * n)
 
 -- a cell with the present stamp t has the total of the weight v, and no cell has a later stamp
 pub record Remembers (rules : ℕ → List Rule) (v : ℕ → ℕ → ℕ) (n t : ℕ) (memo : List ℕ) : Type 0 where
   pub long : room n ≤ length memo
-  pub known : (a p m : ℕ) → a < 32 → p < n → m ≤ n → getD memo (place n a p m) 0 ≡ t → getD memo (place n a p m + 1) 0 ≡ total rules v p a m
+  pub known : (a p m : ℕ) → a < 32 → p < n → 2 ≤ m → m ≤ n → getD memo (place n a p m) 0 ≡ t → getD memo (place n a p m + 1) 0 ≡ total rules v p a m
   pub old : (i : ℕ) → getD memo (2 * i) 0 ≤ t
 
 -- what every reading is promised: an accepted grammar, its tables up to the length m, counts that fit, a memo right so far

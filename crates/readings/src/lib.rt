@@ -104,10 +104,10 @@ fn known(
 
 // Where the memo has the stamp of a cell; its value stands after it.
 fn spot(n: usize, a: usize, p: usize, m: usize) -> usize
-    requires { ⌜ (n ≤ 16) × (a < 32) × (p < n) × (m ≤ n) ⌝ }
-    ensures { λ r. ⌜ (r ≡ place n a p m) × (r < 17408) ⌝ }
+    requires { ⌜ (n ≤ 16) × (a < 32) × (p < n) × (2 ≤ m) × (m ≤ n) ⌝ }
+    ensures { λ r. ⌜ (r ≡ place n a p m) × (r < 15360) ⌝ }
 {
-    2 * (32 * (m * n + p) + a)
+    2 * (32 * ((m - 2) * n + p) + a)
 }
 
 // The same by the pair rules of a.

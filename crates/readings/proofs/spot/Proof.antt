@@ -1,13 +1,16 @@
 -- `spot` meets its contract: lengths of at most 16 keep the place small. Assumes nothing.
-use Prim.Native.Nat.{_*_, _≤_}
+use Prim.Native.Nat.{_*_, _-_, _≤_}
 use native.Mathlib.Omega.{arith}
 use native.Mathlib.Nat.{mul-le-mul}
 use Rattle.readings.proofs.spot.Statement.{statement}
 use Rattle.readings.proofs.spot.Tie as tie
 
--- m * n is at most 16 * 16
-small : (c : tie.Start) → c .args .m * c .args .n ≤ 256
-small c = mul-le-mul {n₂ = 16} {m₂ = 16} (omega arith) (omega arith)
+-- (m - 2) * n is at most 14 * 16
+small : (c : tie.Start) → (c .args .m - 2) * c .args .n ≤ 224
+small c = mul-le-mul {n₂ = 14} {m₂ = 16} (omega arith) (omega arith)
+
+sub-result : tie.Need-sub-result
+sub-result c = omega arith
 
 mul-result : tie.Need-mul-result
 mul-result c = omega (arith, small c)
@@ -28,4 +31,4 @@ returns : tie.Need-returns
 returns c = omega (arith, small c)
 
 pub spot-spec : {M : Type 1} → statement M
-spot-spec = tie.close (tie.spec mul-result add-result mul-result-2 add-result-2 mul-result-3 returns)
+spot-spec = tie.close (tie.spec sub-result mul-result add-result mul-result-2 add-result-2 mul-result-3 returns)

@@ -11,7 +11,7 @@ slice-aggregate-number c = search needs
 
 number-requires : tie.Need-number-requires
 number-requires c κs =
-    record { ready = (c .before .before .before .pre); clear = remembers-zeros 17408 (room-long _ (c .before .before .before .pre .tabled .short)) }
+    record { ready = (c .before .before .before .pre); clear = remembers-zeros 15360 (room-long _ (c .before .before .before .pre .tabled .short)) }
 
 returns : tie.Need-returns
 returns c = search needs
