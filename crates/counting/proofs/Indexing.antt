@@ -52,11 +52,11 @@ before-next : (g : List ℕ) (a : ℕ) → before g (a + 1) ≡ before g a ++ ch
 before-next g a = before-split g a 1 ∙ rw (append-nil (chain g a))
 
 -- the list l has b right behind a
-record Part {X : Type 0} (l a b : List X) : Type 0 where
+record Segment {X : Type 0} (l a b : List X) : Type 0 where
   later : List X
   split : l ≡ a ++ (b ++ later)
 
-before-part : (g : List ℕ) (a n : ℕ) → a < n → Part (before g n) (before g a) (chain g a)
+before-part : (g : List ℕ) (a n : ℕ) → a < n → Segment (before g n) (before g a) (chain g a)
 before-part g a n h =
     let e : n ≡ a + suc (n - suc a) = omega arith in
     record {
@@ -69,7 +69,7 @@ module _ {X : Type 0} (f : List Rule → List X) (join : (l r : List Rule) → f
   kind-next : length (f (before g (a + 1))) ≡ length (f (before g a)) + length (f (chain g a))
   kind-next = ap (λ (l : List Rule). length (f l)) (before-next g a) ∙ simp (join, length-append)
 
-  kind-part : (n : ℕ) → a < n → Part (f (before g n)) (f (before g a)) (f (chain g a))
+  kind-part : (n : ℕ) → a < n → Segment (f (before g n)) (f (before g a)) (f (chain g a))
   kind-part n h = let q = before-part g a n h in record { later = f (q .later); split = ap f (q .split) ∙ simp join }
 
 -- ---- runs
@@ -104,7 +104,7 @@ module _ {X : Type 0} (f : X → ℕ) (d : X) where
       rw (length-append l (x ∷ [])) (run-more (f x) ej long (ap f (sym (getD-append-seam l x [] d))) same)
 
   -- what the run of a list has where a part of it stands
-  run-part : {index : List ℕ} {from : ℕ} {l a b : List X} → Part l a b → Run index from (length l) (λ i. f (getD l i d))
+  run-part : {index : List ℕ} {from : ℕ} {l a b : List X} → Segment l a b → Run index from (length l) (λ i. f (getD l i d))
       → {j : ℕ} (i : ℕ) → j ≡ from + (length a + i) → i < length b → getD index j 0 ≡ f (getD b i d)
   run-part {index} {from} {l} {a} {b} q r {j} i ej h =
       let inside : length a + i < length l = rw (q .split) (simp length-append (omega arith)) in
@@ -273,10 +273,10 @@ build-end {g} {index} {n} ok inside e =
     low : (a : ℕ) → a ≤ n → length (wordsOf (before g a)) + length (pairsOf (before g a)) ≤ 255
     low a h = let k = known g ok in omega (arith, both-kinds (before g a), chains-few g ok a (omega arith))
 
-    words-of : (a : ℕ) → a < n → Part (wordsOf (before g n)) (wordsOf (before g a)) (wordsOf (chain g a))
+    words-of : (a : ℕ) → a < n → Segment (wordsOf (before g n)) (wordsOf (before g a)) (wordsOf (chain g a))
     words-of a h = kind-part wordsOf words-append g a n h
 
-    pairs-of : (a : ℕ) → a < n → Part (pairsOf (before g n)) (pairsOf (before g a)) (pairsOf (chain g a))
+    pairs-of : (a : ℕ) → a < n → Segment (pairsOf (before g n)) (pairsOf (before g a)) (pairsOf (chain g a))
     pairs-of a h = kind-part pairsOf pairs-append g a n h
 
 -- ---- reading it

@@ -19,7 +19,7 @@ use Rattle.grammar.specs.Layout.{nonterminals, words, rules, headOf, kin
 use Rattle.grammar.specs.Chains.{Rule, word, pair, ruleOf, metFrom, chainNumbers, met, rest, chain, Walk, ends, goes}
 use Rattle.grammar.specs.Refusals.{Accepted}
 use Rattle.grammar.proofs.Acceptance.{Known, known, fits-cases}
-use Rattle.grammar.proofs.Bounded.{met-zero, met-above, met-more, place, at-rule, at-end, met-rules, met-short}
+use Rattle.grammar.proofs.Bounded.{met-zero, met-above, met-more, place, at-rule, at-end, met-rules}
 
 -- ---- a walk that is shorter than its bound has ended: a larger bound shows no more
 
@@ -178,12 +178,6 @@ rest-inside g ok r m =
     let q = Memᴰ·of-map (ruleOf g) (metFrom g (rules g + 1) r) m in
     let i = met-rules g (rules g + 1) r (q .1) in
     rw (← q .2) (rule-inside g (known g ok) (q .0) (i .0) (i .1))
-
-pub rest-short : (g : List ℕ) → Accepted g → (r : ℕ) → length (rest g r) ≤ 256
-unfolding rest
-rest-short g ok r =
-    let few = known g ok .ranges .few-rules in
-    omega (arith, length-map (metFrom g (rules g + 1) r) (ruleOf g), met-short g (rules g + 1) r)
 
 -- the chains of the first nonterminals have no more rules together than there are
 pub chains-few : (g : List ℕ) → Accepted g → (n : ℕ) → n ≤ nonterminals g → length (concatMap (chain g) (upFrom 0 n)) ≤ rules g

@@ -1,5 +1,5 @@
 -- Demand 2 as one statement: counts, sentences and numbers are those of the grammar's derivation trees in document 01's order. Trees, their
--- sentences and their order are those of the grammar's specs/Trees.antt, and nothing of the lists or sums that the answers are made of.
+-- sentences and their order are those of the grammar's specs/Trees.antt. T is a sum of products; `counted` says what it counts.
 -- Assumes nothing: these are definitions.
 use mathlib.Core.Path.{_≡_}
 use mathlib.Core.List.{List, [], _∷_, _++_}
