@@ -2,7 +2,7 @@
 -- Assumes nothing.
 use mathlib.Core.Path.{_≡_, refl}
 use mathlib.Core.Logic.{_⊎_, inl, inr}
-use mathlib.Core.Bool.{Bool, true, false, not, _||_, false≢true}
+use mathlib.Core.Bool.{true, false, not, _||_, false≢true}
 use mathlib.Core.List.{List}
 use Prim.Native.Nat.{ℕ, zero, suc, _≤_, _<_}
 use native.Mathlib.Omega.{arith}
@@ -10,7 +10,7 @@ use lib.ListN.{length}
 use lib.Dec.{ltb, leb, eqb, lit<}
 use borrow.Author.Tests.{leb-false, ltb-true, ltb-false, eqb-true, eqb-false, lt-ltb, le-ltb, not-false}
 use Rattle.lists.specs.Searched.{within, someBelow, someTo, times}
-use Rattle.lists.proofs.Tests.{within-facts, within-low, within-high, within-both, and-left, and-right, or-left, or-right, below-at}
+use Rattle.lists.proofs.Tests.{within-facts, within-low, within-high, within-both, and-left, and-right, or-left, or-right, below-at, to-at}
 use Rattle.answers.proofs.Refusals.{row-clear}
 use Rattle.grammar.specs.Layout.{nonterminals, words, rules, start, headOf, kindOf, aOf, bOf, nextOf, sizeOf}
 use Rattle.grammar.specs.Chains.{met}
@@ -99,11 +99,6 @@ fits-cases N W zero a b e =
 fits-cases N W (suc zero) a b e =
     inr (refl, ltb-true a N (and-left (ltb a N) (ltb b N) e), ltb-true b N (and-right (ltb a N) (ltb b N) e))
 fits-cases N W (suc (suc kind)) a b e = absurd (false≢true e)
-
--- where no number from 1 to n passes, none does
-pub to-at : (f : ℕ → Bool) (n r : ℕ) → someTo f n ≡ false → 1 ≤ r → r ≤ n → f r ≡ false
-to-at f n zero e h k = absurd (omega arith)
-to-at f n (suc r) e h k = below-at (λ i. f (suc i)) n r e k
 
 one-left : (x : ℕ) → x < 2 → (x ≡ 0 → ⊥) → x ≡ 1
 one-left zero h n = absurd (n refl)

@@ -3,7 +3,6 @@ pub mod Choices
 pub mod Enumeration
 pub mod Order
 pub mod Acceptance
-pub mod Bounded
 pub mod Walks
 pub mod Marks
 pub mod Twins

@@ -11,21 +11,23 @@ use Rattle.lists.specs.Joined.{concatMap, upFrom}
 use Rattle.lists.specs.Searched.{times}
 use Rattle.lists.proofs.Places.{getD-same, upFrom-step}
 use Rattle.lists.proofs.Searches.{many-le, times-append, times-mark}
+use Rattle.lists.proofs.Linked.{met-step, met-short}
 use Rattle.grammar.specs.Layout.{byteAt, nonterminals, rules, headOf, nextOf}
-use Rattle.grammar.specs.Chains.{metFrom, chainNumbers, met}
+use Rattle.grammar.specs.Chains.{numbersFrom, chainNumbers, met}
 use Rattle.grammar.specs.Checks.{Sized, Marking, Marked, Counted}
-use Rattle.grammar.proofs.Bounded.{met-step, met-short}
 
 -- no number stands on a chain more than 256 times
 chain-few : (g : List ℕ) {r : ℕ} (a q : ℕ) → r ≡ rules g → r ≤ 255 → times q (chainNumbers g a) ≤ 256
-chain-few g a q e h = omega (arith, many-le (eqb q) (chainNumbers g a), met-short g (rules g + 1) (headOf g a))
+chain-few g a q e h =
+    let short : length (chainNumbers g a) ≤ rules g + 1 = met-short _ _ _ _ in
+    omega (arith, many-le (eqb q) (chainNumbers g a))
 
 -- ---- the marks along one chain
 
 -- the marks as the chain of a is walked, before the number at, with so many steps left
 pub record Walking (g : List ℕ) (a : ℕ) (before marks : List ℕ) (at left : ℕ) : Type 0 where
   pub long : length marks ≡ 256
-  pub due : (q : ℕ) → getD marks q 0 + times q (metFrom g left at) ≡ getD before q 0 + times q (chainNumbers g a)
+  pub due : (q : ℕ) → getD marks q 0 + times q (numbersFrom g left at) ≡ getD before q 0 + times q (chainNumbers g a)
 
 module _ {g : List ℕ} {n r a : ℕ} {before : List ℕ} (m : Marking g n r a before) where
   pub walk-start : {at : ℕ} → at ≡ headOf g a → Walking g a before before at (r + 1)
@@ -39,16 +41,16 @@ module _ {g : List ℕ} {n r a : ℕ} {before : List ℕ} (m : Marking g n r a b
       → Walking g a before marks at left → Walking g a before (set marks at (getD marks at 0 + 1)) next (left - 1)
   walk-step {marks} {at} {left} {next} h h₁ h₂ e w = record {
     long = length-set marks at (getD marks at 0 + 1) ∙ w .long;
-    due = λ q. rw link (times-mark marks at (metFrom g (left - 1) (nextOf g at)) q (omega arith) ∙ rw step at (w .due q));
+    due = λ q. rw link (times-mark marks at (numbersFrom g (left - 1) (nextOf g at)) q (omega arith) ∙ rw step at (w .due q));
   }
     where
       link : next ≡ nextOf g at
       link = e ∙ ap (λ (k : ℕ). byteAt g (k + 4 * at + 3)) (m .sized .heads)
 
-      step : metFrom g left at ≡ at ∷ metFrom g (left - 1) (nextOf g at)
-      step = met-step g left at h (omega arith) (omega arith)
+      step : numbersFrom g left at ≡ at ∷ numbersFrom g (left - 1) (nextOf g at)
+      step = met-step _ _ left at h (omega arith) (omega arith)
 
-pub walk-end : {g : List ℕ} {a : ℕ} {before marks : List ℕ} {at left : ℕ} → Walking g a before marks at left → metFrom g left at ≡ []
+pub walk-end : {g : List ℕ} {a : ℕ} {before marks : List ℕ} {at left : ℕ} → Walking g a before marks at left → numbersFrom g left at ≡ []
     → Marked g a before marks
 walk-end w e = record { long = w .long; more = λ q. omega (arith, rw e at (w .due q)) }
 

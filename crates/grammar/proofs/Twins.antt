@@ -14,13 +14,13 @@ use lib.ListN.{length, getD, set, replicate, length-set}
 use Rattle.lists.specs.Joined.{_∈_}
 use Rattle.lists.specs.Searched.{someOf, someBelow}
 use Rattle.lists.proofs.Places.{getD-same, set-le}
-use Rattle.lists.proofs.Tests.{and-left, and-right, both-ways, some-ext, some-never, some-stamped, below-hit, below-miss, below-none}
+use Rattle.lists.proofs.Tests.{and-left, and-right, both-ways, some-ext, some-never, some-stamped, below-hit, below-miss, below-none, to-at}
+use Rattle.lists.proofs.Linked.{met-step, met-inside}
 use Rattle.grammar.specs.Layout.{byteAt, nonterminals, words, rules, headOf, kindOf, aOf, bOf, nextOf}
-use Rattle.grammar.specs.Chains.{metFrom, chainNumbers}
+use Rattle.grammar.specs.Chains.{numbersFrom, chainNumbers}
 use Rattle.grammar.specs.Refusals.{fits, misfit, badRule, alike, twins, repeated}
 use Rattle.grammar.specs.Checks.{Sized, slotOf, slotAt, Stamping, Stamped}
-use Rattle.grammar.proofs.Acceptance.{fits-cases, to-at}
-use Rattle.grammar.proofs.Bounded.{met-step, met-rules}
+use Rattle.grammar.proofs.Acceptance.{fits-cases}
 
 -- ---- a body that fits, and its slot
 
@@ -99,7 +99,7 @@ stamped g stamps stamp x = eqb (getD stamps (slotAt g x) 0) stamp
 pub record Walking (g : List ℕ) (a stamp : ℕ) (stamps : List ℕ) (at left : ℕ) : Type 0 where
   pub long : length stamps ≡ 1280
   pub used : (q : ℕ) → getD stamps q 0 ≤ stamp
-  pub found : twins g (chainNumbers g a) ≡ (someOf (stamped g stamps stamp) (metFrom g left at) || twins g (metFrom g left at))
+  pub found : twins g (chainNumbers g a) ≡ (someOf (stamped g stamps stamp) (numbersFrom g left at) || twins g (numbersFrom g left at))
 
 -- the walk has met the rule `at`, and s is its slot
 pub record Meeting (g : List ℕ) (n r a stamp : ℕ) (stamps : List ℕ) (at left s : ℕ) : Type 0 where
@@ -114,7 +114,7 @@ pub record Meeting (g : List ℕ) (n r a stamp : ℕ) (stamps : List ℕ) (at le
 
 -- the numbers that the walk meets after `at`
 abbrev ahead : (g : List ℕ) (at left : ℕ) → List ℕ
-ahead g at left = metFrom g (left - 1) (nextOf g at)
+ahead g at left = numbersFrom g (left - 1) (nextOf g at)
 
 pub walk-starts : {g : List ℕ} {n r a stamp : ℕ} {stamps : List ℕ} {at left : ℕ} → Stamping g n r a stamp stamps → at ≡ headOf g a → left ≡ r + 1
     → Walking g a stamp stamps at left
@@ -128,7 +128,7 @@ walk-starts {g} {a = a} {stamp} {stamps} {left = left} ready ea el =
       found = rw (ea, e, some-never (stamped g stamps stamp) (chainNumbers g a) new);
     }
 
-pub walk-ends : {g : List ℕ} {a stamp : ℕ} {stamps : List ℕ} {at left : ℕ} → Walking g a stamp stamps at left → metFrom g left at ≡ [] → Stamped g a stamp stamps false
+pub walk-ends : {g : List ℕ} {a stamp : ℕ} {stamps : List ℕ} {at left : ℕ} → Walking g a stamp stamps at left → numbersFrom g left at ≡ [] → Stamped g a stamp stamps false
 unfolding twins
 walk-ends w e = record { alike = sym (w .found ∙ rw e); long = w .long; used = w .used }
 
@@ -147,11 +147,11 @@ module _ {g : List ℕ} {n r a stamp : ℕ} {stamps : List ℕ} {at left s : ℕ
       let h : at ≤ rules g = omega arith in
       let inside : s < length stamps = omega (arith, meet-low, m .walking .long) in
       let same : (x : ℕ) → x ∈ ahead g at left → alike g at x ≡ eqb s (slotAt g x)
-      = λ x i. let q = met-rules g (left - 1) (nextOf g at) i in
+      = λ x i. let q = met-inside (nextOf g) (rules g) (left - 1) (nextOf g at) i in
       rw slot-here (rule-alike g n r (m .sized) (m .fit) (m .low) at x (m .some) h (q .0) (q .1)) in
       m .walking .found
       ∙ rw (
-        met-step g left at (m .more) (m .some) h,
+        met-step (nextOf g) (rules g) left at (m .more) (m .some) h,
         some-stamped (slotAt g) stamps s stamp (ahead g at left) inside,
         some-ext (alike g at) (λ x. eqb s (slotAt g x)) (ahead g at left) same,
         ← slot-here,

@@ -2,56 +2,25 @@
 -- yields can be said step by step, with no bound on its length.
 -- The argument: R rules, none of them met twice, make walks of at most R steps, so none of the R + 1 allowed is missing.
 -- Assumes nothing.
-use mathlib.Core.Path.{_≡_, refl, sym, ap, _∙_}
+use mathlib.Core.Path.{_≡_, ap, _∙_}
 use mathlib.Core.Logic.{inl, inr}
-use mathlib.Core.List.{List, [], _∷_, _++_, map, List·Memᴰ·head, List·Memᴰ·tail, List·Memᴰ·not-nil, Memᴰ·of-map}
-use Prim.Native.Nat.{ℕ, zero, suc, _+_, _-_, _≤_, _<_}
+use mathlib.Core.List.{List, [], _∷_, _++_, map, Memᴰ·of-map}
+use Prim.Native.Nat.{ℕ, _+_, _-_, _≤_, _<_}
 use native.Mathlib.Omega.{arith}
 use lib.ListN.{length, length-map}
 use borrow.Author.Tests.{eq-eqb}
 use Rattle.lists.specs.Joined.{_∈_, sumOver, concatMap, upFrom}
 use Rattle.lists.specs.Ordered.{Distinct}
+use Rattle.lists.specs.Linked.{Walk}
 use Rattle.lists.proofs.Sums.{sum-append, sum-ext, length-concat}
 use Rattle.lists.proofs.Places.{upFrom-split}
 use Rattle.lists.proofs.Members.{concat-∈, upFrom-∈, ∈-upFrom}
 use Rattle.lists.proofs.Searches.{times-few, ∈-times, times-distinct, times-concat}
+use Rattle.lists.proofs.Linked.{met-zero, met-above, met-inside, met-free, met-walk}
 use Rattle.grammar.specs.Layout.{nonterminals, words, rules, headOf, kindOf, aOf, bOf, nextOf}
-use Rattle.grammar.specs.Chains.{Rule, word, pair, ruleOf, metFrom, chainNumbers, met, rest, chain, Walk, ends, goes}
+use Rattle.grammar.specs.Chains.{Rule, word, pair, ruleOf, numbersFrom, chainNumbers, met, rest, chain}
 use Rattle.grammar.specs.Refusals.{Accepted}
 use Rattle.grammar.proofs.Acceptance.{Known, known, fits-cases}
-use Rattle.grammar.proofs.Bounded.{met-zero, met-above, met-more, place, at-rule, at-end, met-rules}
-
--- ---- a walk that is shorter than its bound has ended: a larger bound shows no more
-
-met-ended : (g : List ℕ) (f k r : ℕ) → length (metFrom g f r) < f → f ≤ k → metFrom g k r ≡ metFrom g f r
-met-ended g zero k r h l = absurd (omega arith)
-met-ended g (suc f) zero r h l = absurd (omega arith)
-met-ended g (suc f) (suc k) r h l =
-    elim (place g r) [
-      | at-rule a b ↦
-          let e = met-more g f r a b in
-          let h′ : length (metFrom g f (nextOf g r)) < f = omega (arith, ap length e) in
-          met-more g k r a b ∙ ap (λ (m : List ℕ). r ∷ m) (met-ended g f k (nextOf g r) h′ (omega arith)) ∙ sym e
-      | at-end e ↦ e (suc k) ∙ sym (e (suc f))
-    ]
-
--- from each rule that it meets, the walk goes on to its end
-met-within : (g : List ℕ) (f r x : ℕ) → length (metFrom g f r) < f → x ∈ metFrom g f r → (n : ℕ) × (n ≤ f) × (length (metFrom g n x) < n)
-met-within g zero r x h m = absurd (omega arith)
-met-within g (suc f) r x h m =
-    elim (place g r) [
-      | at-rule a b ↦
-          let e = met-more g f r a b in
-          let h′ : length (metFrom g f (nextOf g r)) < f = omega (arith, ap length e) in
-          go a b h′ (λ q. met-within g f (nextOf g r) x h′ q) (rw e at m)
-      | at-end e ↦ absurd (List·Memᴰ·not-nil (rw (e (suc f)) at m))
-    ]
-  where
-    go : 1 ≤ r → r ≤ rules g → length (metFrom g f (nextOf g r)) < f
-        → (x ∈ metFrom g f (nextOf g r) → (n : ℕ) × (n ≤ f) × (length (metFrom g n x) < n))
-        → x ∈ (r ∷ metFrom g f (nextOf g r)) → (n : ℕ) × (n ≤ suc f) × (length (metFrom g n x) < n)
-    go a b h′ ih (List·Memᴰ·head e) = (suc f, omega arith, rw e h)
-    go a b h′ ih (List·Memᴰ·tail q) = let w = ih q in (w .0, omega arith, w .2)
 
 -- ---- of an accepted grammar
 
@@ -60,7 +29,7 @@ module _ (g : List ℕ) (ok : Known g) where
   chain-over : (A : ℕ) → A < nonterminals g → length (chainNumbers g A) < rules g + 1
   chain-over A h =
       let few = times-few 1 (rules g) (chainNumbers g A)
-      (λ x m. let q = met-rules g (rules g + 1) (headOf g A) m in omega arith)
+      (λ x m. let q = met-inside (nextOf g) (rules g) (rules g + 1) (headOf g A) m in omega arith)
       (λ r m. let q = upFrom-∈ 1 (rules g) m in
       omega (
         arith,
@@ -69,35 +38,13 @@ module _ (g : List ℕ) (ok : Known g) where
       )) in
       omega arith
 
-  -- each rule is on a chain, so the walk from it is over within that bound too
-  over : (r : ℕ) → 1 ≤ r → r ≤ rules g → (n : ℕ) × (n ≤ rules g + 1) × (length (metFrom g n r) < n)
-  over r h k =
+  -- each rule is on a chain, so the bound can be left out of the step from it
+  pub numbers-step : (r : ℕ) → 1 ≤ r → r ≤ rules g → numbersFrom g (rules g + 1) r ≡ r ∷ numbersFrom g (rules g + 1) (nextOf g r)
+  numbers-step r h k =
       let m : r ∈ met g = ∈-times r (met g) (omega (arith, ok .once r h k)) in
       let q = concat-∈ (chainNumbers g) (upFrom 0 (nonterminals g)) m in
       let inside = upFrom-∈ 0 (nonterminals g) (q .1) in
-      met-within g (rules g + 1) (headOf g (q .0)) r (chain-over (q .0) (omega arith)) (q .2)
-
-  -- so the bound can be left out of a step
-  pub numbers-step : (r : ℕ) → 1 ≤ r → r ≤ rules g → metFrom g (rules g + 1) r ≡ r ∷ metFrom g (rules g + 1) (nextOf g r)
-  numbers-step r h k = go (over r h k)
-    where
-      go : (n : ℕ) × (n ≤ rules g + 1) × (length (metFrom g n r) < n) → metFrom g (rules g + 1) r ≡ r ∷ metFrom g (rules g + 1) (nextOf g r)
-      go (zero, l, s) = absurd (omega arith)
-      go (suc n, l, s) =
-          let e = met-more g n r h k in
-          let s′ : length (metFrom g n (nextOf g r)) < n = omega (arith, ap length e) in
-          met-ended g (suc n) (rules g + 1) r s l ∙ e ∙ ap (λ (m : List ℕ). r ∷ m) (sym (met-ended g n (rules g + 1) (nextOf g r) s′ (omega arith)))
-
-  -- ---- the theorem on walks
-
-  walk-from : (n r : ℕ) → r ≤ rules g → length (metFrom g n r) < n → Walk g r (metFrom g n r)
-  unfolding metFrom
-  walk-from zero r k h = absurd (omega arith)
-  walk-from (suc n) zero k h = ends refl
-  walk-from (suc n) (suc r) k h =
-      let e = met-more g n (suc r) (omega arith) k in
-      let h′ : length (metFrom g n (nextOf g (suc r))) < n = omega (arith, ap length e) in
-      rw e (goes {r = suc r} (omega arith) k (walk-from n (nextOf g (suc r)) (ok .nexts (suc r) (omega arith) k) h′))
+      met-free (nextOf g) (rules g) (rules g + 1) (headOf g (q .0)) r (chain-over (q .0) (omega arith)) (q .2)
 
   -- no rule is met twice on all chains together
   met-few : length (met g) ≤ rules g
@@ -105,13 +52,13 @@ module _ (g : List ℕ) (ok : Known g) where
       times-few 1 (rules g) (met g)
       (λ x m.
       let q = concat-∈ (chainNumbers g) (upFrom 0 (nonterminals g)) m in
-      let i = met-rules g (rules g + 1) (headOf g (q .0)) (q .2) in
+      let i = met-inside (nextOf g) (rules g) (rules g + 1) (headOf g (q .0)) (q .2) in
       omega arith)
       (λ r m. let q = upFrom-∈ 1 (rules g) m in omega (arith, ok .once r (omega arith) (omega arith)))
 
--- every chain's walk ends, no rule is met twice on them, and every rule is met
+-- every chain's walk ends (`Walk` sets no bound on its length), no rule is met twice on them, and every rule is met
 pub record Chained (g : List ℕ) : Type 0 where
-  pub over : (A : ℕ) → A < nonterminals g → Walk g (headOf g A) (chainNumbers g A)
+  pub over : (A : ℕ) → A < nonterminals g → Walk (nextOf g) (rules g) (headOf g A) (chainNumbers g A)
   pub once : Distinct (met g)
   pub all : (r : ℕ) → 1 ≤ r → r ≤ rules g → r ∈ met g
 
@@ -119,11 +66,11 @@ pub chained : (g : List ℕ) → Accepted g → Chained g
 chained g ok =
     let k = known g ok in
     record {
-      over = λ A h. walk-from g k (rules g + 1) (headOf g A) (k .heads A h) (chain-over g k A h);
+      over = λ A h. met-walk (nextOf g) (rules g) (k .nexts) (rules g + 1) (headOf g A) (k .heads A h) (chain-over g k A h);
       once = times-distinct (met g)
           (λ r m.
           let q = concat-∈ (chainNumbers g) (upFrom 0 (nonterminals g)) m in
-          let i = met-rules g (rules g + 1) (headOf g (q .0)) (q .2) in
+          let i = met-inside (nextOf g) (rules g) (rules g + 1) (headOf g (q .0)) (q .2) in
           omega (arith, k .once r (i .0) (i .1)));
       all = λ r h j. ∈-times r (met g) (omega (arith, k .once r h j));
     }
@@ -137,11 +84,11 @@ Inside g (pair B C) = (B < nonterminals g) × (C < nonterminals g)
 
 pub rest-zero : (g : List ℕ) (r : ℕ) → r ≡ 0 → rest g r ≡ []
 unfolding rest
-rest-zero g r e = ap (map (ruleOf g)) (met-zero g (rules g + 1) r e)
+rest-zero g r e = ap (map (ruleOf g)) (met-zero (nextOf g) (rules g) (rules g + 1) r e)
 
 pub rest-above : (g : List ℕ) (r : ℕ) → rules g < r → rest g r ≡ []
 unfolding rest
-rest-above g r h = ap (map (ruleOf g)) (met-above g (rules g + 1) r h)
+rest-above g r h = ap (map (ruleOf g)) (met-above (nextOf g) (rules g) (rules g + 1) r h)
 
 pub rest-rule : (g : List ℕ) → Accepted g → (r : ℕ) → 1 ≤ r → r ≤ rules g → rest g r ≡ ruleOf g r ∷ rest g (nextOf g r)
 unfolding rest
@@ -175,8 +122,8 @@ rule-inside g ok r h k =
 pub rest-inside : (g : List ℕ) → Accepted g → (r : ℕ) {x : Rule} → x ∈ rest g r → Inside g x
 unfolding rest
 rest-inside g ok r m =
-    let q = Memᴰ·of-map (ruleOf g) (metFrom g (rules g + 1) r) m in
-    let i = met-rules g (rules g + 1) r (q .1) in
+    let q = Memᴰ·of-map (ruleOf g) (numbersFrom g (rules g + 1) r) m in
+    let i = met-inside (nextOf g) (rules g) (rules g + 1) r (q .1) in
     rw (← q .2) (rule-inside g (known g ok) (q .0) (i .0) (i .1))
 
 -- the chains of the first nonterminals have no more rules together than there are

@@ -7,3 +7,4 @@ pub mod Tests
 pub mod Searches
 pub mod Strikes
 pub mod Parts
+pub mod Linked

@@ -7,7 +7,7 @@ use mathlib.Core.List.{List, [], _∷_, _++_, map, List·Memᴰ·head, List·Mem
 use Prim.Native.Nat.{ℕ, zero, suc, _+_, _*_, _-_, _/_, _%_, _≤_, _<_}
 use native.Mathlib.Omega.{arith}
 use native.Mathlib.Nat.{div-add-mod', mod-lt, div-lt-iff-lt-mul}
-use native.Mathlib.Decide.{ℕ-discrete}
+use native.Mathlib.Decide.{ℕ-discrete, decLe}
 use borrow.Author.Tests.{eq-eqb, ne-eqb}
 use lib.Dec.{eqb}
 use lib.ListN.{length, getD, set, length-map}
@@ -196,6 +196,21 @@ pub times-few : (k n : ℕ) (l : List ℕ) → ((x : ℕ) → x ∈ l → (k ≤
 times-few k n l h f =
     omega (arith, times-sum k n l h, sum-le (λ r. times r l) (λ r. 1) (upFrom k n) f, sum-const 1 (upFrom k n), length-upFrom k n)
 
+-- a sum of n numbers, none above 1, is at most n; where it is n, each of them is 1
+sum-most : (f : ℕ → ℕ) (l : List ℕ) → ((x : ℕ) → x ∈ l → f x ≤ 1) → sumOver f l ≤ length l
+sum-most f l h = omega (arith, sum-le f (λ x. 1) l h, sum-const 1 l)
+
+sum-full : (f : ℕ → ℕ) (l : List ℕ) → ((x : ℕ) → x ∈ l → f x ≤ 1) → sumOver f l ≡ length l → (x : ℕ) → x ∈ l → f x ≡ 1
+sum-full f (y ∷ l) h e x (List·Memᴰ·head p) =
+    rw p (omega (arith, h y (List·Memᴰ·head refl), sum-most f l (λ z m. h z (List·Memᴰ·tail m))))
+sum-full f (y ∷ l) h e x (List·Memᴰ·tail q) =
+    sum-full f l (λ z m. h z (List·Memᴰ·tail m)) (omega (arith, h y (List·Memᴰ·head refl), sum-most f l (λ z m. h z (List·Memᴰ·tail m)))) x q
+
+-- a list of n out of n values, none of them twice, has each of them once
+pub times-full : (k n : ℕ) (l : List ℕ) → ((x : ℕ) → x ∈ l → (k ≤ x) × (x < k + n)) → ((r : ℕ) → r ∈ upFrom k n → times r l ≤ 1)
+    → length l ≡ n → (r : ℕ) → r ∈ upFrom k n → times r l ≡ 1
+times-full k n l h f e = sum-full (λ r. times r l) (upFrom k n) f (omega (arith, times-sum k n l h, length-upFrom k n))
+
 pub times-∈ : (r : ℕ) (l : List ℕ) → r ∈ l → 1 ≤ times r l
 times-∈ r (x ∷ l) (List·Memᴰ·head e) = let b : bit (eqb r x) ≡ 1 = ap bit (eq-eqb r x e) in omega arith
 times-∈ r (x ∷ l) (List·Memᴰ·tail m) = omega (arith, times-∈ r l m)
@@ -230,6 +245,22 @@ times-distinct (x ∷ l) f =
     more {x = x}
     (λ y m e. let b = same-bit x in let q = times-∈ y l m in let g = f x (List·Memᴰ·head refl) in omega (arith, ap (λ (z : ℕ). times z l) e))
     (times-distinct l (λ r m. omega (arith, f r (List·Memᴰ·tail m))))
+
+-- and the other way round
+pub distinct-times : (l : List ℕ) → Distinct l → (r : ℕ) → times r l ≤ 1
+distinct-times [] none r = omega arith
+distinct-times (x ∷ l) (more f s) r =
+    elim (ℕ-discrete r x) [
+      | yes e ↦ let z : times r l ≡ 0 = absent (λ m. f r m (sym e)) in omega (arith, bit-le (eqb r x))
+      | no ne ↦ omega (arith, other-bit r x ne, distinct-times l s r)
+    ]
+  where
+    absent : (r ∈ l → ⊥) → times r l ≡ 0
+    absent n =
+        elim (decLe 1 (times r l)) [
+          | yes h ↦ absurd (n (∈-times r l h))
+          | no k ↦ omega arith
+        ]
 
 module _ {X : Type 0} where
   -- a value stands in all the lists together at least as often as in one of them

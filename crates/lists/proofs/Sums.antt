@@ -41,6 +41,10 @@ module _ {X Y : Type 0} where
   sum-map f g [] = refl
   sum-map f g (x ∷ l) = omega (arith, sum-map f g l)
 
+  pub map-ext : (f g : X → Y) (l : List X) → ((x : X) → x ∈ l → f x ≡ g x) → map f l ≡ map g l
+  map-ext f g [] h = refl
+  map-ext f g (x ∷ l) h = rw (h x (List·Memᴰ·head refl), map-ext f g l (λ y m. h y (List·Memᴰ·tail m)))
+
   pub concat-ext : (f g : X → List Y) (l : List X) → ((x : X) → x ∈ l → f x ≡ g x) → concatMap f l ≡ concatMap g l
   concat-ext f g [] h = refl
   concat-ext f g (x ∷ l) h =

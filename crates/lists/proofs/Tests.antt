@@ -84,6 +84,19 @@ module _ {X : Type 0} where
   some-never P [] h = refl
   some-never P (x ∷ l) h = rw (h x) (some-never P l h)
 
+  pub some-∈ : (P : X → Bool) (x : X) (l : List X) → x ∈ l → P x ≡ true → someOf P l ≡ true
+  some-∈ P x (y ∷ l) (List·Memᴰ·head e) h = rw (← e, h)
+  some-∈ P x (y ∷ l) (List·Memᴰ·tail m) h = or-true (P y) (someOf P l) (some-∈ P x l m h)
+
+  pub ∈-some : (P : X → Bool) (l : List X) → someOf P l ≡ true → (x : X) × (x ∈ l) × (P x ≡ true)
+  ∈-some P [] e = absurd (false≢true e)
+  ∈-some P (y ∷ l) e = go (P y) refl (∈-some P l) e
+    where
+      go : (b : Bool) → P y ≡ b → (someOf P l ≡ true → (x : X) × (x ∈ l) × (P x ≡ true)) → (b || someOf P l) ≡ true
+          → (x : X) × (x ∈ (y ∷ l)) × (P x ≡ true)
+      go true p ih q = (y, List·Memᴰ·head refl, p)
+      go false p ih q = let r = ih q in (r .0, List·Memᴰ·tail (r .1), r .2)
+
   pub some-or : (P Q : X → Bool) (l : List X) → someOf (λ x. P x || Q x) l ≡ (someOf P l || someOf Q l)
   some-or P Q [] = refl
   some-or P Q (x ∷ l) = rw (some-or P Q l) (or-swap (P x) (Q x) (someOf P l) (someOf Q l))
@@ -165,6 +178,12 @@ unfolding someBelow
 below-ext f g zero h = refl
 below-ext f g (suc n) h = rw (h n, below-ext f g n h)
 
+-- the same where they agree below the bound
+pub below-within : (f g : ℕ → Bool) (n : ℕ) → ((i : ℕ) → i < n → f i ≡ g i) → someBelow f n ≡ someBelow g n
+unfolding someBelow
+below-within f g zero h = refl
+below-within f g (suc n) h = rw (h n (omega arith), below-within f g n (λ i l. h i (omega arith)))
+
 pub to-ext : (f g : ℕ → Bool) (n : ℕ) → ((i : ℕ) → f i ≡ g i) → someTo f n ≡ someTo g n
 to-ext f g n h = below-ext (λ i. f (suc i)) (λ i. g (suc i)) n (λ i. h (suc i))
 
@@ -186,3 +205,22 @@ to-clear f n h = below-clear (λ i. f (suc i)) n (λ i l. h (suc i) (omega arith
 pub to-some : (f : ℕ → Bool) (n i : ℕ) → 1 ≤ i → i ≤ n → f i ≡ true → someTo f n ≡ true
 to-some f n zero h k e = absurd (omega arith)
 to-some f n (suc i) h k e = below-some (λ j. f (suc j)) n i (omega arith) e
+
+-- where no number from 1 to n passes, none does
+pub to-at : (f : ℕ → Bool) (n r : ℕ) → someTo f n ≡ false → 1 ≤ r → r ≤ n → f r ≡ false
+to-at f n zero e h k = absurd (omega arith)
+to-at f n (suc r) e h k = below-at (λ i. f (suc i)) n r e k
+
+-- where some number from 1 to n passes, there is one
+pub below-found : (f : ℕ → Bool) (n : ℕ) → someBelow f n ≡ true → (i : ℕ) × (i < n) × (f i ≡ true)
+unfolding someBelow
+below-found f zero e = absurd (false≢true e)
+below-found f (suc n) e = go (f n) refl (below-found f n) e
+  where
+    go : (b : Bool) → f n ≡ b → (someBelow f n ≡ true → (i : ℕ) × (i < n) × (f i ≡ true)) → (b || someBelow f n) ≡ true
+        → (i : ℕ) × (i < suc n) × (f i ≡ true)
+    go true p ih q = (n, omega arith, p)
+    go false p ih q = let r = ih q in (r .0, omega (arith, r .1), r .2)
+
+pub to-found : (f : ℕ → Bool) (n : ℕ) → someTo f n ≡ true → (r : ℕ) × (1 ≤ r) × (r ≤ n) × (f r ≡ true)
+to-found f n e = let q = below-found (λ i. f (suc i)) n e in (suc (q .0), omega arith, omega (arith, q .1), q .2)

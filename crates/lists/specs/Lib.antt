@@ -3,3 +3,4 @@ pub mod Ordered
 pub mod Searched
 pub mod Struck
 pub mod Parts
+pub mod Linked

@@ -7,7 +7,8 @@ use Rattle.lists.specs.Joined.{upFrom}
 use Rattle.answers.specs.Answer.{firstThatApplies}
 use Rattle.answers.proofs.Refusals.{answer-accepted}
 use Rattle.lists.specs.Searched.{someBelow}
-use Rattle.grammar.specs.Chains.{word, pair, ruleOf, metFrom, chainNumbers}
+use Rattle.lists.specs.Linked.{metFrom}
+use Rattle.grammar.specs.Chains.{word, pair, ruleOf, chainNumbers}
 use Rattle.grammar.specs.Refusals.{tooShort, outOfRange, wrongSize, fits, badRule, badLink, metTwice, onNoChain, twins, repeated, Accepted}
 use Rattle.grammar.specs.Answers.{checkGrammar}
 use Rattle.matrix.specs.Table.{table, accepted}

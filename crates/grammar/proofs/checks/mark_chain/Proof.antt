@@ -1,11 +1,8 @@
 -- `mark_chain` meets its contract. The loop's invariant: the marks so far, with what the walk still meets, come to the marks before
 -- with the whole chain. A turn moves the rule at hand from the second to the first, and where the walk ends nothing is still met.
 -- The measure is the steps left. No mark passes 256 for each chain up to this one, so none wraps. Assumes nothing.
-use mathlib.Core.List.{List}
-use Prim.Native.Nat.{ℕ}
 use native.Mathlib.Omega.{arith}
-use denote.Ref.{now}
-use Rattle.grammar.proofs.Bounded.{met-out, met-zero, met-above}
+use Rattle.lists.proofs.Linked.{met-out, met-zero, met-above}
 use Rattle.grammar.proofs.Marks.{Walking, walk-start, walk-fits, walk-step, walk-end}
 use Rattle.grammar.proofs.checks.mark_chain.Statement.{statement}
 use Rattle.grammar.proofs.checks.mark_chain.Tie as tie
@@ -18,9 +15,6 @@ abbrev μ-loop : tie.MeasureT-loop
 
 abbrev start : tie.At-loop Inv-loop μ-loop → tie.Start Inv-loop μ-loop
 start c = c .before .before .before .before
-
-abbrev bytes : tie.At-loop Inv-loop μ-loop → List ℕ
-bytes c = now (start c .args .g)
 
 -- where the number at hand is not 0
 abbrev at-loop : tie.Else1 Inv-loop μ-loop → tie.At-loop Inv-loop μ-loop
@@ -42,10 +36,10 @@ loop-holds : tie.Need-loop-holds Inv-loop μ-loop
 loop-holds c = walk-start (c .before .before .before .pre) (c .wide .ensures)
 
 returns : tie.Need-returns Inv-loop μ-loop
-returns c = let l = c .before .before in walk-end (l .loop .inv) (met-zero (bytes l) _ _ (c .if1 .taken))
+returns c = walk-end (c .before .before .loop .inv) (met-zero _ _ _ _ (c .if1 .taken))
 
 returns-2 : tie.Need-returns-2 Inv-loop μ-loop
-returns-2 c = let l = at-loop (c .before) in walk-end (l .loop .inv) (met-above (bytes l) _ _ (omega arith))
+returns-2 c = walk-end (at-loop (c .before) .loop .inv) (met-above _ _ _ _ (omega arith))
 
 mul-marks : tie.Need-mul-marks Inv-loop μ-loop
 mul-marks c = omega arith
@@ -87,7 +81,7 @@ loop-again c =
     walk-step (start l .pre) (omega arith) (e .if1 .left) (omega arith) (c .wide2 .ensures) (l .loop .inv)
 
 returns-3 : tie.Need-returns-3 Inv-loop μ-loop
-returns-3 c = let l = c .before in walk-end (l .loop .inv) (met-out (bytes l) _ _ (c .loop-test .left))
+returns-3 c = walk-end (c .before .loop .inv) (met-out _ _ _ _ (c .loop-test .left))
 
 pub mark-chain-spec : {M : Type 1} → statement M
 mark-chain-spec =

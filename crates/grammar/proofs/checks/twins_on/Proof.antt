@@ -5,8 +5,8 @@
 use mathlib.Core.Path.{refl}
 use native.Mathlib.Omega.{arith}
 use borrow.Author.Needs.{needs}
+use Rattle.lists.proofs.Linked.{met-zero, met-above, met-out}
 use Rattle.grammar.proofs.Twins.{Walking, Meeting, walk-starts, walk-ends, meet-low, meet-twin, meet-next}
-use Rattle.grammar.proofs.Bounded.{met-zero, met-above, met-out}
 use Rattle.grammar.proofs.checks.twins_on.Statement.{statement}
 use Rattle.grammar.proofs.checks.twins_on.Tie as tie
 
@@ -59,10 +59,10 @@ loop-holds : tie.Need-loop-holds Inv-loop μ-loop
 loop-holds c = walk-starts (c .before .before .before .pre) (c .wide .ensures) refl
 
 returns : tie.Need-returns Inv-loop μ-loop
-returns c = walk-ends (c .before .before .loop .inv) (met-zero _ _ _ (c .if1 .taken))
+returns c = walk-ends (c .before .before .loop .inv) (met-zero _ _ _ _ (c .if1 .taken))
 
 returns-2 : tie.Need-returns-2 Inv-loop μ-loop
-returns-2 c = walk-ends (c .before .before .before .loop .inv) (met-above _ _ _ (omega arith))
+returns-2 c = walk-ends (c .before .before .before .loop .inv) (met-above _ _ _ _ (omega arith))
 
 mul-base : tie.Need-mul-base Inv-loop μ-loop
 mul-base c = omega arith
@@ -116,7 +116,7 @@ loop-again : tie.Need-loop-again Inv-loop μ-loop
 loop-again c = meet-next (met (c .before .before .before .before)) (c .wide2 .ensures) (c .before .before .if3 .left)
 
 returns-4 : tie.Need-returns-4 Inv-loop μ-loop
-returns-4 c = walk-ends (c .before .loop .inv) (met-out _ _ _ (c .loop-test .left))
+returns-4 c = walk-ends (c .before .loop .inv) (met-out _ _ _ _ (c .loop-test .left))
 
 pub twins-on-spec : {M : Type 1} → statement M
 twins-on-spec =

@@ -1,0 +1,296 @@
+-- What a log does to a history's meaning: the bytes after it are an accepted history of K + 1 records, whose sentences are the new one and
+-- then the old ones in their order. So the new sentence is heard, and what was heard still is.
+-- The argument: the bytes of the old records are as they were, so their fields are; the chain is the new record and then the old chain.
+-- Assumes nothing.
+use mathlib.Core.Path.{_≡_, refl, sym, ap, _∙_}
+use mathlib.Core.Bool.{Bool, true, false, not, _||_}
+use mathlib.Core.List.{List, [], _∷_, _++_, map}
+use Prim.Native.Nat.{ℕ, suc, _+_, _-_, _*_, _/_, _%_, _≤_, _<_}
+use native.Mathlib.Omega.{arith}
+use native.Mathlib.Nat.{div-add-mod'}
+use native.Mathlib.Decide.{decLe}
+use borrow.Author.Tests.{ltb-false, eqb-false, le-ltb, eq-eqb}
+use lib.ListN.{length, getD, take, drop, length-drop, List·getD-eq-default}
+use lib.Dec.{ltb, eqb, lit<}
+use lib.Seq.{ext-getD, getD-take, getD-drop, length-take-le}
+use Rattle.lists.specs.Searched.{someOf, same}
+use Rattle.lists.specs.Linked.{Walk, goes}
+use Rattle.lists.proofs.Sums.{map-ext}
+use Rattle.lists.proofs.Linked.{walk-met, walk-more}
+use Rattle.lists.proofs.Tests.{within-facts, within-both, or-left, or-right, or-true, below-within, below-clear, to-clear, same-refl}
+use Rattle.answers.specs.Answer.{firstThatApplies}
+use Rattle.answers.specs.Length.{badLength}
+use Rattle.answers.proofs.Refusals.{row-clear, rows-clear, answer-number}
+use Rattle.history.specs.Layout.{twoAt, recordsOf, headOf, recordAt, nextOf, lengthOf, wordsOf}
+use Rattle.history.specs.Chain.{numbersFrom, numbers}
+use Rattle.history.specs.Refusals.{badSize, misfit, badRecord, nextAbove, badLink, badChain, historyRows, Accepted}
+use Rattle.history.specs.Heard.{sentences, heard}
+use Rattle.history.specs.Writing.{put, twoBytes, recordBytes, appended}
+use Rattle.history.specs.Answers.{noRoom, appendRows, appendOf}
+use Rattle.history.proofs.Acceptance.{size-room, fits, head-below, known, accept}
+use Rattle.history.proofs.Chain.{numbers-inside, chain-length, chained, heard-sentences}
+use Rattle.history.proofs.Writing.{record-word, record-length, put-length, put-before, put-in, put-after}
+
+-- what an accepted log has at hand
+pub record Logs (h s : List ℕ) : Type 0 where
+  pub accepted : Accepted h
+  pub some : 1 ≤ length s
+  pub short : length s ≤ 16
+  pub few : recordsOf h < 1000
+  pub room : 4 + 20 * suc (recordsOf h) ≤ length h
+
+-- a field of two bytes, from what they are
+two-bytes : (h : List ℕ) (i x : ℕ) → getD h i 0 ≡ x % 256 → getD h (i + 1) 0 ≡ x / 256 → twoAt h i ≡ x
+unfolding twoAt
+two-bytes h i x e f = rw (e, f) (omega (arith, div-add-mod' x 256))
+
+-- a part of a list, from its entries
+part-is : (l s : List ℕ) (at : ℕ) → at + length s ≤ length l → ((i : ℕ) → i < length s → getD l (at + i) 0 ≡ getD s i 0) → take (length s) (drop at l) ≡ s
+part-is l s at m f =
+    let n = length-take-le (length s) (drop at l) (omega (arith, length-drop at l)) in
+    ext-getD 0 (take (length s) (drop at l)) s n
+    (λ i k. getD-take (length s) (drop at l) i 0 (omega (arith, n)) ∙ getD-drop at l i 0 ∙ f i (omega (arith, n)))
+
+module _ (h s : List ℕ) (log : Logs h s) where
+  -- ---- byte by byte
+
+  abbrev K : ℕ
+  K = recordsOf h
+
+  abbrev new : ℕ
+  new = suc (recordsOf h)
+
+  -- with the record, and then with K
+  abbrev first : List ℕ
+  first = put h (recordAt new) (recordBytes (headOf h) s)
+
+  abbrev second : List ℕ
+  second = put first 0 (twoBytes new)
+
+  record-there : length (recordBytes (headOf h) s) ≡ 20
+  record-there = record-length (headOf h) s (log .short)
+
+  first-long : length first ≡ length h
+  first-long = put-length h (recordAt new) (recordBytes (headOf h) s) (omega (arith, log .room, record-there))
+
+  second-long : length second ≡ length h
+  second-long = put-length first 0 (twoBytes new) (omega (arith, first-long, log .room)) ∙ first-long
+
+  long : length (appended h s) ≡ length h
+  unfolding appended
+  long = put-length second 2 (twoBytes new) (omega (arith, second-long, log .room)) ∙ second-long
+
+  -- past the first four bytes only the record counts
+  past : (i : ℕ) → 4 ≤ i → getD (appended h s) i 0 ≡ getD first i 0
+  unfolding appended
+  past i l =
+      put-after second 2 (twoBytes new) (omega (arith, second-long, log .room)) i (omega arith)
+      ∙ put-after first 0 (twoBytes new) (omega (arith, first-long, log .room)) i (omega arith)
+
+  old-byte : (i : ℕ) → 4 ≤ i → i < recordAt new → getD (appended h s) i 0 ≡ getD h i 0
+  old-byte i l m =
+      past i l ∙ put-before h (recordAt new) (recordBytes (headOf h) s) (omega (arith, log .room, record-there)) i m
+
+  new-byte : (i : ℕ) → i < 20 → getD (appended h s) (recordAt new + i) 0 ≡ getD (recordBytes (headOf h) s) i 0
+  new-byte i l =
+      past (recordAt new + i) (omega arith)
+      ∙ put-in h (recordAt new) (recordBytes (headOf h) s) (omega (arith, log .room, record-there)) i (omega (arith, record-there))
+
+  -- ---- the fields
+
+  count : recordsOf (appended h s) ≡ new
+  unfolding appended
+  count =
+      let a = put-before second 2 (twoBytes new) (omega (arith, second-long, log .room)) in
+      let b = put-in first 0 (twoBytes new) (omega (arith, first-long, log .room)) in
+      two-bytes (appended h s) 0 new (a 0 (omega arith) ∙ b 0 (omega arith)) (a 1 (omega arith) ∙ b 1 (omega arith))
+
+  head : headOf (appended h s) ≡ new
+  unfolding appended
+  head =
+      let b = put-in second 2 (twoBytes new) (omega (arith, second-long, log .room)) in
+      two-bytes (appended h s) 2 new (b 0 (omega arith)) (b 1 (omega arith))
+
+  old-next : (r : ℕ) → 1 ≤ r → r ≤ K → nextOf (appended h s) r ≡ nextOf h r
+  unfolding twoAt
+  old-next r l m = rw (old-byte (recordAt r) (omega arith) (omega arith), old-byte (recordAt r + 1) (omega arith) (omega arith))
+
+  new-next : nextOf (appended h s) new ≡ headOf h
+  unfolding recordBytes
+  new-next =
+      let e : recordAt new ≡ recordAt new + 0 = omega arith in
+      two-bytes (appended h s) (recordAt new) (headOf h) (ap (λ (k : ℕ). getD (appended h s) k 0) e ∙ new-byte 0 (omega arith)) (new-byte 1 (omega arith))
+
+  -- ---- the records
+
+  old-fits : (r : ℕ) → 1 ≤ r → r ≤ K → misfit (appended h s) (recordAt r) ≡ misfit h (recordAt r)
+  unfolding misfit
+  old-fits r l m =
+      let n = getD h (recordAt r + 2) 0 in
+      rw (
+        old-byte (recordAt r + 2) (omega arith) (omega arith),
+        old-byte (recordAt r + 3) (omega arith) (omega arith),
+        below-within (λ i. not (eqb (getD (appended h s) (recordAt r + 4 + n + i) 0) 0)) (λ i. not (eqb (getD h (recordAt r + 4 + n + i) 0) 0))
+            (16 - n) (λ i k. ap (λ (b : ℕ). not (eqb b 0)) (old-byte (recordAt r + 4 + n + i) (omega arith) (omega arith))),
+      )
+
+  -- the word at i of the new record, and past the sentence 0
+  new-word : (i : ℕ) → i < 16 → getD (appended h s) (recordAt new + 4 + i) 0 ≡ getD s i 0
+  new-word i l =
+      let e : recordAt new + 4 + i ≡ recordAt new + (4 + i) = omega arith in
+      let f : 4 + i - 4 ≡ i = omega arith in
+      ap (λ (k : ℕ). getD (appended h s) k 0) e
+      ∙ new-byte (4 + i) (omega arith)
+      ∙ record-word (headOf h) s (4 + i) (omega arith)
+      ∙ ap (λ (k : ℕ). getD s k 0) f
+
+  new-length : lengthOf (appended h s) new ≡ length s
+  unfolding recordBytes
+  new-length = new-byte 2 (omega arith)
+
+  new-fits : misfit (appended h s) (recordAt new) ≡ false
+  unfolding misfit badLength recordBytes
+  new-fits =
+      rw (
+        new-length,
+        within-both 1 16 (length s) (log .some) (log .short),
+        new-byte 3 (omega arith),
+        below-clear (λ i. not (eqb (getD (appended h s) (recordAt new + 4 + length s + i) 0) 0)) (16 - length s)
+            (λ i l.
+            let e : recordAt new + 4 + length s + i ≡ recordAt new + 4 + (length s + i) = omega arith in
+            ap not
+            (eq-eqb (getD (appended h s) (recordAt new + 4 + length s + i) 0) 0
+            (ap (λ (k : ℕ). getD (appended h s) k 0) e ∙ new-word (length s + i) (omega arith) ∙ List·getD-eq-default s 0 {n = length s + i} (omega arith)))),
+      )
+
+  -- ---- none of 11 to 14 applies
+
+  sized : badSize (appended h s) ≡ false
+  sized =
+      sym (size-room (appended h s) (omega (arith, long, log .room)) (omega (arith, count, log .few)))
+      ∙ le-ltb (length (appended h s)) (4 + 20 * recordsOf (appended h s)) (omega (arith, long, count, log .room))
+
+  -- a fact of each record up to K + 1, from that of the old ones and that of the new one
+  each : (P : ℕ → Type 0) → ((r : ℕ) → 1 ≤ r → r ≤ K → P r) → P new → (r : ℕ) → 1 ≤ r → r ≤ recordsOf (appended h s) → P r
+  each P old now r l m =
+      elim (decLe r K) [
+        | yes k ↦ old r l k
+        | no n ↦ let e : new ≡ r = omega (arith, count) in rw (← e) now
+      ]
+
+  fit : badRecord (appended h s) ≡ false
+  unfolding badRecord
+  fit =
+      to-clear (λ r. misfit (appended h s) (recordAt r)) (recordsOf (appended h s))
+      (each (λ r. misfit (appended h s) (recordAt r) ≡ false) (λ r l m. old-fits r l m ∙ known h (log .accepted) .fit r l m) new-fits)
+
+  linked : badLink (appended h s) ≡ false
+  linked =
+      let k = known h (log .accepted) in
+      head-below (appended h s) (omega (arith, head, count))
+      ∙ to-clear (nextAbove (appended h s)) (recordsOf (appended h s))
+      (each (λ r. nextAbove (appended h s) r ≡ false)
+      (λ r l m. le-ltb (recordsOf (appended h s)) (nextOf (appended h s) r) (omega (arith, old-next r l m, k .nexts r l m, count)))
+      (le-ltb (recordsOf (appended h s)) (nextOf (appended h s) new) (omega (arith, new-next, k .head, count))))
+
+  -- the chain: the new record, then the old chain
+  walk : Walk (nextOf (appended h s)) (recordsOf (appended h s)) (headOf (appended h s)) (new ∷ numbers h)
+  walk =
+      let old = walk-more (nextOf h) (nextOf (appended h s)) K (recordsOf (appended h s)) (omega (arith, count)) old-next (chained h (log .accepted) .over) in
+      rw head (goes {r = new} {l = numbers h} (omega arith) (omega (arith, count)) (rw new-next old))
+
+  pub chain : numbers (appended h s) ≡ new ∷ numbers h
+  unfolding numbersFrom
+  chain =
+      walk-met (nextOf (appended h s)) (recordsOf (appended h s)) walk (recordsOf (appended h s) + 1) (omega (arith, chained h (log .accepted) .many, count))
+
+  chained-still : badChain (appended h s) ≡ false
+  chained-still =
+      chain-length (appended h s) linked
+      ∙ ap not (eq-eqb (length (numbers (appended h s))) (recordsOf (appended h s)) (omega (arith, ap length chain, chained h (log .accepted) .many, count)))
+
+  pub accepted : Accepted (appended h s)
+  accepted = accept (appended h s) (record { size = sized; records = fit; links = linked; chain = chained-still })
+
+  -- ---- the sentences
+
+  old-words : (r : ℕ) → 1 ≤ r → r ≤ K → wordsOf (appended h s) r ≡ wordsOf h r
+  unfolding wordsOf
+  old-words r l m =
+      let k = known h (log .accepted) in
+      let f = fits h (recordAt r) (k .fit r l m) in
+      let n : length (wordsOf h r) ≡ lengthOf h r =
+      length-take-le (lengthOf h r) (drop (recordAt r + 4) h) (omega (arith, length-drop (recordAt r + 4) h, k .sized .size, f .short)) in
+      let e : lengthOf (appended h s) r ≡ length (wordsOf h r) = old-byte (recordAt r + 2) (omega arith) (omega arith) ∙ sym n in
+      rw e
+      (part-is (appended h s) (wordsOf h r) (recordAt r + 4) (omega (arith, long, log .room, n, f .short))
+      (λ i j.
+      old-byte (recordAt r + 4 + i) (omega arith) (omega (arith, n, f .short))
+      ∙ sym (getD-take (lengthOf h r) (drop (recordAt r + 4) h) i 0 (omega (arith, n)) ∙ getD-drop (recordAt r + 4) h i 0)))
+
+  new-words : wordsOf (appended h s) new ≡ s
+  unfolding wordsOf
+  new-words =
+      rw new-length
+      (part-is (appended h s) s (recordAt new + 4) (omega (arith, long, log .room, log .short)) (λ i l. new-word i (omega (arith, log .short))))
+
+  told : sentences (appended h s) ≡ s ∷ sentences h
+  told =
+      ap (map (wordsOf (appended h s))) chain
+      ∙ rw (
+        new-words,
+        map-ext (wordsOf (appended h s)) (wordsOf h) (numbers h)
+            (λ r m. let q = numbers-inside h (headOf h) m in old-words r (q .0) (q .1)),
+      )
+
+-- ---- the law
+
+-- a log that isn't refused has what it needs
+logs : (h s : List ℕ) → appendOf h s .refusal ≡ 0 → Logs h s
+unfolding appendOf badLength noRoom
+logs h s e =
+    let none = sym (answer-number (firstThatApplies (appendRows h s)) (suc (recordsOf h) ∷ []) h (appended h s)) ∙ e in
+    let a = row-clear 9 (historyRows h ++ ((noRoom h, 19) ∷ [])) (badLength (length s)) (lit< tt) none in
+    let b = rows-clear (historyRows h) ((noRoom h, 19) ∷ []) refl (a .1) in
+    let full = eqb (recordsOf h) 1000 in
+    let close = ltb (length h) (4 + 20 * suc (recordsOf h)) in
+    let c = row-clear 19 [] (noRoom h) (lit< tt) (b .1) .0 in
+    let l = within-facts 1 16 (length s) (a .0) in
+    record {
+      accepted = b .0;
+      some = l .0;
+      short = l .1;
+      few = below (recordsOf h) (known h (b .0) .sized .few) (eqb-false (recordsOf h) 1000 (or-left full close c));
+      room = ltb-false (length h) (4 + 20 * suc (recordsOf h)) (or-right full close c);
+    }
+  where
+    below : (k : ℕ) → k ≤ 1000 → (k ≡ 1000 → ⊥) → k < 1000
+    below k l n = omega arith
+
+-- Where *Log* isn't refused: the bytes then are an accepted history, with one record more; its sentences are the new one and then the old
+-- ones; so a sentence is heard then exactly if it is the new one or was heard before.
+pub record Logged (h s : List ℕ) : Type 0 where
+  pub accepted : Accepted (appended h s)
+  pub count : recordsOf (appended h s) ≡ suc (recordsOf h)
+  pub sentences : sentences (appended h s) ≡ s ∷ sentences h
+  pub heard : (t : List ℕ) → heard (appended h s) t ≡ (same s t || heard h t)
+
+pub logged : (h s : List ℕ) → appendOf h s .refusal ≡ 0 → Logged h s
+logged h s e =
+    let log = logs h s e in
+    record {
+      accepted = accepted h s log;
+      count = count h s log;
+      sentences = told h s log;
+      heard = λ t.
+          heard-sentences (appended h s) (accepted h s log) t
+          ∙ ap (someOf (λ u. same u t)) (told h s log)
+          ∙ ap (λ (b : Bool). same s t || b) (sym (heard-sentences h (log .accepted) t));
+    }
+
+-- the new sentence is heard, and what was heard still is
+pub heard-new : (h s : List ℕ) → appendOf h s .refusal ≡ 0 → heard (appended h s) s ≡ true
+heard-new h s e = logged h s e .heard s ∙ ap (λ (b : Bool). b || heard h s) (same-refl s)
+
+pub heard-still : (h s t : List ℕ) → appendOf h s .refusal ≡ 0 → heard h t ≡ true → heard (appended h s) t ≡ true
+heard-still h s t e f = logged h s e .heard t ∙ or-true (same s t) (heard h t) f

@@ -1,0 +1,69 @@
+-- `misfit` meets its contract: the parts of the test, one after another.
+-- Assumes nothing.
+use mathlib.Core.Path.{ap, _∙_}
+use Prim.Native.Nat.{ℕ, _+_, _-_}
+use native.Mathlib.Omega.{arith}
+use denote.Ref.{now}
+use Rattle.history.specs.Refusals.{someNonzero}
+use Rattle.history.proofs.Acceptance.{misfit-low, misfit-high, misfit-fourth, misfit-beyond}
+use borrow.Author.Needs.{needs}
+use Rattle.history.proofs.checks.misfit.Statement.{statement}
+use Rattle.history.proofs.checks.misfit.Tie as tie
+
+add-wide : tie.Need-add-wide
+add-wide c = search needs
+
+shared-slice-read-wide : tie.Need-shared-slice-read-wide
+shared-slice-read-wide c = search needs
+
+wide-requires : tie.Need-wide-requires
+wide-requires c κs = search needs
+
+returns : tie.Need-returns
+returns c = misfit-low _ _ (omega arith)
+
+returns-2 : tie.Need-returns-2
+returns-2 c = misfit-high _ _ (omega arith)
+
+add-if3 : tie.Need-add-if3
+add-if3 c = search needs
+
+shared-slice-read-if3 : tie.Need-shared-slice-read-if3
+shared-slice-read-if3 c = search needs
+
+returns-3 : tie.Need-returns-3
+returns-3 c = misfit-fourth _ _ (omega arith) (omega arith) (c .if3 .taken)
+
+add-some-nonzero : tie.Need-add-some-nonzero
+add-some-nonzero c = search needs
+
+add-some-nonzero-2 : tie.Need-add-some-nonzero-2
+add-some-nonzero-2 c = search needs
+
+some-nonzero-requires : tie.Need-some-nonzero-requires
+some-nonzero-requires c κs = search needs
+
+returns-4 : tie.Need-returns-4
+returns-4 c =
+    let e = c .before in
+    let w = e .before .before .before .before in
+    c .some-nonzero .ensures
+    ∙ ap (λ (n : ℕ). someNonzero (now (w .before .before .before .args .h)) (w .before .before .before .args .at + 4 + n) (16 - n)) (w .wide .ensures .0)
+    ∙ misfit-beyond _ _ (omega arith) (omega arith) (e .if3 .left)
+
+pub misfit-spec : {M : Type 1} → statement M
+misfit-spec =
+    tie.close
+    (tie.spec
+    add-wide
+    shared-slice-read-wide
+    wide-requires
+    returns
+    returns-2
+    add-if3
+    shared-slice-read-if3
+    returns-3
+    add-some-nonzero
+    add-some-nonzero-2
+    some-nonzero-requires
+    returns-4)

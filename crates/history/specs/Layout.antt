@@ -1,0 +1,31 @@
+-- The bytes of a history (document 01: diary, section 'Diary bytes'). A history is here the list of its bytes, slack included.
+-- Assumes nothing: these are definitions.
+use mathlib.Core.List.{List}
+use Prim.Native.Nat.{ℕ, _+_, _-_, _*_}
+use lib.ListN.{getD, take, drop}
+
+-- "Two-byte fields have the low byte first."
+unfoldable pub twoAt : List ℕ → ℕ → ℕ
+twoAt h i = getD h i 0 + 256 * getD h (i + 1) 0
+
+-- "Two bytes K (0 to 1,000 records), two bytes head, then records of 20 bytes numbered from 1"
+abbrev pub recordsOf : List ℕ → ℕ
+recordsOf h = twoAt h 0
+
+abbrev pub headOf : List ℕ → ℕ
+headOf h = twoAt h 2
+
+-- so record r stands at 4 + 20 (r - 1)
+abbrev pub recordAt : ℕ → ℕ
+recordAt r = 20 * r - 16
+
+-- "two bytes next, one byte length (1 to 16), one byte 0, sixteen word bytes, zero beyond the length"
+abbrev pub nextOf : List ℕ → ℕ → ℕ
+nextOf h r = twoAt h (recordAt r)
+
+abbrev pub lengthOf : List ℕ → ℕ → ℕ
+lengthOf h r = getD h (recordAt r + 2) 0
+
+-- the words of record r: a sentence
+unfoldable pub wordsOf : List ℕ → ℕ → List ℕ
+wordsOf h r = take (lengthOf h r) (drop (recordAt r + 4) h)

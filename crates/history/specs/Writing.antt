@@ -1,0 +1,24 @@
+-- What *Log* writes (document 01, section 'Operations').
+-- Assumes nothing: these are definitions.
+use mathlib.Core.List.{List, [], _∷_, _++_}
+use Prim.Native.Nat.{ℕ, suc, _+_, _-_, _/_, _%_}
+use lib.ListN.{length, take, drop, replicate}
+use Rattle.history.specs.Layout.{recordsOf, headOf, recordAt}
+
+-- the bytes with bs in the place of as many from at on
+unfoldable pub put : (h : List ℕ) (at : ℕ) (bs : List ℕ) → List ℕ
+put h at bs = take at h ++ bs ++ drop (at + length bs) h
+
+-- "Two-byte fields have the low byte first."
+abbrev pub twoBytes : ℕ → List ℕ
+twoBytes x = x % 256 ∷ x / 256 ∷ []
+
+-- "two bytes next, one byte length (1 to 16), one byte 0, sixteen word bytes, zero beyond the length"
+unfoldable pub recordBytes : (next : ℕ) (s : List ℕ) → List ℕ
+recordBytes next s = twoBytes next ++ (length s ∷ 0 ∷ (s ++ replicate (16 - length s) 0))
+
+-- "writes record K + 1 in full with next = old head, sets head and K to K + 1 [..] No other byte changes."
+unfoldable pub appended : (h s : List ℕ) → List ℕ
+appended h s =
+    let new = suc (recordsOf h) in
+    put (put (put h (recordAt new) (recordBytes (headOf h) s)) 0 (twoBytes new)) 2 (twoBytes new)

@@ -1,0 +1,94 @@
+// *Log*: one record more at the chain's head.
+ghost use mathlib.Core.Path.{_≡_};
+ghost use Prim.Native.Nat.{_+_, _≤_, _<_};
+ghost use lib.ListN.{length, getD};
+ghost use Rattle.history.specs.Writing.{put, twoBytes, recordBytes, appended};
+ghost use Rattle.history.specs.Checks.{Room};
+ghost use Rattle.history.specs.Answers.{appendSaid, appendOf};
+use crate::checks;
+use crate::checks::HistoryAnswer;
+use crate::checks::HistoryRefusal;
+use crate::records;
+
+pub enum AppendAnswer {
+    Appended(u64),
+    BadLength,
+    NotAppended(HistoryRefusal),
+    NoRoom,
+}
+
+// Byte i of a record.
+fn record_byte(next: usize, s: &[u8], i: usize) -> u8
+    requires { ⌜ (next ≤ 65535) × (length (now s) ≤ 16) × (i < 20) ⌝ }
+    ensures { λ b. ⌜ b ≡ getD (recordBytes next (now (s .entry))) i 0 ⌝ }
+{
+    if i == 0 {
+        return (next % 256) as u8;
+    }
+    if i == 1 {
+        return (next / 256) as u8;
+    }
+    if i == 2 {
+        return s.len() as u8;
+    }
+    if i == 3 {
+        return 0;
+    }
+    if i - 4 < s.len() { s[i - 4] } else { 0 }
+}
+
+fn put_record(h: &mut [u8], at: usize, next: usize, s: &[u8])
+    requires { ⌜ (at + 20 ≤ length (now h)) × (next ≤ 65535) × (length (now s) ≤ 16) ⌝ }
+    ensures { λ _. ⌜ now (h .exit) ≡ put (now (h .entry)) at (recordBytes next (now (s .entry))) ⌝ }
+{
+    let mut i: usize = 0;
+    while i < 20 {
+        h[at + i] = record_byte(next, s, i);
+        i += 1;
+    }
+}
+
+fn put_two(h: &mut [u8], at: usize, x: usize)
+    requires { ⌜ (at + 2 ≤ length (now h)) × (x ≤ 65535) ⌝ }
+    ensures { λ _. ⌜ now (h .exit) ≡ put (now (h .entry)) at (twoBytes x) ⌝ }
+{
+    h[at] = (x % 256) as u8;
+    h[at + 1] = (x / 256) as u8;
+}
+
+// Record `new`, with the old head as its next, and K and head set to `new`.
+fn write(h: &mut [u8], new: usize, sentence: &[u8])
+    requires { ⌜ Room (now h) new × (length (now sentence) ≤ 16) ⌝ }
+    ensures { λ _. ⌜ now (h .exit) ≡ appended (now (h .entry)) (now (sentence .entry)) ⌝ }
+{
+    let old = records::two_at(h, 2);
+    put_record(h, records::record_at(new), old, sentence);
+    put_two(h, 0, new);
+    put_two(h, 2, new);
+}
+
+pub fn append(h: &mut [u8], sentence: &[u8]) -> AppendAnswer
+    ensures { λ a. ⌜ appendSaid a (now (h .exit)) ≡ appendOf (now (h .entry)) (now (sentence .entry)) ⌝ }
+{
+    if sentence.len() < 1 {
+        return AppendAnswer::BadLength;
+    }
+    if 16 < sentence.len() {
+        return AppendAnswer::BadLength;
+    }
+    let a = checks::check(h);
+    match a {
+        HistoryAnswer::Refused(r) => AppendAnswer::NotAppended(r),
+        HistoryAnswer::Accepted(k) => {
+            if k == 1000 {
+                return AppendAnswer::NoRoom;
+            }
+            let new = k as usize + 1;
+            if h.len() < 4 + 20 * new {
+                return AppendAnswer::NoRoom;
+            }
+            write(h, new, sentence);
+            AppendAnswer::Appended(k + 1)
+        }
+    }
+}
