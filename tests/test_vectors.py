@@ -4,6 +4,7 @@ import pathlib
 import tempfile
 import unittest
 
+import generate
 import oracle
 import vectors
 
@@ -106,6 +107,73 @@ class RankingVectors(unittest.TestCase):
 
     def test_a_second_run_gives_the_same(self):
         self.assertEqual(vectors.ranking_cases(), self.cases)
+
+
+class HistoryVectors(unittest.TestCase):
+    @classmethod
+    def setUpClass(cls):
+        cls.cases = vectors.history_cases()
+        cls.lines = {case.name: case.line for case in cls.cases}
+
+    def test_each_trap_and_each_set_of_defects_gets_the_stated_refusal(self):
+        for name, refusal, data in vectors.HISTORY_TRAPS:
+            with self.subTest(name):
+                self.assertEqual(oracle.check_history(data)[0], refusal)
+        for name, refusal, data, sentence in vectors.LOG_TRAPS + list(vectors.log_defects()):
+            with self.subTest(name):
+                self.assertEqual(oracle.append(data, sentence)[0], refusal)
+
+    def test_names_of_traps_differ(self):
+        names = [name for name, *_ in vectors.HISTORY_TRAPS + vectors.LOG_TRAPS]
+        self.assertEqual(len(names), len(set(names)))
+
+    def test_lines_worked_out_by_hand(self):
+        for name, line in {
+            'head 1 with K = 0: set': 'refused 13',
+            'head 0 with K = 1: set': 'refused 14',
+            'one: set': '0 1',
+            'K is 1,000, backward: set': '0 1000',
+            'K is 1,000, backward: Log [5, 6]': 'refused 19',
+            '999, exactly the room: Log [5]': '0 1000',
+            '999, one byte less than the room: Log [5]': 'refused 19',
+            'no record, exactly the room: Log [5]': '0 1: 1 0 1 0 0 0 1 0 5' + ' 0' * 15,
+        }.items():
+            with self.subTest(name):
+                self.assertEqual(self.lines[name], line)
+
+    def test_every_refusal_is_there_several_times(self):
+        for call, refusals in {'set': [11, 12, 13, 14], 'Log': [9, 11, 12, 13, 14, 19]}.items():
+            lines = [line for name, line in self.lines.items() if name.split(': ')[1].startswith(call)]
+            for refusal in refusals:
+                self.assertGreaterEqual(sum(line.split(':')[0] == f'refused {refusal}' for line in lines), 20)
+            self.assertGreater(sum(line.startswith('0 ') for line in lines), 100)
+
+    def test_logs_from_none_make_the_history_anew(self):
+        sentences = [bytes(range(i)) for i in (1, 16, 2, 15, 3)]
+        made = generate.history(sentences[::-1], range(5, 0, -1))
+        self.assertEqual(self.lines[f'from none to five: Log {list(sentences[-1])}'], '0 5:' + ''.join(f' {byte}' for byte in made))
+
+    def test_size(self):
+        self.assertIn(len(self.cases), range(2000, 3001))
+        self.assertLess(len(vectors.files(self.cases)['stdin']), 262_144)
+        self.assertLess(sum(map(len, vectors.files(self.cases).values())), 400_000)
+
+    def test_the_frames_hold_the_cases(self):
+        stdin, at, buffer, lines = vectors.files(self.cases)['stdin'], 0, b'', []
+        while at < len(stdin):
+            call, end = stdin[at], at + 3 + oracle.two_bytes(stdin, at + 1)
+            data, at = stdin[at + 3:end], end
+            if call in (vectors.LOG, vectors.LOG_UNSHOWN):
+                *answer, buffer = oracle.append(buffer, data)
+                shown = ':' + ''.join(f' {byte}' for byte in buffer) if call == vectors.LOG else ''
+                lines.append(vectors.line(*answer) + shown)
+            else:
+                buffer = data if call == vectors.SET else buffer
+                lines.append(vectors.line(*oracle.check_history(buffer)))
+        self.assertEqual('\n'.join(lines).encode() + b'\n', vectors.files(self.cases)['stdout'])
+
+    def test_a_second_run_gives_the_same(self):
+        self.assertEqual(vectors.history_cases(), self.cases)
 
 
 if __name__ == '__main__':

@@ -19,6 +19,11 @@ number, two bytes size, all with the low byte first, and that many bytes. Call 0
 the grammar of the calls after it. 1 is Count; 2 is Give into a buffer of that many bytes, each 7; 3 is
 Number, its bytes the sentence. The line is "0" and the figures, or "refused K"; with Give a colon and the
 buffer's bytes after the call follow.
+
+Kind history (document 01: Check diary, Log): a case is one byte call, two bytes size, low byte first, and
+that many bytes. Call 0 is Check diary of them, and they are the buffer of the calls after it. 1 is Log, its
+bytes the sentence: a colon and all of the buffer's bytes after the call follow. 2 is Log without these. 3 is
+Check diary of the buffer as it stands. The line is "0 K", or "refused" and the number.
 """
 import argparse
 import itertools
@@ -27,7 +32,7 @@ import sys
 from typing import NamedTuple
 
 import oracle
-from generate import Rng, brimful, damaged, grammar, low_high, pair, random_damage, random_grammar, word
+from generate import Rng, brimful, damaged, grammar, history, low_high, pair, random_damage, random_grammar, word
 from oracle import F, G
 
 
@@ -485,9 +490,304 @@ def ranking_cases():
     return [case for calls in [*banks.values(), *made] for case in calls.framed_cases()]
 
 
+# ---- Kind history
+
+SET, LOG, LOG_UNSHOWN, CHECK = range(4)
+LINK, HIGH, LENGTH, FOURTH, WORDS = range(5)  # the parts of a record, HIGH the link's high byte
+
+
+class Buffer:
+    """The calls on one buffer, each with the brute-force program's answer."""
+
+    def __init__(self, name, data):
+        self.name, self.data, self.cases = name, data, []
+        self.add('set', SET, data, line(*oracle.check_history(data)))
+
+    def add(self, name, call, data, line):
+        self.cases.append(Case(f'{self.name}: {name}', bytes([call]) + low_high(len(data)) + data, line))
+
+    def log(self, sentence, shown=True):
+        refusal, k, self.data = oracle.append(self.data, sentence)
+        after = ':' + ''.join(f' {byte}' for byte in self.data) if shown else ''
+        self.add(f'Log {list(sentence)}', LOG if shown else LOG_UNSHOWN, sentence, line(refusal, k) + after)
+
+    def check(self):
+        self.add('Check', CHECK, b'', line(*oracle.check_history(self.data)))
+
+
+JUNK = bytes(range(1, 10)) * 8  # slack
+
+# The chain has the records 2, 4, 1 and 3.
+FOUR = history([bytes([0, 1]), bytes([7]), bytes(range(100, 116)), bytes([255, 0, 5, 0, 254])], [2, 4, 1, 3])
+ONE = history([bytes([0, 1])])
+RECORD = [None, 4, 24, 44, 64]  # where records 1 to 4 stand
+
+
+def four(*places):
+    return damaged(FOUR, places)
+
+
+def many(k, numbers=None):
+    """A history of k sentences."""
+    return history([bytes([i % 10]) * (1 + i % 3) for i in range(k)], numbers)
+
+
+def eight(numbers):
+    return history([bytes([i]) * (2 * i + 1) for i in range(8)], numbers)
+
+
+# Each: name, the refusal of Check diary that document 01 gives (0: accepted), the bytes.
+HISTORY_TRAPS = [
+    # Accepted
+    ('no record', 0, bytes(4)),
+    ('one', 0, ONE),
+    ('four', 0, FOUR),
+    ('forward', 0, eight(range(1, 9))),
+    ('backward', 0, eight(range(8, 0, -1))),
+    ('shuffled', 0, eight([3, 8, 1, 6, 7, 2, 5, 4])),
+    ('sixteen words 0', 0, history([bytes(16)])),
+    ('sixteen words 255', 0, history([bytes([255]) * 16])),
+    ('one word 0', 0, history([bytes(1)])),
+    ('one word 255', 0, history([bytes([255])])),
+    ('a sentence three times', 0, history([bytes([3, 4])] * 3, [2, 3, 1])),
+
+    # Slack is not read
+    ('no record, slack', 0, bytes(4) + JUNK),
+    ('one byte of slack', 0, FOUR + bytes([255])),
+    ('slack of 255', 0, FOUR + bytes([255]) * 41),
+    ('slack like a record linked to itself', 0, FOUR + bytes([5, 0, 1, 0, 9]) + bytes(15)),
+
+    # 11: the size
+    ('no byte', 11, b''),
+    ('one byte', 11, bytes(1)),
+    ('two bytes', 11, bytes(2)),
+    ('three bytes', 11, bytes(3)),
+    ('three bytes of 255', 11, bytes([255]) * 3),
+    ('only four bytes', 11, ONE[:4]),
+    ('one record, one byte short', 11, ONE[:-1]),
+    ('one byte short', 11, FOUR[:-1]),
+    ('one record short', 11, FOUR[:-20]),
+    ('K is one more', 11, four((0, 5))),
+    ('K is one more, one byte short', 11, (four((0, 5)) + JUNK)[:103]),
+    ('K is 260, K modulo 256 is right', 11, four((1, 1))),
+    ('K is 65,535', 11, four((0, 255), (1, 255))),
+    ('K is 65,535, only four bytes', 11, bytes([255]) * 4),
+    ('size before all else', 11, four((2, 5), (RECORD[1] + LENGTH, 0), (RECORD[2] + LINK, 2))[:-1]),
+    ('K is 1,000, backward', 0, many(1000, range(1000, 0, -1))),
+    ('K is 1,000, one byte short', 11, many(1000)[:-1]),
+    ('K is 1,001', 11, many(1001)),
+
+    # 12: the layout of a record
+    ('length 0', 12, four((RECORD[2] + LENGTH, 0))),
+    ('length 0, no word but 0', 12, damaged(history([bytes(1)]), [(RECORD[1] + LENGTH, 0)])),
+    ('length 17', 12, four((RECORD[1] + LENGTH, 17))),
+    ('length 17 of the last record', 12, four((RECORD[4] + LENGTH, 17))),
+    ('length 255', 12, four((RECORD[3] + LENGTH, 255))),
+    ('length 128', 12, four((RECORD[3] + LENGTH, 128))),
+    ('length one less', 12, four((RECORD[2] + LENGTH, 1))),
+    ('length 15 of 16', 12, four((RECORD[1] + LENGTH, 15))),
+    ('length one less, last word 0', 0, damaged(history([bytes([1, 0])]), [(RECORD[1] + LENGTH, 1)])),
+    ('length one more', 0, four((RECORD[2] + LENGTH, 3))),
+    ('fourth byte 1', 12, four((RECORD[1] + FOURTH, 1))),
+    ('fourth byte 16', 12, four((RECORD[2] + FOURTH, 16))),
+    ('fourth byte 255', 12, four((RECORD[4] + FOURTH, 255))),
+    ('fourth byte 1, sixteen words', 12, damaged(history([bytes([255]) * 16]), [(RECORD[1] + FOURTH, 1)])),
+    ('non-zero byte beyond the words, first place', 12, four((RECORD[2] + WORDS + 2, 1))),
+    ('non-zero byte beyond the words, last place', 12, four((RECORD[2] + WORDS + 15, 1))),
+    ('255 beyond one word, first place', 12, four((RECORD[4] + WORDS + 1, 255))),
+    ('255 beyond one word, last place', 12, four((RECORD[4] + WORDS + 15, 255))),
+
+    # 12 looks at all records before 13 looks at any link
+    ('length of the last record before head', 12, four((RECORD[4] + LENGTH, 0), (2, 5))),
+    ('length of the first record before next of the last', 12, four((RECORD[1] + LENGTH, 17), (RECORD[4] + LINK, 5))),
+    ('fourth byte before all links', 12, four((RECORD[3] + FOURTH, 1), (2, 255), (RECORD[1] + LINK, 255), (RECORD[2] + LINK, 255))),
+    ('layout and next of one record', 12, four((RECORD[2] + WORDS + 9, 1), (RECORD[2] + LINK, 9))),
+    ('layout of a record not on the chain', 12, four((RECORD[1] + LINK, 0), (RECORD[3] + LENGTH, 0))),
+    ('layout of the last record before a loop', 12, four((RECORD[4] + FOURTH, 9), (RECORD[2] + LINK, 2))),
+    ('layout before head 0', 12, four((2, 0), (RECORD[1] + LENGTH, 0))),
+
+    # 13: links
+    ('head 1 with K = 0', 13, bytes([0, 0, 1, 0])),
+    ('head 255 with K = 0', 13, bytes([0, 0, 255, 0])),
+    ('head 256 with K = 0', 13, bytes([0, 0, 0, 1])),
+    ('head 1 with K = 0, slack like a record', 13, bytes([0, 0]) + ONE[2:]),
+    ('head is K + 1', 13, four((2, 5))),
+    ('head is K + 1, slack like a record', 13, four((2, 5)) + bytes([2, 0, 1, 0, 9]) + bytes(15)),
+    ('head is 258, modulo 256 right', 13, four((3, 1))),
+    ('head is 65,535', 13, four((2, 255), (3, 255))),
+    ('next is K + 1', 13, four((RECORD[1] + LINK, 5))),
+    ('last next is K + 1', 13, four((RECORD[4] + LINK, 5))),
+    ('next of the end is K + 1', 13, four((RECORD[3] + LINK, 5))),
+    ('next is 259, modulo 256 right', 13, four((RECORD[1] + HIGH, 1))),
+    ('next of the end is 256', 13, four((RECORD[3] + HIGH, 1))),
+    ('next is 65,535', 13, four((RECORD[2] + LINK, 255), (RECORD[2] + HIGH, 255))),
+    ('next above K of a record not on the chain', 13, four((RECORD[1] + LINK, 0), (RECORD[3] + LINK, 5))),
+    ('one record, next is 2', 13, damaged(ONE, [(RECORD[1] + LINK, 2)])),
+
+    # 13 before 14
+    ('next of the last record before a loop', 13, four((RECORD[2] + LINK, 2), (RECORD[4] + LINK, 5))),
+    ('next above K before head 0', 13, four((2, 0), (RECORD[3] + LINK, 5))),
+
+    # 14: a record met twice
+    ('one record, linked to itself', 14, damaged(ONE, [(RECORD[1] + LINK, 1)])),
+    ('first on the chain linked to itself', 14, four((RECORD[2] + LINK, 2))),
+    ('last on the chain linked to itself', 14, four((RECORD[3] + LINK, 3))),
+    ('chain loops to its head', 14, four((RECORD[3] + LINK, 2))),
+    ('chain loops to its middle', 14, four((RECORD[3] + LINK, 4))),
+    ('a short loop leaves out a record', 14, four((RECORD[1] + LINK, 4))),
+    ('a short loop leaves out two records', 14, four((RECORD[4] + LINK, 2))),
+    ('K is 1,000, chain loops to its head', 14, damaged(many(1000), [(19984 + LINK, 1)])),
+
+    # 14: a record missed
+    ('head 0 with K = 1', 14, damaged(ONE, [(2, 0)])),
+    ('head 0 with K = 4', 14, four((2, 0))),
+    ('first record passed over', 14, four((2, 4))),
+    ('middle record passed over', 14, four((RECORD[2] + LINK, 1))),
+    ('last record passed over', 14, four((RECORD[1] + LINK, 0))),
+    ('chain ends after the head', 14, four((RECORD[2] + LINK, 0))),
+    ('two halves', 14, four((RECORD[4] + LINK, 0))),
+    ('two halves, one a loop', 14, four((RECORD[4] + LINK, 0), (RECORD[3] + LINK, 1))),
+    ('two halves, both loops', 14, four((RECORD[4] + LINK, 2), (RECORD[3] + LINK, 1))),
+    ('a record on no chain linked to itself', 14, four((RECORD[1] + LINK, 0), (RECORD[3] + LINK, 3))),
+    ('a record on no chain linked into the chain', 14, four((RECORD[1] + LINK, 0), (RECORD[3] + LINK, 2))),
+]
+
+# Each: name, the refusal of Log that document 01 gives (0: accepted), the buffer, the sentence.
+LOG_TRAPS = [
+    # 9: the sentence's length
+    ('no word', 9, FOUR + JUNK, b''),
+    ('one word', 0, FOUR + JUNK, bytes([5])),
+    ('sixteen words', 0, FOUR + JUNK, bytes(range(16))),
+    ('seventeen words', 9, FOUR + JUNK, bytes(range(17))),
+    ('40 words', 9, FOUR + JUNK, bytes(40)),
+    ('256 words', 9, FOUR + JUNK, bytes(256)),
+    ('257 words', 9, FOUR + JUNK, bytes(257)),
+    ('272 words', 9, FOUR + JUNK, bytes(272)),
+    ('the word 0', 0, FOUR + JUNK, bytes(1)),
+    ('the word 255', 0, FOUR + JUNK, bytes([255])),
+    ('the word 0 sixteen times', 0, FOUR + JUNK, bytes(16)),
+    ('the word 255 sixteen times', 0, FOUR + JUNK, bytes([255]) * 16),
+    ('a sentence that is there', 0, FOUR + JUNK, bytes([0, 1])),
+
+    # 9 before 11 to 14 and 19
+    ('no word, no byte', 9, b'', b''),
+    ('no word, one byte short', 9, FOUR[:-1], b''),
+    ('seventeen words, layout', 9, four((RECORD[1] + LENGTH, 0)), bytes(17)),
+    ('seventeen words, link', 9, four((2, 5)), bytes(17)),
+    ('no word, loop', 9, four((RECORD[2] + LINK, 2)), b''),
+    ('no word, no room', 9, FOUR, b''),
+
+    # 19: the room
+    ('no record, no room', 19, bytes(4), bytes([5])),
+    ('no record, one byte less than the room', 19, bytes(4) + JUNK[:19], bytes([5])),
+    ('no record, exactly the room', 0, bytes(4) + JUNK[:20], bytes([5])),
+    ('no slack', 19, FOUR, bytes([5])),
+    ('one byte less than the room', 19, FOUR + JUNK[:19], bytes([5])),
+    ('exactly the room', 0, FOUR + JUNK[:20], bytes([5])),
+    ('one byte more than the room', 0, FOUR + JUNK[:21], bytes([5])),
+
+    # The record is written in full
+    ('slack of 255, one word', 0, FOUR + bytes([255]) * 25, bytes([9])),
+    ('slack of 255, three words', 0, FOUR + bytes([255]) * 25, bytes([9, 0, 9])),
+    ('slack of 255, fifteen words', 0, FOUR + bytes([255]) * 25, bytes([9]) * 15),
+    ('head is not K', 0, eight([3, 8, 1, 6, 7, 2, 5, 4]) + JUNK, bytes([9])),
+]
+
+
+def log_defects():
+    """Every subset of 9, 11 to 14 and 19 in one call: the smallest is the answer."""
+    base = history([bytes([i]) for i in range(5)])
+    places = {12: (64 + FOURTH, 1), 13: (44 + LINK, 6), 14: (24 + LINK, 1)}
+    for subset in range(64):
+        chosen = [refusal for i, refusal in enumerate([9, 11, 12, 13, 14, 19]) if subset >> i & 1]
+        data = damaged(base, [places[refusal] for refusal in chosen if refusal in places]) + JUNK[:20 - (19 in chosen)]
+        if 11 in chosen:
+            data = data[:len(base) - 1]
+        yield f'defects {chosen}', min(chosen, default=0), data, bytes([5] * (9 not in chosen))
+
+
+def resized_histories():
+    """Two records and slack, cut to each size."""
+    for size in range(67):
+        buffer = Buffer(f'two, {size} bytes', (history([bytes([1, 2]), bytes([3])], [2, 1]) + JUNK)[:size])
+        buffer.log(bytes([5]))
+        yield buffer
+
+
+def damaged_histories():
+    """Two records with each byte set to each of several values."""
+    data = history([bytes([1, 2]), bytes([3])], [2, 1])
+    for at, byte in enumerate(data):
+        for value in sorted({0, 1, 2, 3, 16, 17, 255} - {byte}):
+            yield Buffer(f'two, byte {at} is {value}', damaged(data, [(at, value)]))
+
+
+def logged(name, data, sentences, unshown=0):
+    """The sentences logged one after the other, each followed by a check; the first ones without the buffer's bytes."""
+    buffer = Buffer(name, data)
+    for i, sentence in enumerate(sentences):
+        buffer.log(sentence, i >= unshown)
+        buffer.check()
+    return buffer
+
+
+def random_sentence(rng, least, most):
+    return bytes(rng.choice([0, 1, 2, 3, 9, 255]) for _ in range(least + rng.below(most - least + 1)))
+
+
+def history_damages(rng, data):
+    """Random damages of an accepted history, each a list of places and values."""
+    k = oracle.two_bytes(data, 0)
+    links = [2, *range(4, len(data), 20)]
+    one, other = rng.choice(links), rng.choice(links)
+    return [
+        [],
+        [random_damage(rng, data)],
+        [random_damage(rng, data), random_damage(rng, data)],
+        [(one, rng.below(k + 1))],
+        [(one, rng.below(k + 2)), (other, rng.below(k + 2))],
+    ]
+
+
+def random_histories(rng):
+    """Histories of at most 6 records, as they are and damaged, with slack; then logs, the buffer shown after the last."""
+    for i in range(60):
+        k = rng.below(7)
+        data = history([random_sentence(rng, 1, 16) for _ in range(k)], rng.shuffled(range(1, k + 1)))
+        for places in history_damages(rng, data):
+            slack = bytes(rng.below(10) for _ in range(rng.below(50)))
+            sentences = [random_sentence(rng, 0, 17) for _ in range(1 + rng.below(3))]
+            yield logged(f'random {i}, damage {places}', damaged(data, places) + slack, sentences, len(sentences) - 1)
+
+
+def history_cases():
+    buffers = []
+    for name, refusal, data in HISTORY_TRAPS:
+        if oracle.check_history(data)[0] != refusal:
+            raise AssertionError(f'{name}: document 01 gives {refusal}, the brute-force program {oracle.check_history(data)[0]}')
+        buffer = Buffer(name, data)
+        buffer.log(bytes([5, 6]), len(data) < 1000)
+        buffers.append(buffer)
+    for name, refusal, data, sentence in LOG_TRAPS + list(log_defects()):
+        if oracle.append(data, sentence)[0] != refusal:
+            raise AssertionError(f'{name}: document 01 gives {refusal}, the brute-force program {oracle.append(data, sentence)[0]}')
+        buffers.append(logged(name, data, [sentence]))
+    buffers += [
+        *resized_histories(), *damaged_histories(),
+        logged('from none to five', bytes(4) + (JUNK * 2)[:100], [bytes(range(i)) for i in [1, 16, 0, 2, 17, 15, 3, 1]]),
+        logged('the same sentence', bytes(4) + bytes([255]) * 79, [bytes([8, 0])] * 4),
+        logged('253 to 258', many(253) + JUNK * 2, [bytes([i]) for i in range(5)], 4),
+        logged('999 to 1,000', many(999, [*range(500, 1000), *range(1, 500)]) + JUNK[:50], [bytes([5]), bytes([6]), bytes([7])], 2),
+        logged('999, exactly the room', many(999) + JUNK[:20], [bytes([5])], 1),
+        logged('999, one byte less than the room', many(999) + JUNK[:19], [bytes([5])], 1),
+        *random_histories(Rng(1000)),
+    ]
+    return [case for buffer in buffers for case in buffer.cases]
+
+
 # ---- Writing and checking
 
-KINDS = {'grammar': grammar_cases, 'matrix': matrix_table, 'ranking': ranking_cases}
+KINDS = {'grammar': grammar_cases, 'matrix': matrix_table, 'ranking': ranking_cases, 'history': history_cases}
 
 
 def files(cases):

@@ -1,11 +1,12 @@
 -- Lists in order: what is made of lists in order is in order, two lists in order with the same elements are equal,
--- and the first d elements are just those that stand before the element at d.
+-- and the first d elements are just those that stand before the element at d. And lists without repetition.
 -- Assumes nothing.
-use mathlib.Core.Path.{_≡_, refl, sym}
+use mathlib.Core.Path.{_≡_, refl, sym, _∙_}
 use mathlib.Core.Logic.{inl, inr, _≢_}
-use mathlib.Core.List.{List, [], _∷_, _++_, map, List·Memᴰ·head, List·Memᴰ·tail, List·Memᴰ·cases-cons, List·Memᴰ·append-cases, List·Memᴰ·not-nil, Memᴰ·of-map}
+use mathlib.Core.List.{List, [], _∷_, _++_, map, List·Memᴰ·head, List·Memᴰ·tail, List·Memᴰ·cases-cons, List·Memᴰ·append-cases, List·Memᴰ·eq-of-singleton, List·Memᴰ·not-nil, Memᴰ·of-map}
 use Prim.Native.Nat.{ℕ, zero, suc, _<_}
 use native.Mathlib.Omega.{arith}
+use native.Mathlib.Decide.{decLt}
 use lib.ListN.{length, getD, take}
 use lib.Seq.{length-take-le}
 use Rattle.lists.specs.Joined.{_∈_, concatMap, combine}
@@ -45,6 +46,28 @@ module _ {X : Type 0} where
   pairwise-at R (x ∷ l) i zero d s h h′ = absurd (omega arith)
   pairwise-at R (x ∷ l) zero (suc j) d (more f s) h h′ = f (getD l j d) (getD-∈ l j d (omega arith))
   pairwise-at R (x ∷ l) (suc i) (suc j) d (more f s) h h′ = pairwise-at R l i j d s (omega arith) (omega arith)
+
+  -- an element that stands once has one place
+  pub distinct-place : (l : List X) (i j : ℕ) (d : X) → Distinct l → i < length l → j < length l → getD l i d ≡ getD l j d → i ≡ j
+  distinct-place l i j d s h k e =
+      elim (decLt i j) [
+        | yes b ↦ absurd (pairwise-at _≢_ l i j d s b k e)
+        | no a ↦
+            elim (decLt j i) [
+              | yes b ↦ absurd (pairwise-at _≢_ l j i d s b h (sym e))
+              | no b ↦ omega arith
+            ]
+      ]
+
+  -- in a list of fewer than two elements all are equal, and a list without repetition whose elements are all equal has fewer than two
+  pub few-same : (l : List X) → length l < 2 → (x y : X) → x ∈ l → y ∈ l → x ≡ y
+  few-same (z ∷ []) h x y m k = List·Memᴰ·eq-of-singleton m ∙ sym (List·Memᴰ·eq-of-singleton k)
+  few-same (z ∷ w ∷ l) h x y m k = absurd (omega arith)
+
+  pub same-few : (l : List X) → Distinct l → ((x y : X) → x ∈ l → y ∈ l → x ≡ y) → length l < 2
+  same-few [] d f = omega arith
+  same-few (x ∷ []) d f = omega arith
+  same-few (x ∷ y ∷ l) (more h d) f = absurd (h y (List·Memᴰ·head refl) (f x y (List·Memᴰ·head refl) (List·Memᴰ·tail (List·Memᴰ·head refl))))
 
 module _ {X Y : Type 0} where
   pub pairwise-concat : (S : X → X → Type 0) (R : Y → Y → Type 0) (f : X → List Y) (l : List X) → Pairwise S l

@@ -71,6 +71,18 @@ getD-upFrom k zero i d h = absurd (omega arith)
 getD-upFrom k (suc n) zero d h = omega arith
 getD-upFrom k (suc n) (suc i) d h = omega (arith, getD-upFrom (suc k) n i d (omega arith))
 
+module _ {X Y : Type 0} where
+  -- what f makes of the places of a list, where it is what g makes of the elements there
+  pub map-upFrom : (f : ℕ → Y) (g : X → Y) (k : ℕ) (l : List X) (z : X) → ((i : ℕ) → i < length l → f (k + i) ≡ g (getD l i z))
+      → map f (upFrom k (length l)) ≡ map g l
+  map-upFrom f g k [] z h = refl
+  map-upFrom f g k (x ∷ l) z h =
+      let e : k + 0 ≡ k = omega arith in
+      rw (
+        rw e at (h 0 (omega arith)),
+        map-upFrom f g (suc k) l z (λ i b. let s : suc k + i ≡ k + suc i = omega arith in rw s (h (suc i) (omega arith))),
+      )
+
 -- a loop that counts up to n meets the numbers so
 pub upFrom-step : (k n : ℕ) → k < n → upFrom k (n - k) ≡ k ∷ upFrom (k + 1) (n - (k + 1))
 upFrom-step k n h = let e : n - k ≡ suc (n - (k + 1)) = omega arith in rw (e, add-one k)

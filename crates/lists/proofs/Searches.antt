@@ -262,6 +262,25 @@ distinct-times (x ∷ l) (more f s) r =
           | no k ↦ omega arith
         ]
 
+-- two lists of the same values, none of them twice in either, are equally long
+pub distinct-length : (n : ℕ) (a b : List ℕ) → Distinct a → Distinct b → ((x : ℕ) → x ∈ b → x < n)
+    → ((x : ℕ) → x ∈ a → x ∈ b) → ((x : ℕ) → x ∈ b → x ∈ a) → length a ≡ length b
+distinct-length n a b da db h f g =
+    sym (times-sum 0 n a (λ x m. omega (arith, h x (f x m))))
+    ∙ sum-ext (λ r. times r a) (λ r. times r b) (upFrom 0 n) (λ r m. once r)
+    ∙ times-sum 0 n b (λ x m. omega (arith, h x m))
+  where
+    once : (r : ℕ) → times r a ≡ times r b
+    once r =
+        elim (decLe 1 (times r a)) [
+          | yes l ↦ omega (arith, distinct-times a da r, distinct-times b db r, times-∈ r b (f r (∈-times r a l)))
+          | no l ↦
+              elim (decLe 1 (times r b)) [
+                | yes k ↦ absurd (l (times-∈ r a (g r (∈-times r b k))))
+                | no k ↦ omega arith
+              ]
+        ]
+
 module _ {X : Type 0} where
   -- a value stands in all the lists together at least as often as in one of them
   pub times-concat : (r : ℕ) (f : X → List ℕ) (x : X) (l : List X) → x ∈ l → times r (f x) ≤ times r (concatMap f l)

@@ -52,7 +52,7 @@ module _ {X : Type 0} where
       go true e = omega arith
       go false e = omega arith
 
-  keep-∈ : (P : X → Bool) (l : List X) (u : X) → u ∈ keep P l → (u ∈ l) × (P u ≡ true)
+  pub keep-∈ : (P : X → Bool) (l : List X) (u : X) → u ∈ keep P l → (u ∈ l) × (P u ≡ true)
   keep-∈ P [] u m = absurd (List·Memᴰ·not-nil m)
   keep-∈ P (x ∷ l) u m = go (P x) refl (λ n. keep-∈ P l u n) m
     where
@@ -61,7 +61,7 @@ module _ {X : Type 0} where
       go true e ih (List·Memᴰ·tail n) = let r = ih n in (List·Memᴰ·tail (r .0), r .1)
       go false e ih n = let r = ih n in (List·Memᴰ·tail (r .0), r .1)
 
-  ∈-keep : (P : X → Bool) (l : List X) (u : X) → u ∈ l → P u ≡ true → u ∈ keep P l
+  pub ∈-keep : (P : X → Bool) (l : List X) (u : X) → u ∈ l → P u ≡ true → u ∈ keep P l
   ∈-keep P [] u m t = absurd (List·Memᴰ·not-nil m)
   ∈-keep P (x ∷ l) u (List·Memᴰ·head q) t = rw (sym (ap P q) ∙ t) (List·Memᴰ·head q)
   ∈-keep P (x ∷ l) u (List·Memᴰ·tail n) t = go (P x) (∈-keep P l u n t)
@@ -70,7 +70,7 @@ module _ {X : Type 0} where
       go true k = List·Memᴰ·tail k
       go false k = k
 
-  keep-pairwise : (R : X → X → Type 0) (P : X → Bool) (l : List X) → Pairwise R l → Pairwise R (keep P l)
+  pub keep-pairwise : (R : X → X → Type 0) (P : X → Bool) (l : List X) → Pairwise R l → Pairwise R (keep P l)
   keep-pairwise R P [] s = s
   keep-pairwise R P (x ∷ l) (more f s) = go (P x) (keep-pairwise R P l s)
     where
@@ -126,7 +126,7 @@ module _ {X : Type 0} where
   struck-ext P Q [] h = refl
   struck-ext P Q (x ∷ l) h = rw (h x (List·Memᴰ·head refl), struck-ext P Q l (λ y m. h y (List·Memᴰ·tail m)))
 
-  struck-rising : (P : X → Bool) (l : List X) → Pairwise _<_ (struck P l)
+  pub struck-rising : (P : X → Bool) (l : List X) → Pairwise _<_ (struck P l)
   struck-rising P [] = none
   struck-rising P (x ∷ l) = go (P x) (pairwise-map _<_ _<_ suc (struck P l) (struck-rising P l) (λ m n h. omega arith))
     where
@@ -134,7 +134,7 @@ module _ {X : Type 0} where
       go true s = s
       go false s = more {x = 0} (λ y m. let q = Memᴰ·of-map suc (struck P l) m in omega (arith, q .2)) s
 
-  struck-fails : (P : X → Bool) (l : List X) (i : ℕ) (z : X) → i ∈ struck P l → (i < length l) × (P (getD l i z) ≡ false)
+  pub struck-fails : (P : X → Bool) (l : List X) (i : ℕ) (z : X) → i ∈ struck P l → (i < length l) × (P (getD l i z) ≡ false)
   struck-fails P [] i z m = absurd (List·Memᴰ·not-nil m)
   struck-fails P (x ∷ l) i z m = go (P x) refl (λ j n. struck-fails P l j z n) m
     where
@@ -150,7 +150,7 @@ module _ {X : Type 0} where
       go true e ih n = later ih n
       go false e ih n = elim (List·Memᴰ·cases-cons n) [ inl p ↦ rw p (omega arith, e) | inr q ↦ later ih q ]
 
-  fails-struck : (P : X → Bool) (l : List X) (i : ℕ) (z : X) → i < length l → P (getD l i z) ≡ false → i ∈ struck P l
+  pub fails-struck : (P : X → Bool) (l : List X) (i : ℕ) (z : X) → i < length l → P (getD l i z) ≡ false → i ∈ struck P l
   fails-struck P [] i z h e = absurd (omega arith)
   fails-struck P (x ∷ l) zero z h e = rw e (List·Memᴰ·head refl)
   fails-struck P (x ∷ l) (suc i) z h e = go (P x) (Memᴰ·map suc (fails-struck P l i z (omega arith) e))
@@ -179,7 +179,7 @@ module _ {X : Type 0} where
   struck-numbered P k [] = refl
   struck-numbered P k (x ∷ l) = rw (struck-numbered P (suc k) l)
 
-  keep-numbered : (P : X → Bool) (k : ℕ) (l : List X) → length (keep (λ (e : ℕ × X). P (e .1)) (numbered k l)) ≡ length (keep P l)
+  pub keep-numbered : (P : X → Bool) (k : ℕ) (l : List X) → length (keep (λ (e : ℕ × X). P (e .1)) (numbered k l)) ≡ length (keep P l)
   keep-numbered P k [] = refl
   keep-numbered P k (x ∷ l) = go (P x) (keep-numbered P (suc k) l)
     where
@@ -187,6 +187,14 @@ module _ {X : Type 0} where
           → length (cond b ((k, x) ∷ keep (λ (e : ℕ × X). P (e .1)) (numbered (suc k) l)) (keep (λ (e : ℕ × X). P (e .1)) (numbered (suc k) l))) ≡ length (cond b (x ∷ keep P l) (keep P l))
       go true e = ap suc e
       go false e = e
+
+  -- entry q of what is kept, each with its place: the skip of q, and what stands there
+  pub kept-at : (P : X → Bool) (l : List X) (q : ℕ) (z : X) → q < length (keep P l)
+      → getD (keep (λ (e : ℕ × X). P (e .1)) (numbered 0 l)) q (0, z) ≡ (skip q (struck P l), getD l (skip q (struck P l)) z)
+  kept-at P l q z h =
+      let e : 0 + skip q (struck P l) ≡ skip q (struck P l) = omega arith in
+      keep-at (λ (e : ℕ × X). P (e .1)) (numbered 0 l) q (0, z)
+      ∙ rw (struck-numbered P 0 l) (getD-numbered 0 l (skip q (struck P l)) z (0, z) (skip-lt P l q h) ∙ rw e)
 
   -- what the skips of 0, 1, .. find, one after another, is what is kept, each with its place
   pub draws : (P : X → Bool) (l : List X) (z : X)
@@ -208,8 +216,4 @@ module _ {X : Type 0} where
       at i h =
           let u : i < length (upFrom 0 (length (keep P l))) = omega (arith, length-upFrom 0 (length (keep P l))) in
           let e₁ : getD (upFrom 0 (length (keep P l))) i 0 ≡ i = omega (arith, getD-upFrom 0 (length (keep P l)) i 0 h) in
-          let e₂ : 0 + skip i (struck P l) ≡ skip i (struck P l) = omega arith in
-          getD-map f (upFrom 0 (length (keep P l))) i 0 (0, z) u
-          ∙ ap f e₁
-          ∙ sym (keep-at P′ (numbered 0 l) i (0, z)
-          ∙ rw (struck-numbered P 0 l) (getD-numbered 0 l (skip i (struck P l)) z (0, z) (skip-lt P l i h) ∙ rw e₂))
+          getD-map f (upFrom 0 (length (keep P l))) i 0 (0, z) u ∙ ap f e₁ ∙ sym (kept-at P l i z h)

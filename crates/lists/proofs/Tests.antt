@@ -84,6 +84,7 @@ module _ {X : Type 0} where
   some-never P [] h = refl
   some-never P (x ∷ l) h = rw (h x) (some-never P l h)
 
+  -- one that passes is enough, and where some element passes, one can be shown
   pub some-∈ : (P : X → Bool) (x : X) (l : List X) → x ∈ l → P x ≡ true → someOf P l ≡ true
   some-∈ P x (y ∷ l) (List·Memᴰ·head e) h = rw (← e, h)
   some-∈ P x (y ∷ l) (List·Memᴰ·tail m) h = or-true (P y) (someOf P l) (some-∈ P x l m h)
@@ -96,6 +97,14 @@ module _ {X : Type 0} where
           → (x : X) × (x ∈ (y ∷ l)) × (P x ≡ true)
       go true p ih q = (y, List·Memᴰ·head refl, p)
       go false p ih q = let r = ih q in (r .0, List·Memᴰ·tail (r .1), r .2)
+
+  -- where none passes, each fails
+  pub none-∈ : (P : X → Bool) (l : List X) → someOf P l ≡ false → (x : X) → x ∈ l → P x ≡ false
+  none-∈ P (y ∷ l) e x (List·Memᴰ·head p) = ap P p ∙ or-left (P y) (someOf P l) e
+  none-∈ P (y ∷ l) e x (List·Memᴰ·tail m) = none-∈ P l (or-right (P y) (someOf P l) e) x m
+
+  pub some-clear : (P : X → Bool) (l : List X) → ((x : X) → x ∈ l → P x ≡ false) → someOf P l ≡ false
+  some-clear P l h = some-ext P (λ x. false) l h ∙ some-never (λ x. false) l (λ x. refl)
 
   pub some-or : (P Q : X → Bool) (l : List X) → someOf (λ x. P x || Q x) l ≡ (someOf P l || someOf Q l)
   some-or P Q [] = refl

@@ -39,8 +39,8 @@ module _ {g index plain : List ℕ} {n : ℕ} (t : Tabled g n index plain) where
       (below-at (λ B. ltb most (T (chain g) B (suc k))) (nonterminals g) A
       (below-at (λ i. someBelow (λ B. ltb most (T (chain g) B (suc i))) (nonterminals g)) n k (t .fits) l) h)
 
-  pub tabled-ready : {pattern memo : List ℕ} → length pattern ≤ 16 → Remembers (chain g) (fitting pattern) (length pattern) 1 memo
-      → Ready g index plain pattern 1 memo n
+  pub tabled-ready : {pattern : List ℕ} {u : ℕ} {memo : List ℕ} → length pattern ≤ 16 → Remembers (chain g) (fitting pattern) (length pattern) u memo
+      → Ready g index plain pattern u memo n
   tabled-ready l r = record { accepted = t .accepted; indexed = t .indexed; rows = t .rows; fits = counts-fit; short = l; remembers = r }
 
   pub start-inside : start g < nonterminals g

@@ -35,7 +35,7 @@ use Rattle.ranking.proofs.Same.{entry-is}
 module _ (g : List ℕ) where
   -- ---- trees
 
-  listed-total : (n : ℕ) → totalOf g n ≡ length (fullList g n)
+  pub listed-total : (n : ℕ) → totalOf g n ≡ length (fullList g n)
   listed-total n = T-length (chain g) (start g) n
 
   -- entry d of the full list
@@ -54,13 +54,13 @@ module _ (g : List ℕ) where
     some : 0 < readingsOf g s
     some = omega arith
 
-    number-inside : numberOf g s < totalOf g (length s)
+    pub number-inside : numberOf g s < totalOf g (length s)
     number-inside = omega (arith, place-lt (derives s) (fullList g (length s)) 0 some, listed-total (length s))
 
-    number-says : entryOf g (length s) (numberOf g s) ≡ s
+    pub number-says : entryOf g (length s) (numberOf g s) ≡ s
     number-says = same-eq (entryOf g (length s) (numberOf g s)) s (place-hit (derives s) (fullList g (length s)) 0 (leaf 0 0) some)
 
-    number-only : (d : ℕ) → d < totalOf g (length s) → entryOf g (length s) d ≡ s → d ≡ numberOf g s
+    pub number-only : (d : ℕ) → d < totalOf g (length s) → entryOf g (length s) d ≡ s → d ≡ numberOf g s
     number-only d h e =
         place-only (derives s) (fullList g (length s)) d (leaf 0 0) one (omega (arith, listed-total (length s)))
         (ap (λ (u : List ℕ). same u s) e ∙ same-refl s)
@@ -128,7 +128,7 @@ module _ (g : List ℕ) where
   count-answer n ok = answer-accepted (totalOf g n ∷ []) [] [] (count-rows n ok)
 
   -- the derivations of a sentence, as many as are counted
-  exactly-readings : (s : List ℕ) → Exactly (readingsOf g s) (λ t. Derivation g (length s) t × (sentence t ≡ s))
+  pub exactly-readings : (s : List ℕ) → Exactly (readingsOf g s) (λ t. Derivation g (length s) t × (sentence t ≡ s))
   exactly-readings s =
       let e = exactly-many (derives s) (fullList g (length s)) (distinct (chain g) (start g) (length s)) in
       record {

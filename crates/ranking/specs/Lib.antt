@@ -1,4 +1,5 @@
 pub mod Located
-pub mod Ranking
 pub mod Answers
+pub mod Ranking
+pub mod Giving
 pub mod Demand2

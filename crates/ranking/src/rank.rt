@@ -1,12 +1,16 @@
 // *Number*: the derivation number of a sentence.
 ghost use mathlib.Core.Path.{_≡_};
+ghost use mathlib.Core.Bool.{false};
 ghost use Prim.Native.Nat.{_≤_};
 ghost use lib.ListN.{length};
 ghost use Rattle.lists.specs.Searched.{someOf};
 ghost use lib.Dec.{leb};
+ghost use Rattle.grammar.specs.Layout.{words};
+ghost use Rattle.counting.specs.Prepared.{Tabled};
 ghost use Rattle.ranking.specs.Answers.{rankSaid, rankOf};
-ghost use Rattle.ranking.specs.Ranking.{RankReady, RankSought};
+ghost use Rattle.ranking.specs.Ranking.{FindSought, FoundAs};
 use crate::locate;
+use crate::unrank;
 use crate::unrank::DerivationNumber;
 use counting::prepare;
 use counting::prepare::CountRefusal;
@@ -14,6 +18,13 @@ use counting::prepare::Prepared;
 use counting::tables;
 use grammar::fields;
 use readings::readings;
+
+// The derivations of a sentence: none, one, by its number, or more.
+pub enum Found {
+    None,
+    One(DerivationNumber),
+    Many,
+}
 
 pub enum RankAnswer {
     Ranked(DerivationNumber, u64),
@@ -36,25 +47,26 @@ fn some_foreign(sentence: &[u8], w: u8) -> bool
     false
 }
 
-// With the tables and a memo at hand, of a sentence whose words are all the grammar's.
-fn number(
+// Of a sentence whose words are all the grammar's.
+fn find_native(
     g: &[u8],
     index: &[u8; 1024],
     plain: &[u64; 544],
     sentence: &[u8],
+    t: u64,
     memo: &mut [u64],
-) -> RankAnswer
-    requires { ⌜ RankSought (now g) (now index) (now plain) (now sentence) (now memo) ⌝ }
-    ensures { λ r. ⌜ rankSaid r ≡ rankOf (now (g .entry)) (now (sentence .entry)) ⌝ }
+) -> Found
+    requires { ⌜ FindSought (now g) (now index) (now plain) (now sentence) t (now memo) × (someOf (leb (words (now g))) (now sentence) ≡ false) ⌝ }
+    ensures { λ f. ⌜ FoundAs (now (g .entry)) (now (sentence .entry)) t (now (memo .exit)) f ⌝ }
 {
     let n = sentence.len();
     let s = tables::wide(fields::start(g));
-    let count = readings(g, index, plain, sentence, 1, s, 0, n, memo);
+    let count = readings(g, index, plain, sentence, t, s, 0, n, memo);
     if count == 0 {
-        return RankAnswer::Underivable;
+        return Found::None;
     }
     if 2 <= count {
-        return RankAnswer::Ambiguous;
+        return Found::Many;
     }
     let mut words = [0u8; 16];
     let d = locate::choose(
@@ -62,19 +74,56 @@ fn number(
         index,
         plain,
         sentence,
-        1,
+        t,
         s,
         0,
         0,
         memo,
         &mut words[0..n],
     );
-    RankAnswer::Ranked(DerivationNumber(d), tables::plain_at(plain, s, n))
+    Found::One(DerivationNumber(d))
+}
+
+// The derivations of a sentence, with the tables and a memo at hand.
+pub fn find(
+    g: &[u8],
+    index: &[u8; 1024],
+    plain: &[u64; 544],
+    sentence: &[u8],
+    t: u64,
+    memo: &mut [u64],
+) -> Found
+    requires { ⌜ FindSought (now g) (now index) (now plain) (now sentence) t (now memo) ⌝ }
+    ensures { λ f. ⌜ FoundAs (now (g .entry)) (now (sentence .entry)) t (now (memo .exit)) f ⌝ }
+{
+    if some_foreign(sentence, fields::words(g)) {
+        return Found::None;
+    }
+    find_native(g, index, plain, sentence, t, memo)
+}
+
+// With the tables and a memo at hand.
+fn number(
+    g: &[u8],
+    index: &[u8; 1024],
+    plain: &[u64; 544],
+    sentence: &[u8],
+    memo: &mut [u64],
+) -> RankAnswer
+    requires { ⌜ FindSought (now g) (now index) (now plain) (now sentence) 1 (now memo) ⌝ }
+    ensures { λ r. ⌜ rankSaid r ≡ rankOf (now (g .entry)) (now (sentence .entry)) ⌝ }
+{
+    let f = find(g, index, plain, sentence, 1, memo);
+    match f {
+        Found::None => RankAnswer::Underivable,
+        Found::Many => RankAnswer::Ambiguous,
+        Found::One(d) => RankAnswer::Ranked(d, unrank::total(g, plain, sentence.len())),
+    }
 }
 
 // A memo for sentences of up to five words, and one for all: clearing it is much of the time that a short sentence takes.
 fn number_short(g: &[u8], index: &[u8; 1024], plain: &[u64; 544], sentence: &[u8]) -> RankAnswer
-    requires { ⌜ RankReady (now g) (now index) (now plain) (now sentence) × (length (now sentence) ≤ 5) ⌝ }
+    requires { ⌜ Tabled (now g) (length (now sentence)) (now index) (now plain) × (length (now sentence) ≤ 5) ⌝ }
     ensures { λ r. ⌜ rankSaid r ≡ rankOf (now (g .entry)) (now (sentence .entry)) ⌝ }
 {
     let mut memo = [0u64; 1280];
@@ -82,7 +131,7 @@ fn number_short(g: &[u8], index: &[u8; 1024], plain: &[u64; 544], sentence: &[u8
 }
 
 fn number_long(g: &[u8], index: &[u8; 1024], plain: &[u64; 544], sentence: &[u8]) -> RankAnswer
-    requires { ⌜ RankReady (now g) (now index) (now plain) (now sentence) ⌝ }
+    requires { ⌜ Tabled (now g) (length (now sentence)) (now index) (now plain) ⌝ }
     ensures { λ r. ⌜ rankSaid r ≡ rankOf (now (g .entry)) (now (sentence .entry)) ⌝ }
 {
     let mut memo = [0u64; 15360];
@@ -98,9 +147,6 @@ pub fn rank(g: &[u8], sentence: &[u8]) -> RankAnswer
     match p {
         Prepared::Refused(r) => RankAnswer::NotRanked(r),
         Prepared::Ready => {
-            if some_foreign(sentence, fields::words(g)) {
-                return RankAnswer::Underivable;
-            }
             if sentence.len() <= 5 {
                 return number_short(g, &index, &plain, sentence);
             }

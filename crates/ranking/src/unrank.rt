@@ -1,7 +1,10 @@
 // *Give*: the sentence with a derivation number.
 ghost use mathlib.Core.Path.{_≡_};
 ghost use Rattle.counting.specs.Prepared.{Tabled};
-ghost use Rattle.ranking.specs.Answers.{unrankSaid, unrankOf};
+ghost use mathlib.Core.List.{_++_};
+ghost use lib.ListN.{drop};
+ghost use Rattle.ranking.specs.Answers.{totalOf, entryOf, unrankSaid, unrankOf};
+ghost use Rattle.ranking.specs.Giving.{Summed, WriteSought};
 use crate::locate;
 use counting::prepare;
 use counting::prepare::CountRefusal;
@@ -19,26 +22,28 @@ pub enum UnrankAnswer {
     Short,
 }
 
-// With the tables at hand.
-fn give(
+// T(S, n), from the table.
+pub fn total(g: &[u8], plain: &[u64; 544], n: usize) -> u64
+    requires { ⌜ Summed (now g) n (now plain) ⌝ }
+    ensures { λ t. ⌜ t ≡ totalOf (now (g .entry)) n ⌝ }
+{
+    tables::plain_at(plain, tables::wide(fields::start(g)), n)
+}
+
+// The sentence with the derivation number d into the first bytes of `out`.
+pub fn write(
     g: &[u8],
     index: &[u8; 1024],
     plain: &[u64; 544],
     n: usize,
-    d: u64,
+    number: DerivationNumber,
     out: &mut [u8],
-) -> UnrankAnswer
-    requires { ⌜ Tabled (now g) n (now index) (now plain) ⌝ }
-    ensures { λ r. ⌜ unrankSaid r (now (out .exit)) ≡ unrankOf (now (g .entry)) n d (now (out .entry)) ⌝ }
+)
+    requires { ⌜ WriteSought (now g) (now index) (now plain) n (number .0) (now out) ⌝ }
+    ensures { λ _. ⌜ now (out .exit) ≡ entryOf (now (g .entry)) n (number .0) ++ drop n (now (out .entry)) ⌝ }
 {
+    let d = number.0;
     let s = tables::wide(fields::start(g));
-    let total = tables::plain_at(plain, s, n);
-    if total <= d {
-        return UnrankAnswer::Beyond;
-    }
-    if out.len() < n {
-        return UnrankAnswer::Short;
-    }
     let blanks = [0u8; 1];
     let mut memo = [0u64; 1];
     locate::choose(
@@ -53,7 +58,29 @@ fn give(
         &mut memo,
         &mut out[0..n],
     );
-    UnrankAnswer::Given(total)
+}
+
+// With the tables at hand.
+fn give(
+    g: &[u8],
+    index: &[u8; 1024],
+    plain: &[u64; 544],
+    n: usize,
+    number: DerivationNumber,
+    out: &mut [u8],
+) -> UnrankAnswer
+    requires { ⌜ Tabled (now g) n (now index) (now plain) ⌝ }
+    ensures { λ r. ⌜ unrankSaid r (now (out .exit)) ≡ unrankOf (now (g .entry)) n (number .0) (now (out .entry)) ⌝ }
+{
+    let t = total(g, plain, n);
+    if t <= number.0 {
+        return UnrankAnswer::Beyond;
+    }
+    if out.len() < n {
+        return UnrankAnswer::Short;
+    }
+    write(g, index, plain, n, number, out);
+    UnrankAnswer::Given(t)
 }
 
 pub fn unrank(g: &[u8], n: u64, number: DerivationNumber, out: &mut [u8]) -> UnrankAnswer
@@ -61,10 +88,9 @@ pub fn unrank(g: &[u8], n: u64, number: DerivationNumber, out: &mut [u8]) -> Unr
 {
     let mut index = [0u8; 1024];
     let mut plain = [0u64; 544];
-    let d = number.0;
     let p = prepare::prepare(g, n, &mut index, &mut plain);
     match p {
         Prepared::Refused(r) => UnrankAnswer::NotGiven(r),
-        Prepared::Ready => give(g, &index, &plain, n as usize, d, out),
+        Prepared::Ready => give(g, &index, &plain, n as usize, number, out),
     }
 }

@@ -1,4 +1,4 @@
--- `number_long` meets its contract: its memo is clear and has room for the sentence.
+-- `number_long` meets its contract: its memo is clear and has room for every sentence.
 -- Assumes nothing.
 use Rattle.readings.proofs.Memo.{remembers-zeros}
 use Rattle.ranking.proofs.Giving.{room-long}
@@ -10,8 +10,7 @@ slice-aggregate-number : tie.Need-slice-aggregate-number
 slice-aggregate-number c = search needs
 
 number-requires : tie.Need-number-requires
-number-requires c κs =
-    record { ready = (c .before .before .before .pre); clear = remembers-zeros 15360 (room-long _ (c .before .before .before .pre .tabled .short)) }
+number-requires c κs = record { tabled = c .before .before .before .pre; clear = remembers-zeros 15360 (room-long _ (c .before .before .before .pre .short)) }
 
 returns : tie.Need-returns
 returns c = search needs

@@ -10,8 +10,7 @@ slice-aggregate-number : tie.Need-slice-aggregate-number
 slice-aggregate-number c = search needs
 
 number-requires : tie.Need-number-requires
-number-requires c κs =
-    record { ready = (c .before .before .before .pre .0); clear = remembers-zeros 1280 (room-short _ (c .before .before .before .pre .1)) }
+number-requires c κs = record { tabled = c .before .before .before .pre .0; clear = remembers-zeros 1280 (room-short _ (c .before .before .before .pre .1)) }
 
 returns : tie.Need-returns
 returns c = search needs
