@@ -5,14 +5,16 @@ use mathlib.Core.Bool.{false, true, not, _||_}
 use mathlib.Core.List.{List}
 use Prim.Native.Nat.{ℕ, _+_, _-_, _*_, _≤_, _<_}
 use borrow.Author.Tests.{ltb-false, eqb-true, lt-ltb, le-ltb, eq-eqb, ne-eqb, not-false}
-use lib.ListN.{length, getD}
+use native.Mathlib.Omega.{arith}
+use lib.ListN.{length, getD, drop, length-drop}
+use lib.Seq.{length-take-le}
 use lib.Dec.{ltb, eqb, lit<}
 use Rattle.lists.specs.Searched.{someTo, times}
 use Rattle.lists.proofs.Tests.{within-facts, within-low, within-high, within-both, or-left, or-right, to-at}
 use Rattle.answers.specs.Answer.{firstThatApplies}
 use Rattle.answers.specs.Length.{badLength}
 use Rattle.answers.proofs.Refusals.{row-clear}
-use Rattle.history.specs.Layout.{recordsOf, headOf, recordAt, nextOf}
+use Rattle.history.specs.Layout.{recordsOf, headOf, recordAt, nextOf, lengthOf, wordsOf}
 use Rattle.history.specs.Chain.{numbers}
 use Rattle.history.specs.Refusals.{badSize, someNonzero, misfit, badRecord, nextAbove, badLink, badChain, Accepted}
 use Rattle.history.specs.Checks.{Sized}
@@ -148,3 +150,17 @@ known h ok =
       nexts = link-next h (c .links);
       once = each-once h (c .chain);
     }
+
+-- ---- the words of a record
+
+-- they end inside the bytes
+pub words-inside : (h : List ℕ) → Accepted h → (r : ℕ) → 1 ≤ r → r ≤ recordsOf h → (lengthOf h r ≤ 16) × (recordAt r + 4 + lengthOf h r ≤ length h)
+words-inside h ok r l m =
+    let k = known h ok in
+    let f = fits h (recordAt r) (k .fit r l m) in
+    (f .short, omega (arith, f .short, k .sized .size))
+
+pub words-length : (h : List ℕ) → Accepted h → (r : ℕ) → 1 ≤ r → r ≤ recordsOf h → length (wordsOf h r) ≡ lengthOf h r
+unfolding wordsOf
+words-length h ok r l m =
+    length-take-le (lengthOf h r) (drop (recordAt r + 4) h) (omega (arith, length-drop (recordAt r + 4) h, words-inside h ok r l m .1))

@@ -27,7 +27,7 @@ use Rattle.history.specs.Refusals.{badSize, misfit, badRecord, nextAbove
 use Rattle.history.specs.Heard.{sentences, heard}
 use Rattle.history.specs.Writing.{put, twoBytes, recordBytes, appended}
 use Rattle.history.specs.Answers.{noRoom, appendRows, appendOf}
-use Rattle.history.proofs.Acceptance.{size-room, fits, head-below, known, accept}
+use Rattle.history.proofs.Acceptance.{size-room, head-below, known, accept, words-inside, words-length}
 use Rattle.history.proofs.Chain.{numbers-inside, chain-length, chained, heard-sentences}
 use Rattle.history.proofs.Writing.{record-word, record-length, put-length, put-before, put-in, put-after}
 
@@ -217,15 +217,13 @@ module _ (h s : List ℕ) (log : Logs h s) where
   old-words : (r : ℕ) → 1 ≤ r → r ≤ K → wordsOf (appended h s) r ≡ wordsOf h r
   unfolding wordsOf
   old-words r l m =
-      let k = known h (log .accepted) in
-      let f = fits h (recordAt r) (k .fit r l m) in
-      let n : length (wordsOf h r) ≡ lengthOf h r =
-      length-take-le (lengthOf h r) (drop (recordAt r + 4) h) (omega (arith, length-drop (recordAt r + 4) h, k .sized .size, f .short)) in
+      let n = words-length h (log .accepted) r l m in
+      let f = words-inside h (log .accepted) r l m in
       let e : lengthOf (appended h s) r ≡ length (wordsOf h r) = old-byte (recordAt r + 2) (omega arith) (omega arith) ∙ sym n in
       rw e
-      (part-is (appended h s) (wordsOf h r) (recordAt r + 4) (omega (arith, long, log .room, n, f .short))
+      (part-is (appended h s) (wordsOf h r) (recordAt r + 4) (omega (arith, long, n, f .1))
       (λ i j.
-      old-byte (recordAt r + 4 + i) (omega arith) (omega (arith, n, f .short))
+      old-byte (recordAt r + 4 + i) (omega arith) (omega (arith, n, f .0))
       ∙ sym (getD-take (lengthOf h r) (drop (recordAt r + 4) h) i 0 (omega (arith, n)) ∙ getD-drop (recordAt r + 4) h i 0)))
 
   new-words : wordsOf (appended h s) new ≡ s

@@ -4,9 +4,10 @@ use mathlib.Core.Path.{_≡_, refl, sym, ap, _∙_}
 use mathlib.Core.Logic.{inl, inr, _↔_, _≢_}
 use mathlib.Core.Bool.{Bool, true, false, cond}
 use mathlib.Core.List.{List, [], _∷_, map, List·Memᴰ·head, List·Memᴰ·tail, List·Memᴰ·not-nil, List·Memᴰ·cases-cons, Memᴰ·map, Memᴰ·of-map}
-use Prim.Native.Nat.{ℕ, zero, suc, _+_, _-_, _<_}
+use Prim.Native.Nat.{ℕ, zero, suc, _+_, _-_, _≤_, _<_}
 use native.Mathlib.Omega.{arith}
 use lib.Dec.{leb, leb·zero, leb·suc-suc, leb·suc-zero}
+use borrow.Author.Tests.{le-leb, lt-leb}
 use lib.Seq.{ext-getD}
 use lib.ListN.{length, getD, length-map}
 use Rattle.lists.specs.Joined.{_∈_, upFrom}
@@ -14,6 +15,7 @@ use Rattle.lists.specs.Ordered.{Pairwise, none, more, Distinct, Exactly}
 use Rattle.lists.specs.Searched.{bit, howMany, placeNext, placeOf}
 use Rattle.lists.specs.Struck.{keep, struck, numbered, skip}
 use Rattle.lists.proofs.Sums.{length-upFrom}
+use Rattle.lists.proofs.Members.{getD-∈}
 use Rattle.lists.proofs.Places.{getD-map, getD-upFrom}
 use Rattle.lists.proofs.Orders.{pairwise-map, order-unique}
 
@@ -217,3 +219,28 @@ module _ {X : Type 0} where
           let u : i < length (upFrom 0 (length (keep P l))) = omega (arith, length-upFrom 0 (length (keep P l))) in
           let e₁ : getD (upFrom 0 (length (keep P l))) i 0 ≡ i = omega (arith, getD-upFrom 0 (length (keep P l)) i 0 h) in
           getD-map f (upFrom 0 (length (keep P l))) i 0 (0, z) u ∙ ap f e₁ ∙ sym (kept-at P l i z h)
+
+-- ---- the skip over a rising list, by its places
+
+-- a rising list rises by at least one each place
+pub rising-gap : (l : List ℕ) (i j : ℕ) → Pairwise _<_ l → i ≤ j → j < length l → getD l i 0 + (j - i) ≤ getD l j 0
+rising-gap [] i j s h k = absurd (omega arith)
+rising-gap (x ∷ l) zero zero s h k = omega arith
+rising-gap (x ∷ l) zero (suc zero) (more f s) h k = omega (arith, f (getD l 0 0) (getD-∈ l 0 0 (omega arith)))
+rising-gap (x ∷ l) zero (suc (suc j)) (more f s) h k =
+    omega (arith, f (getD l 0 0) (getD-∈ l 0 0 (omega arith)), rising-gap l 0 (suc j) s (omega arith) (omega arith))
+rising-gap (x ∷ l) (suc i) zero s h k = absurd (omega arith)
+rising-gap (x ∷ l) (suc i) (suc j) (more f s) h k =
+    let e : suc j - suc i ≡ j - i = omega arith in
+    rw e (rising-gap l i j s (omega arith) (omega arith))
+
+-- where the first k entries, each less its place, are at most q, and the next one is not, the skip passes just these
+pub skip-at : (l : List ℕ) (q k : ℕ) → k ≤ length l → ((i : ℕ) → i < k → getD l i 0 ≤ q + i) → (k < length l → q + k < getD l k 0) → skip q l ≡ q + k
+skip-at [] q k h f g = omega arith
+skip-at (x ∷ l) q zero h f g = rw (lt-leb x q (omega (arith, g (omega arith)))) (omega arith)
+skip-at (x ∷ l) q (suc k) h f g =
+    rw (le-leb x q (omega (arith, f 0 (omega arith))))
+    (omega (
+      arith,
+      skip-at l (suc q) k (omega arith) (λ i m. omega (arith, f (suc i) (omega arith))) (λ m. omega (arith, g (omega arith))),
+    ))

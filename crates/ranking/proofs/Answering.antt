@@ -49,6 +49,10 @@ module _ {g index plain : List ℕ} {n : ℕ} (t : Tabled g n index plain) where
   pub start-few : start g < 32
   start-few = let k = known g (t .accepted) .ranges in omega (arith, start-inside, k .few-nonterminals)
 
+  -- T is of 64 bits
+  pub total-fits : totalOf g n ≤ most
+  total-fits = counts-fit (start g) n start-inside (omega arith)
+
   -- ---- none of 1 to 10 applies
 
   no-length : badLength n ≡ false

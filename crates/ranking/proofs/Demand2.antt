@@ -9,7 +9,6 @@ use lib.ListN.{length, getD, take, drop}
 use lib.Seq.{take-append-seam}
 use lib.Dec.{ltb, leb, eqb}
 use borrow.Author.Tests.{leb-false, eqb-false, le-leb, lt-leb, le-ltb, eq-eqb, ne-eqb}
-use Rattle.lists.specs.Joined.{_∈_}
 use Rattle.lists.specs.Ordered.{Exactly}
 use Rattle.lists.specs.Searched.{same}
 use Rattle.lists.proofs.Members.{getD-∈, ∈-place, At-getD}

@@ -2,24 +2,15 @@
 -- Assumes nothing.
 use mathlib.Core.Path.{_≡_, ap, _∙_}
 use mathlib.Core.List.{List}
-use Prim.Native.Nat.{ℕ, _+_, _-_, _≤_}
+use Prim.Native.Nat.{ℕ, _+_, _-_}
 use native.Mathlib.Omega.{arith}
 use denote.Ref.{now}
 use lib.ListN.{length, take, drop}
 use Rattle.history.specs.Layout.{recordAt, lengthOf, wordsOf}
-use Rattle.history.specs.Refusals.{Accepted}
-use Rattle.history.specs.Checks.{Inside}
-use Rattle.history.proofs.Acceptance.{known, fits}
+use Rattle.history.proofs.Acceptance.{known, words-inside}
 use borrow.Author.Needs.{needs}
 use Rattle.history.proofs.records.words.Statement.{statement}
 use Rattle.history.proofs.records.words.Tie as tie
-
--- a record's sentence ends inside
-room : (h : List ℕ) {r : ℕ} → Accepted h → Inside h r → (lengthOf h r ≤ 16) × (recordAt r + 4 + lengthOf h r ≤ length h)
-room h {r} ok i =
-    let k = known h ok in
-    let f = fits h (recordAt r) (k .fit r (i .low) (i .high)) in
-    (f .short, omega (arith, f .short, k .sized .size))
 
 words-are : (h : List ℕ) (r : ℕ) {at n : ℕ} → at ≡ recordAt r → n ≡ lengthOf h r → take (at + 4 + n - (at + 4)) (drop (at + 4) h) ≡ wordsOf h r
 unfolding wordsOf
@@ -38,7 +29,7 @@ length-requires c κs = search needs
 
 add-end : tie.Need-add-end
 add-end c =
-    let s = c .before .before .before in let i = room (now (s .args .h)) (s .pre .0) (s .pre .1) in omega (arith, i .0, i .1)
+    let s = c .before .before .before in let i = words-inside (now (s .args .h)) (s .pre .0) (s .args .r) (s .pre .1 .low) (s .pre .1 .high) in omega (arith, i .0, i .1)
 
 sub-result : tie.Need-sub-result
 sub-result c = search needs
@@ -49,7 +40,7 @@ part-result-start c = search needs
 part-result-end : tie.Need-part-result-end
 part-result-end c =
     let s = c .before .before .before in
-    let i = room (now (s .args .h)) (s .pre .0) (s .pre .1) in
+    let i = words-inside (now (s .args .h)) (s .pre .0) (s .args .r) (s .pre .1 .low) (s .pre .1 .high) in
     omega (arith, i .0, i .1, c .before .record-at .ensures, c .length .ensures)
 
 returns : tie.Need-returns

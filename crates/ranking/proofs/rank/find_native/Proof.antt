@@ -59,14 +59,16 @@ same-length c = search needs
 
 returns : tie.Need-returns
 returns c =
-    let a = c .before .before .before in record { says = sym (counted a) ∙ c .if1 .taken; remembers = a .readings .ensures .remembers }
+    let a = c .before .before .before in
+    record { says = sym (counted a) ∙ c .if1 .taken; remembers = a .readings .ensures .remembers }
 
 same-length-2 : tie.Need-same-length-2
 same-length-2 c = search needs
 
 returns-2 : tie.Need-returns-2
 returns-2 c =
-    let a = c .before .before .before .before in record { says = omega (arith, counted a, c .if2 .taken); remembers = a .readings .ensures .remembers }
+    let a = c .before .before .before .before in
+    record { says = omega (arith, counted a, c .if2 .taken); remembers = a .readings .ensures .remembers }
 
 sub-choose : tie.Need-sub-choose
 sub-choose c = search needs

@@ -25,14 +25,16 @@ same-length c = search needs
 
 returns : tie.Need-returns
 returns c =
-    let s = c .before .before .before .before .before .before .before .before .before in rank-none _ _ (s .pre .tabled) ((rw (c .enum-told .given .1) at (c .before .before .before .before .find .ensures)) .says)
+    let s = c .before .before .before .before .before .before .before .before .before in
+    rank-none _ _ (s .pre .tabled) ((rw (c .enum-told .given .1) at (c .before .before .before .before .find .ensures)) .says)
 
 same-length-2 : tie.Need-same-length-2
 same-length-2 c = search needs
 
 returns-2 : tie.Need-returns-2
 returns-2 c =
-    let s = c .before .before .before .before .before .before .before .before .before in rank-several _ _ (s .pre .tabled) ((rw (c .enum-told2 .given .1) at (c .before .before .before .before .find .ensures)) .says)
+    let s = c .before .before .before .before .before .before .before .before .before in
+    rank-several _ _ (s .pre .tabled) ((rw (c .enum-told2 .given .1) at (c .before .before .before .before .find .ensures)) .says)
 
 same-length-3 : tie.Need-same-length-3
 same-length-3 c = search needs

@@ -10,10 +10,14 @@ total-requires : tie.Need-total-requires
 total-requires c κs = search needs
 
 returns : tie.Need-returns
-returns c = let a = c .before .before in give-beyond _ _ _ _ (a .before .before .before .pre) (omega (arith, a .total .ensures, c .if1 .taken))
+returns c =
+    let a = c .before .before in
+    give-beyond _ _ _ _ (a .before .before .before .pre) (omega (arith, a .total .ensures, c .if1 .taken))
 
 returns-2 : tie.Need-returns-2
-returns-2 c = let a = c .before .before .before in give-short _ _ _ _ (a .before .before .before .pre) (omega (arith, a .total .ensures, c .before .if1 .left)) (c .if2 .taken)
+returns-2 c =
+    let a = c .before .before .before in
+    give-short _ _ _ _ (a .before .before .before .pre) (omega (arith, a .total .ensures, c .before .if1 .left)) (c .if2 .taken)
 
 write-requires : tie.Need-write-requires
 write-requires c κs = search needs

@@ -21,7 +21,9 @@ plain-at-requires c κs =
     omega (arith, c .wide .ensures .0, c .before .start .ensures, k .start-inside, k .few-nonterminals, s .short)
 
 returns : tie.Need-returns
-returns c = let w = c .before in total-is (w .before .before .before .pre) (w .wide .ensures .0 ∙ w .before .start .ensures) _ (c .plain-at .ensures)
+returns c =
+    let w = c .before in
+    total-is (w .before .before .before .pre) (w .wide .ensures .0 ∙ w .before .start .ensures) _ (c .plain-at .ensures)
 
 pub total-spec : {M : Type 1} → statement M
 total-spec = tie.close (tie.spec start-requires wide-requires plain-at-requires returns)

@@ -1,0 +1,64 @@
+-- The demands hold. Demand 1's part on refusals is how every answer is made; demands 2 and 3 and the examples stand in the crates `ranking`
+-- and `sampling`.
+-- Assumes nothing.
+use mathlib.Core.Path.{_≡_, refl, ap, _∙_}
+use mathlib.Core.List.{List, [], _∷_, _++_}
+use Prim.Native.Nat.{ℕ, suc}
+use lib.ListN.{length, drop, replicate}
+use Rattle.answers.specs.Answer.{Row, Answer, firstThatApplies, zeros, answerOf}
+use Rattle.answers.proofs.Refusals.{answer-number, answer-refused}
+use Rattle.grammar.specs.Layout.{nonterminals, words}
+use Rattle.grammar.specs.Trees.{sentence}
+use Rattle.grammar.specs.Refusals.{grammarRows}
+use Rattle.grammar.specs.Answers.{checkGrammar}
+use Rattle.counting.specs.Prepared.{preparedRows}
+use Rattle.counting.specs.Answers.{countOf}
+use Rattle.history.specs.Layout.{recordsOf}
+use Rattle.history.specs.Refusals.{historyRows}
+use Rattle.history.specs.Writing.{appended}
+use Rattle.history.specs.Answers.{checkHistory, appendRows, appendOf}
+use Rattle.ranking.specs.Answers.{totalOf, entryOf, numberOf, unrankRows, unrankOf, rankRows, rankOf}
+use Rattle.ranking.proofs.Demand2.{demand-2}
+use Rattle.sampling.specs.Unheard.{heardOf, leftOf}
+use Rattle.sampling.specs.Answers.{drawn, remainingRows, remainingOf, drawRows, drawOf}
+use Rattle.sampling.proofs.Premises.{premises}
+use Rattle.sampling.proofs.Demand3.{demand-3, once, alike}
+use Rattle.sampling.proofs.Examples.{examples, example-premises}
+use Rattle.pumpfennel.specs.Demands.{Refuses, Demand1, Demands}
+
+-- an answer by its list of refusals
+refuses : (rows : List Row) (figures before after : List ℕ) {count : ℕ} → zeros figures ≡ replicate count 0
+    → Refuses rows count before (answerOf (firstThatApplies rows) figures before after)
+refuses rows figures before after e =
+    let n = firstThatApplies rows in
+    let number = answer-number n figures before after in
+    record {
+      first = number;
+      figures = λ h. ap (λ (a : Answer). a .figures) (answer-refused n figures before after (rw number at h)) ∙ e;
+      buffer = λ h. ap (λ (a : Answer). a .buffer) (answer-refused n figures before after (rw number at h));
+    }
+
+demand-1 : Demand1
+unfolding checkGrammar checkHistory countOf unrankOf rankOf remainingOf drawOf appendOf
+demand-1 = record {
+  check-bank = λ g. refuses (grammarRows g) (nonterminals g ∷ words g ∷ []) [] [] refl;
+  check-diary = λ h. refuses (historyRows h) (recordsOf h ∷ []) [] [] refl;
+  count = λ g n. refuses (preparedRows g n) (totalOf g n ∷ []) [] [] refl;
+  give = λ g n d out. refuses (unrankRows g n d out) (totalOf g n ∷ []) out (entryOf g n d ++ drop n out) refl;
+  number = λ g s. refuses (rankRows g s) (numberOf g s ∷ totalOf g (length s) ∷ []) [] [] refl;
+  left = λ g h n. refuses (remainingRows g h n) (totalOf g n ∷ heardOf g h n ∷ leftOf g h n ∷ []) [] [] refl;
+  draw = λ g h n q out. refuses (drawRows g h n q out) (leftOf g h n ∷ drawn g h n q .0 ∷ []) out (sentence (drawn g h n q .1) ++ drop n out) refl;
+  log = λ h s. refuses (appendRows h s) (suc (recordsOf h) ∷ []) h (appended h s) refl;
+}
+
+pub demands : Demands
+demands = record {
+  one = demand-1;
+  two = demand-2;
+  three = demand-3;
+  once = once;
+  alike = alike;
+  premises = premises;
+  instance = example-premises;
+  examples = examples;
+}

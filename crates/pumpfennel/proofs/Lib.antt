@@ -1,0 +1,3 @@
+-- What the calls answer case by case, and the theorem of the demands.
+pub mod Cases
+pub mod Demands

@@ -1,0 +1,252 @@
+// The library for C and Rust: document 01's calls, whole. Each result is the refusal's number, 0 where the call is accepted; on a refusal
+// every figure is 0 and every lent buffer is as it was. Nothing is required of what is handed in.
+ghost use mathlib.Core.Path.{_≡_};
+ghost use mathlib.Core.List.{[], _∷_};
+ghost use Rattle.grammar.specs.Answers.{checkGrammar};
+ghost use Rattle.counting.specs.Answers.{countOf};
+ghost use Rattle.history.specs.Answers.{checkHistory, appendOf};
+ghost use Rattle.ranking.specs.Answers.{unrankOf, rankOf};
+ghost use Rattle.sampling.specs.Answers.{remainingOf, drawOf};
+ghost use Rattle.pumpfennel.specs.Calls.{gives};
+use counting::count;
+use counting::count::CountAnswer;
+use counting::prepare;
+use grammar::checks;
+use grammar::checks::GrammarAnswer;
+use history::append;
+use history::append::AppendAnswer;
+use history::checks::HistoryAnswer;
+use ranking::rank;
+use ranking::rank::RankAnswer;
+use ranking::unrank;
+use ranking::unrank::DerivationNumber;
+use ranking::unrank::UnrankAnswer;
+use sampling::draw;
+use sampling::draw::DrawAnswer;
+use sampling::prepare::refusal_number;
+use sampling::remaining;
+use sampling::remaining::RemainingAnswer;
+use sampling::skip::DrawNumber;
+
+// *Check bank*.
+#[no_mangle]
+pub extern "C" fn pumpfennel_check_grammar(
+    grammar: &[u8],
+    nonterminals: &mut u64,
+    words: &mut u64,
+) -> u8
+    ensures { λ r. ⌜ gives r (now (nonterminals .exit) ∷ now (words .exit) ∷ []) [] ≡ checkGrammar (now (grammar .entry)) ⌝ }
+{
+    let a = checks::check(grammar);
+    match a {
+        GrammarAnswer::Accepted {
+            nonterminals: n,
+            words: w,
+        } => {
+            *nonterminals = n as u64;
+            *words = w as u64;
+            0
+        }
+        GrammarAnswer::Refused(r) => {
+            *nonterminals = 0;
+            *words = 0;
+            checks::refusal_number(r)
+        }
+    }
+}
+
+// *Check diary*.
+#[no_mangle]
+pub extern "C" fn pumpfennel_check_history(history: &[u8], records: &mut u64) -> u8
+    ensures { λ r. ⌜ gives r (now (records .exit) ∷ []) [] ≡ checkHistory (now (history .entry)) ⌝ }
+{
+    let a = history::checks::check(history);
+    match a {
+        HistoryAnswer::Accepted(k) => {
+            *records = k;
+            0
+        }
+        HistoryAnswer::Refused(r) => {
+            *records = 0;
+            history::checks::refusal_number(r)
+        }
+    }
+}
+
+// *Count*.
+#[no_mangle]
+pub extern "C" fn pumpfennel_count(grammar: &[u8], length: u64, total: &mut u64) -> u8
+    ensures { λ r. ⌜ gives r (now (total .exit) ∷ []) [] ≡ countOf (now (grammar .entry)) length ⌝ }
+{
+    let a = count::count(grammar, length);
+    match a {
+        CountAnswer::Counted(t) => {
+            *total = t;
+            0
+        }
+        CountAnswer::Refused(r) => {
+            *total = 0;
+            prepare::refusal_number(r)
+        }
+    }
+}
+
+// *Give*.
+#[no_mangle]
+pub extern "C" fn pumpfennel_unrank(
+    grammar: &[u8],
+    length: u64,
+    number: u64,
+    sentence: &mut [u8],
+    total: &mut u64,
+) -> u8
+    ensures { λ r. ⌜ gives r (now (total .exit) ∷ []) (now (sentence .exit)) ≡ unrankOf (now (grammar .entry)) length number (now (sentence .entry)) ⌝ }
+{
+    let a = unrank::unrank(grammar, length, DerivationNumber(number), sentence);
+    match a {
+        UnrankAnswer::Given(t) => {
+            *total = t;
+            0
+        }
+        UnrankAnswer::NotGiven(r) => {
+            *total = 0;
+            prepare::refusal_number(r)
+        }
+        UnrankAnswer::Beyond => {
+            *total = 0;
+            16
+        }
+        UnrankAnswer::Short => {
+            *total = 0;
+            20
+        }
+    }
+}
+
+// *Number*.
+#[no_mangle]
+pub extern "C" fn pumpfennel_rank(
+    grammar: &[u8],
+    sentence: &[u8],
+    number: &mut u64,
+    total: &mut u64,
+) -> u8
+    ensures { λ r. ⌜ gives r (now (number .exit) ∷ now (total .exit) ∷ []) [] ≡ rankOf (now (grammar .entry)) (now (sentence .entry)) ⌝ }
+{
+    let a = rank::rank(grammar, sentence);
+    match a {
+        RankAnswer::Ranked(d, t) => {
+            *number = d.0;
+            *total = t;
+            0
+        }
+        RankAnswer::NotRanked(r) => {
+            *number = 0;
+            *total = 0;
+            prepare::refusal_number(r)
+        }
+        RankAnswer::Underivable => {
+            *number = 0;
+            *total = 0;
+            17
+        }
+        RankAnswer::Ambiguous => {
+            *number = 0;
+            *total = 0;
+            18
+        }
+    }
+}
+
+// *Left*.
+#[no_mangle]
+pub extern "C" fn pumpfennel_remaining(
+    grammar: &[u8],
+    history: &[u8],
+    length: u64,
+    total: &mut u64,
+    heard: &mut u64,
+    remaining: &mut u64,
+) -> u8
+    ensures { λ r. ⌜ gives r (now (total .exit) ∷ now (heard .exit) ∷ now (remaining .exit) ∷ []) [] ≡ remainingOf (now (grammar .entry)) (now (history .entry)) length ⌝ }
+{
+    let a = remaining::remaining(grammar, history, length);
+    match a {
+        RemainingAnswer::Remaining(t, k, l) => {
+            *total = t;
+            *heard = k;
+            *remaining = l;
+            0
+        }
+        RemainingAnswer::NotRemaining(r) => {
+            *total = 0;
+            *heard = 0;
+            *remaining = 0;
+            refusal_number(r)
+        }
+    }
+}
+
+// *Draw*.
+#[no_mangle]
+pub extern "C" fn pumpfennel_draw(
+    grammar: &[u8],
+    history: &[u8],
+    length: u64,
+    draw: u64,
+    sentence: &mut [u8],
+    remaining: &mut u64,
+    number: &mut u64,
+) -> u8
+    ensures { λ r. ⌜ gives r (now (remaining .exit) ∷ now (number .exit) ∷ []) (now (sentence .exit)) ≡ drawOf (now (grammar .entry)) (now (history .entry)) length draw (now (sentence .entry)) ⌝ }
+{
+    let a = draw::draw(grammar, history, length, DrawNumber(draw), sentence);
+    match a {
+        DrawAnswer::Drawn(l, d) => {
+            *remaining = l;
+            *number = d.0;
+            0
+        }
+        DrawAnswer::NotDrawn(r) => {
+            *remaining = 0;
+            *number = 0;
+            refusal_number(r)
+        }
+        DrawAnswer::Beyond => {
+            *remaining = 0;
+            *number = 0;
+            16
+        }
+        DrawAnswer::Short => {
+            *remaining = 0;
+            *number = 0;
+            20
+        }
+    }
+}
+
+// *Log*.
+#[no_mangle]
+pub extern "C" fn pumpfennel_append(history: &mut [u8], sentence: &[u8], records: &mut u64) -> u8
+    ensures { λ r. ⌜ gives r (now (records .exit) ∷ []) (now (history .exit)) ≡ appendOf (now (history .entry)) (now (sentence .entry)) ⌝ }
+{
+    let a = append::append(history, sentence);
+    match a {
+        AppendAnswer::Appended(k) => {
+            *records = k;
+            0
+        }
+        AppendAnswer::BadLength => {
+            *records = 0;
+            9
+        }
+        AppendAnswer::NotAppended(r) => {
+            *records = 0;
+            history::checks::refusal_number(r)
+        }
+        AppendAnswer::NoRoom => {
+            *records = 0;
+            19
+        }
+    }
+}

@@ -1,0 +1,229 @@
+-- How many derivations are struck. A heard sentence with one derivation has just one place in the full list, its number; where no heard
+-- sentence has two derivations, every struck place is such a number. So the numbers of the heard sentences that *Left* counts are the struck
+-- places, each once, and left is the length of the unheard list.
+-- Assumes nothing.
+use mathlib.Core.Path.{_≡_, refl, sym, ap, _∙_}
+use mathlib.Core.Bool.{Bool, true, false, cond, not, true≢false}
+use mathlib.Core.List.{List, [], _∷_, map, List·Memᴰ·head, List·Memᴰ·tail, Memᴰ·cast, Memᴰ·map, Memᴰ·of-map}
+use Prim.Native.Nat.{ℕ, _+_, _≤_, _<_}
+use native.Mathlib.Omega.{arith}
+use lib.ListN.{length, getD, length-map}
+use lib.Dec.{leb, eqb}
+use borrow.Author.Tests.{leb-false, eqb-true, eq-eqb, not-false}
+use Rattle.lists.specs.Joined.{_∈_}
+use Rattle.lists.specs.Ordered.{Pairwise, none, more, Distinct}
+use Rattle.lists.specs.Searched.{someOf, same}
+use Rattle.lists.specs.Struck.{keep, skip}
+use Rattle.lists.proofs.Members.{getD-∈}
+use Rattle.lists.proofs.Orders.{pairwise-distinct}
+use Rattle.lists.proofs.Tests.{some-∈, ∈-some, none-∈, same-eq, same-refl}
+use Rattle.lists.proofs.Searches.{many-at, distinct-length}
+use Rattle.lists.proofs.Strikes.{keep-length, keep-∈, ∈-keep, struck-rising, struck-fails, fails-struck, struck-unique, keep-numbered, kept-at}
+use Rattle.grammar.specs.Layout.{start}
+use Rattle.grammar.specs.Chains.{chain}
+use Rattle.grammar.specs.Trees.{Tree, leaf, sentence}
+use Rattle.counting.specs.Sentences as counting
+use Rattle.counting.proofs.Sentences.{sentence-length}
+use Rattle.ranking.specs.Answers.{fullList, totalOf, entryOf, derives, readingsOf, numberOf}
+use Rattle.ranking.proofs.Demand2.{listed-total, number-inside, number-says, number-only}
+use Rattle.history.specs.Refusals as history
+use Rattle.history.specs.Heard.{sentences, heard}
+use Rattle.history.proofs.Chain.{heard-sentences}
+use Rattle.sampling.specs.Unheard.{outside, unheard, barred, distinct, ofLength, heardOf, leftOf, ambiguous}
+use Rattle.sampling.specs.Answers.{drawn}
+
+-- ---- sentences, each once
+
+distinct-∈ : (l : List (List ℕ)) (s : List ℕ) → s ∈ distinct l → s ∈ l
+distinct-∈ (t ∷ l) s m = go (someOf (same t) l) (distinct-∈ l s) m
+  where
+    go : (b : Bool) → (s ∈ distinct l → s ∈ l) → s ∈ cond b (distinct l) (t ∷ distinct l) → s ∈ (t ∷ l)
+    go true ih n = List·Memᴰ·tail (ih n)
+    go false ih (List·Memᴰ·head e) = List·Memᴰ·head e
+    go false ih (List·Memᴰ·tail n) = List·Memᴰ·tail (ih n)
+
+∈-distinct : (l : List (List ℕ)) (s : List ℕ) → s ∈ l → s ∈ distinct l
+∈-distinct (t ∷ l) s (List·Memᴰ·head e) = go (someOf (same t) l) refl (∈-distinct l s)
+  where
+    go : (b : Bool) → someOf (same t) l ≡ b → (s ∈ l → s ∈ distinct l) → s ∈ cond b (distinct l) (t ∷ distinct l)
+    go true p ih = let q = ∈-some (same t) l p in ih (Memᴰ·cast (e ∙ same-eq t (q .0) (q .2)) (q .1))
+    go false p ih = List·Memᴰ·head e
+∈-distinct (t ∷ l) s (List·Memᴰ·tail m) = go (someOf (same t) l) (∈-distinct l s m)
+  where
+    go : (b : Bool) → s ∈ distinct l → s ∈ cond b (distinct l) (t ∷ distinct l)
+    go true n = n
+    go false n = List·Memᴰ·tail n
+
+distinct-once : (l : List (List ℕ)) → Distinct (distinct l)
+distinct-once [] = none
+distinct-once (t ∷ l) = go (someOf (same t) l) refl (distinct-once l)
+  where
+    go : (b : Bool) → someOf (same t) l ≡ b → Distinct (distinct l) → Distinct (cond b (distinct l) (t ∷ distinct l))
+    go true p s = s
+    go false p s =
+        more {x = t}
+        (λ u m e. let z : true ≡ false = sym (same-refl t) ∙ ap (same t) e ∙ none-∈ (same t) l p u (distinct-∈ l u m) in absurd (true≢false z))
+        s
+
+-- ---- the full list
+
+module _ (g : List ℕ) (n : ℕ) where
+  pub listed-length : (t : Tree) → t ∈ fullList g n → length (sentence t) ≡ n
+  unfolding counting.sentences
+  listed-length t m = sentence-length (chain g) (start g) n (sentence t) (Memᴰ·map sentence m)
+
+  pub entry-length : (d : ℕ) → d < length (fullList g n) → length (entryOf g n d) ≡ n
+  entry-length d h = listed-length (getD (fullList g n) d (leaf 0 0)) (getD-∈ (fullList g n) d (leaf 0 0) h)
+
+  -- a sentence with one derivation: its number is a place of the full list, the sentence stands there, and nowhere else
+  module _ (s : List ℕ) (e : length s ≡ n) (one : readingsOf g s ≡ 1) where
+    pub number-listed : numberOf g s < length (fullList g n)
+    number-listed = omega (arith, number-inside g s one, listed-total g (length s), ap (λ (m : ℕ). length (fullList g m)) e)
+
+    pub number-entry : entryOf g n (numberOf g s) ≡ s
+    number-entry = ap (λ (m : ℕ). entryOf g m (numberOf g s)) (sym e) ∙ number-says g s one
+
+    pub entry-only : (d : ℕ) → d < length (fullList g n) → entryOf g n d ≡ s → d ≡ numberOf g s
+    entry-only d h f = number-only g s one d (rw e (omega (arith, listed-total g n))) (rw e f)
+
+  -- a sentence that stands in the full list has a derivation
+  pub entry-read : (s : List ℕ) (d : ℕ) → length s ≡ n → d < length (fullList g n) → entryOf g n d ≡ s → 1 ≤ readingsOf g s
+  entry-read s d e h f =
+      many-at (derives s) (fullList g (length s)) d (leaf 0 0) (rw e h) (rw e (ap (λ (u : List ℕ). same u s) f ∙ same-refl s))
+
+  -- sentences with one derivation have different numbers
+  numbers-once : (l : List (List ℕ)) → ((s : List ℕ) → s ∈ l → (length s ≡ n) × (readingsOf g s ≡ 1)) → Distinct l → Distinct (map (numberOf g) l)
+  numbers-once [] h none = none
+  numbers-once (s ∷ l) h (more f d) =
+      more {x = numberOf g s}
+      (λ i m e.
+      let q = Memᴰ·of-map (numberOf g) l m in
+      let a = h s (List·Memᴰ·head refl) in
+      let b = h (q .0) (List·Memᴰ·tail (q .1)) in
+      f (q .0) (q .1)
+      (sym (number-entry s (a .0) (a .1)) ∙ ap (entryOf g n) (e ∙ sym (q .2)) ∙ number-entry (q .0) (b .0) (b .1)))
+      (numbers-once l (λ t m. h t (List·Memᴰ·tail m)) d)
+
+-- ---- the unheard list
+
+module _ (g h : List ℕ) (n : ℕ) where
+  -- the heard sentences of the length that have one derivation
+  abbrev oneReading : List (List ℕ)
+  oneReading = keep (λ s. eqb (readingsOf g s) 1) (ofLength n h)
+
+  pub unheard-length : length (unheard g h n) ≡ length (keep (outside h) (fullList g n))
+  unfolding unheard
+  unheard-length = keep-numbered (outside h) 0 (fullList g n)
+
+  pub unheard-all : length (unheard g h n) + length (barred g h n) ≡ totalOf g n
+  unheard-all = omega (arith, unheard-length, keep-length (outside h) (fullList g n), listed-total g n)
+
+  -- entry q is what the skip of q over the struck places finds
+  pub unheard-at : (q : ℕ) → q < length (unheard g h n) → drawn g h n q ≡ (skip q (barred g h n), getD (fullList g n) (skip q (barred g h n)) (leaf 0 0))
+  unfolding unheard
+  unheard-at q l = kept-at (outside h) (fullList g n) q (leaf 0 0) (omega (arith, unheard-length))
+
+-- with an accepted history
+module _ (g h : List ℕ) (n : ℕ) (diary : history.Accepted h) where
+  -- ---- the sentences heard
+
+  pub heard-∈ : (s : List ℕ) → heard h s ≡ true → s ∈ sentences h
+  heard-∈ s e =
+      let q = ∈-some (λ t. same t s) (sentences h) (sym (heard-sentences h diary s) ∙ e) in
+      Memᴰ·cast (sym (same-eq (q .0) s (q .2))) (q .1)
+
+  pub ∈-heard : (s : List ℕ) → s ∈ sentences h → heard h s ≡ true
+  ∈-heard s m = heard-sentences h diary s ∙ some-∈ (λ t. same t s) s (sentences h) m (same-refl s)
+
+  pub length-∈ : (s : List ℕ) → s ∈ ofLength n h → (heard h s ≡ true) × (length s ≡ n)
+  length-∈ s m =
+      let q = keep-∈ (λ s. eqb (length s) n) (sentences h) s m in
+      (∈-heard s (q .0), eqb-true (length s) n (q .1))
+
+  pub ∈-length : (s : List ℕ) → heard h s ≡ true → length s ≡ n → s ∈ ofLength n h
+  ∈-length s e l = ∈-keep (λ s. eqb (length s) n) (sentences h) s (heard-∈ s e) (eq-eqb (length s) n l)
+
+  -- ---- the struck places are the numbers of the heard sentences that have one derivation
+
+  -- the number of such a sentence is struck
+  number-fails : (s : List ℕ) → s ∈ ofLength n h → readingsOf g s ≡ 1
+      → (numberOf g s < length (fullList g n)) × (outside h (getD (fullList g n) (numberOf g s) (leaf 0 0)) ≡ false)
+  number-fails s m one =
+      let q = length-∈ s m in
+      (number-listed g n s (q .1) one, ap (λ (u : List ℕ). not (heard h u)) (number-entry g n s (q .1) one) ∙ ap not (q .0))
+
+  module _ (clear : ambiguous g h n ≡ false) where
+    pub few-readings : (s : List ℕ) → s ∈ ofLength n h → readingsOf g s < 2
+    unfolding ambiguous
+    few-readings s m = leb-false 2 (readingsOf g s) (none-∈ (λ s. leb 2 (readingsOf g s)) (ofLength n h) clear s m)
+
+    -- a struck place is the number of such a sentence
+    fails-number : (d : ℕ) → d < length (fullList g n) → outside h (getD (fullList g n) d (leaf 0 0)) ≡ false
+        → (s : List ℕ) × (s ∈ ofLength n h) × (readingsOf g s ≡ 1) × (numberOf g s ≡ d)
+    fails-number d l e =
+        let long = entry-length g n d l in
+        let m = ∈-length (entryOf g n d) (not-false (heard h (entryOf g n d)) e) long in
+        let one : readingsOf g (entryOf g n d) ≡ 1 = omega (arith, few-readings (entryOf g n d) m, entry-read g n (entryOf g n d) d long l refl) in
+        (entryOf g n d, m, one, sym (entry-only g n (entryOf g n d) long one d l refl))
+
+    -- a rising list of just these numbers is that of the struck places
+    pub collected : (l : List ℕ) → Pairwise _<_ l
+        → ((d : ℕ) → d ∈ l → (s : List ℕ) × (s ∈ ofLength n h) × (readingsOf g s ≡ 1) × (numberOf g s ≡ d))
+        → ((s : List ℕ) → s ∈ ofLength n h → readingsOf g s ≡ 1 → numberOf g s ∈ l)
+        → l ≡ barred g h n
+    collected l rising from into =
+        struck-unique (outside h) (fullList g n) (leaf 0 0) l rising
+        (λ d. (
+          λ m. let q = from d m in rw (← q .3) (number-fails (q .0) (q .1) (q .2)),
+          λ p. let q = fails-number d (p .0) (p .1) in Memᴰ·cast (sym (q .3)) (into (q .0) (q .1) (q .2)),
+        ))
+
+    -- ---- what *Left* counts
+
+    -- a sentence counted is one of these
+    counted-∈ : (s : List ℕ) → s ∈ distinct (oneReading g h n) → (s ∈ ofLength n h) × (readingsOf g s ≡ 1)
+    counted-∈ s m =
+        let q = keep-∈ (λ s. eqb (readingsOf g s) 1) (ofLength n h) s (distinct-∈ (oneReading g h n) s m) in
+        (q .0, eqb-true (readingsOf g s) 1 (q .1))
+
+    ∈-counted : (s : List ℕ) → s ∈ ofLength n h → readingsOf g s ≡ 1 → s ∈ distinct (oneReading g h n)
+    ∈-counted s m one =
+        ∈-distinct (oneReading g h n) s (∈-keep (λ s. eqb (readingsOf g s) 1) (ofLength n h) s m (eq-eqb (readingsOf g s) 1 one))
+
+    -- their numbers are the struck places
+    counted-struck : (d : ℕ) → d ∈ map (numberOf g) (distinct (oneReading g h n)) → d ∈ barred g h n
+    counted-struck d m =
+        let p = Memᴰ·of-map (numberOf g) (distinct (oneReading g h n)) m in
+        let q = counted-∈ (p .0) (p .1) in
+        let r = number-fails (p .0) (q .0) (q .1) in
+        Memᴰ·cast (sym (p .2)) (fails-struck (outside h) (fullList g n) (numberOf g (p .0)) (leaf 0 0) (r .0) (r .1))
+
+    struck-counted : (d : ℕ) → d ∈ barred g h n → d ∈ map (numberOf g) (distinct (oneReading g h n))
+    struck-counted d m =
+        let p = struck-fails (outside h) (fullList g n) d (leaf 0 0) m in
+        let q = fails-number d (p .0) (p .1) in
+        Memᴰ·cast (sym (q .3)) (Memᴰ·map (numberOf g) (∈-counted (q .0) (q .1) (q .2)))
+
+    pub heard-length : heardOf g h n ≡ length (barred g h n)
+    unfolding heardOf
+    heard-length =
+        sym (length-map (distinct (oneReading g h n)) (numberOf g))
+        ∙ distinct-length (length (fullList g n)) (map (numberOf g) (distinct (oneReading g h n))) (barred g h n)
+        (numbers-once g n (distinct (oneReading g h n))
+        (λ s m. let q = counted-∈ s m in (length-∈ s (q .0) .1, q .1)) (distinct-once (oneReading g h n)))
+        (pairwise-distinct _<_ (λ x y l e. omega arith) (barred g h n) (struck-rising (outside h) (fullList g n)))
+        (λ d m. struck-fails (outside h) (fullList g n) d (leaf 0 0) m .0)
+        counted-struck
+        struck-counted
+
+    -- left is the length of the unheard list
+    pub left-length : leftOf g h n ≡ length (unheard g h n)
+    left-length = omega (arith, heard-length, unheard-all g h n)
+
+    -- so "left = T - heard" is no cut-off difference
+    pub heard-left : heardOf g h n + leftOf g h n ≡ totalOf g n
+    heard-left = omega (arith, heard-length, unheard-all g h n)
+
+    pub left-at : (q : ℕ) → q < leftOf g h n
+        → drawn g h n q ≡ (skip q (barred g h n), getD (fullList g n) (skip q (barred g h n)) (leaf 0 0))
+    left-at q l = unheard-at g h n q (omega (arith, left-length))

@@ -1,0 +1,262 @@
+-- The examples P1 to P10. Lists and small counts are computed. T of the grammar F is not: its pair rules have the words' nonterminal on the
+-- right, so only the left length one below adds, and T doubles with the length. So all its counts up to length 16 are at most 65,536.
+-- Assumes nothing.
+use mathlib.Core.Path.{_≡_, refl, ap, _∙_}
+use mathlib.Core.Bool.{true, false}
+use mathlib.Core.List.{List, [], _∷_, _++_, map}
+use Prim.Native.Nat.{ℕ, zero, suc, _+_, _-_, _*_, _≤_, _<_}
+use native.Mathlib.Omega.{arith}
+use native.Mathlib.Decide.{ℕ-discrete}
+use lib.ListN.{length, getD, drop}
+use lib.Dec.{ltb, leb}
+use borrow.Author.Tests.{le-ltb, lt-leb, le-leb}
+use Rattle.lists.specs.Joined.{upFrom}
+use Rattle.lists.specs.Linked.{metFrom}
+use Rattle.lists.specs.Searched.{someBelow}
+use Rattle.answers.specs.Answer.{firstThatApplies}
+use Rattle.answers.specs.Length.{badLength}
+use Rattle.answers.proofs.Refusals.{row-applies, row-passed, rows-pass, answer-accepted, answer-refused}
+use Rattle.grammar.specs.Chains.{Rule, rest, chain}
+use Rattle.grammar.specs.Refusals.{tooShort, outOfRange, wrongSize, fits, badRule, badLink, metTwice, onNoChain, twins, repeated, Accepted}
+use Rattle.grammar.specs.Trees.{leaf, node, sentence}
+use Rattle.grammar.specs.FullList.{treesTo, trees}
+use Rattle.counting.specs.Totals.{splitSum, totalTo, total, T}
+use Rattle.counting.specs.Tables.{most}
+use Rattle.counting.specs.Prepared.{preparedRows}
+use Rattle.counting.specs.Answers.{countOf}
+use Rattle.counting.proofs.Totals.{split-step, split-end, split-skip, T-one, T-more}
+use Rattle.counting.proofs.OneLength.{OneLength, words-alone}
+use Rattle.ranking.specs.Answers.{entryOf, unrankRows, unrankOf, numberOf, rankRows, rankOf}
+use Rattle.ranking.specs.Demand2.{told, written}
+use Rattle.history.specs.Layout.{twoAt, wordsOf}
+use Rattle.history.specs.Chain.{numbersFrom}
+use Rattle.history.specs.Heard.{heard}
+use Rattle.history.specs.Refusals as history
+use Rattle.sampling.specs.Unheard.{unheard, heardOf, leftOf, ambiguous}
+use Rattle.sampling.specs.Answers.{remainingRows, remainingOf, drawn, drawRows, drawOf}
+use Rattle.sampling.specs.Demand3.{Premises, refused}
+use Rattle.sampling.specs.Examples.{F, G, heard01, Examples}
+use Rattle.sampling.proofs.Premises.{prepared-pass, heard-single, premises-pass}
+
+-- ---- where all derivations of the right half have one word
+
+module _ (rules : ℕ → List Rule) (B C y : ℕ) (one : OneLength rules C 1 y) where
+  -- only the left length one below adds
+  one-right : (m : ℕ) → 2 ≤ m → splitSum (λ q. T rules) B C 0 1 (m - 1) ≡ T rules B (m - 1) * y
+  one-right m h =
+      let z : m - 2 + 1 ≡ m - 1 = omega arith in
+      let r : m - (m - 1) ≡ 1 = omega arith in
+      let skip : splitSum (λ q. T rules) B C 0 1 (m - 1) ≡ splitSum (λ q. T rules) B C 0 (m - 1) (m - (m - 1))
+      = rw z at (split-skip (λ q. T rules) B C 0 m (m - 2) (omega arith) (λ i l u. one .elsewhere (m - i) (λ e. omega arith))) in
+      let step = split-step (λ q. T rules) B C 0 (m - 1) m (omega arith) in
+      let product : T rules B (m - 1) * T rules C (m - (m - 1)) ≡ T rules B (m - 1) * y = rw (r, one .here) in
+      omega (arith, skip, step, product, split-end (λ q. T rules) B C 0 (m - 1 + 1) m (omega arith))
+
+-- ---- the grammar F
+
+words-two : OneLength (chain F) 1 1 2
+unfolding metFrom rest
+words-two = words-alone (chain F) 1 refl
+
+-- T of S: four at length 2, and then twice as many at each length
+abbrev doubled : ℕ → ℕ
+doubled zero = 4
+doubled (suc m) = doubled m * 2
+
+T-next : (m : ℕ) → T (chain F) 0 (suc (suc m)) ≡ T (chain F) 1 (suc m) * 2 + T (chain F) 0 (suc m) * 2
+unfolding metFrom rest
+T-next m =
+    let e : suc (suc m) - 1 ≡ suc m = omega arith in
+    let a = rw e at (one-right (chain F) 1 1 2 words-two (suc (suc m)) (omega arith)) in
+    let b = rw e at (one-right (chain F) 0 1 2 words-two (suc (suc m)) (omega arith)) in
+    let c = rw e at (T-more (chain F) 0 (suc (suc m)) (omega arith)) in
+    omega (arith, a, b, c)
+
+T-first : T (chain F) 0 1 ≡ 0
+unfolding metFrom rest
+T-first = T-one (chain F) 0
+
+pub T-doubled : (m : ℕ) → T (chain F) 0 (suc (suc m)) ≡ doubled m
+T-doubled zero = omega (arith, T-next 0, words-two .here, T-first)
+T-doubled (suc m) = omega (arith, T-next (suc m), words-two .elsewhere (suc (suc m)) (λ e. omega arith), T-doubled m)
+
+doubled-le : (m k : ℕ) → doubled m ≤ doubled (k + m)
+doubled-le m zero = let e : 0 + m ≡ m = omega arith in rw e (omega arith)
+doubled-le m (suc k) = let e : suc k + m ≡ suc (k + m) = omega arith in rw e (omega (arith, doubled-le m k))
+
+F-accepted : Accepted F
+unfolding firstThatApplies tooShort outOfRange wrongSize fits badRule badLink metTwice onNoChain twins repeated metFrom someBelow
+F-accepted = refl
+
+F-counts : (A m : ℕ) → A < 2 → 1 ≤ m → m ≤ 16 → T (chain F) A m ≤ most
+F-counts zero zero a l u = absurd (omega arith)
+F-counts zero (suc zero) a l u = omega (arith, T-first)
+F-counts zero (suc (suc m)) a l u =
+    let e : 14 - m + m ≡ 14 = omega arith in
+    omega (arith, T-doubled m, rw e at (doubled-le m (14 - m)))
+F-counts (suc zero) m a l u =
+    elim (ℕ-discrete m 1) [
+      | yes e ↦ rw e (omega (arith, words-two .here))
+      | no ne ↦ omega (arith, words-two .elsewhere m ne)
+    ]
+F-counts (suc (suc A)) m a l u = absurd (omega arith)
+
+F-prepared : (n : ℕ) → 1 ≤ n → n ≤ 16 → firstThatApplies (preparedRows F n) ≡ 0
+F-prepared n l u = prepared-pass F n F-accepted l u (λ A m a b c. F-counts A m a b (omega arith))
+
+F-count : (n t : ℕ) → 1 ≤ n → n ≤ 16 → T (chain F) 0 n ≡ t → countOf F n ≡ told (t ∷ [])
+unfolding countOf
+F-count n t l u e = answer-accepted (T (chain F) 0 n ∷ []) [] [] (F-prepared n l u) ∙ rw e
+
+-- ---- *Give* and *Number*
+
+F-eight : T (chain F) 0 3 ≡ 8
+F-eight = T-doubled 1
+
+entry-five : entryOf F 3 5 ≡ 1 ∷ 0 ∷ 1 ∷ []
+unfolding trees treesTo metFrom rest
+entry-five = refl
+
+gives-five : (out : List ℕ) → 3 ≤ length out → unrankOf F 3 5 out ≡ written (8 ∷ []) (1 ∷ 0 ∷ 1 ∷ drop 3 out)
+unfolding unrankOf firstThatApplies
+gives-five out l =
+    answer-accepted (T (chain F) 0 3 ∷ []) out (entryOf F 3 5 ++ drop 3 out)
+    (rows-pass (preparedRows F 3) ((leb (T (chain F) 0 3) 5, 16) ∷ (ltb (length out) 3, 20) ∷ []) refl (F-prepared 3 (omega arith) (omega arith))
+    ∙ row-passed 16 ((ltb (length out) 3, 20) ∷ []) (lt-leb (T (chain F) 0 3) 5 (omega (arith, F-eight)))
+    ∙ row-passed 20 [] (le-ltb (length out) 3 l))
+    ∙ rw (F-eight, entry-five)
+
+gives-no-eight : (out : List ℕ) → unrankOf F 3 8 out ≡ record { refusal = 16; figures = 0 ∷ []; buffer = out }
+unfolding unrankOf
+gives-no-eight out =
+    let e : firstThatApplies (unrankRows F 3 8 out) ≡ 16
+    = rows-pass (preparedRows F 3) ((leb (T (chain F) 0 3) 8, 16) ∷ (ltb (length out) 3, 20) ∷ []) refl (F-prepared 3 (omega arith) (omega arith))
+    ∙ row-applies 16 ((ltb (length out) 3, 20) ∷ []) (le-leb (T (chain F) 0 3) 8 (omega (arith, F-eight))) in
+    rw e (answer-refused 16 (T (chain F) 0 3 ∷ []) out (entryOf F 3 8 ++ drop 3 out) (omega arith))
+
+ranks-101 : rankOf F (1 ∷ 0 ∷ 1 ∷ []) ≡ told (5 ∷ 8 ∷ [])
+unfolding rankOf firstThatApplies trees treesTo metFrom rest
+ranks-101 =
+    answer-accepted (5 ∷ T (chain F) 0 3 ∷ []) [] []
+    (rows-pass (preparedRows F 3) ((false, 17) ∷ (false, 18) ∷ []) refl (F-prepared 3 (omega arith) (omega arith)))
+    ∙ rw F-eight
+
+-- ---- *Left* and *Draw*
+
+heard01-accepted : history.Accepted heard01
+unfolding firstThatApplies history.badSize history.misfit history.badRecord history.badLink history.badChain badLength someBelow twoAt numbersFrom metFrom
+heard01-accepted = refl
+
+heard01-clear : ambiguous F heard01 2 ≡ false
+unfolding ambiguous twoAt wordsOf numbersFrom trees treesTo metFrom rest
+heard01-clear = refl
+
+-- the premises of demand 3 hold of F, this history and length 2
+pub example-premises : Premises F heard01 2
+example-premises =
+    record {
+      bank = F-accepted;
+      some = omega arith;
+      short = omega arith;
+      counts = λ A m a l u. F-counts A m a l (omega arith);
+      diary = heard01-accepted;
+      single = heard-single F heard01 2 heard01-accepted .0 heard01-clear;
+    }
+
+heard-one : heardOf F heard01 2 ≡ 1
+unfolding heardOf twoAt wordsOf numbersFrom trees treesTo metFrom rest
+heard-one = refl
+
+left-three : leftOf F heard01 2 ≡ 3
+left-three = omega (arith, heard-one, T-doubled 0)
+
+unheard-three : unheard F heard01 2 ≡ (0, node 0 (leaf 0 0) (leaf 0 0)) ∷ (2, node 0 (leaf 1 1) (leaf 0 0)) ∷ (3, node 0 (leaf 1 1) (leaf 1 1)) ∷ []
+unfolding unheard heard someBelow twoAt wordsOf trees treesTo metFrom rest
+unheard-three = refl
+
+passes : firstThatApplies (remainingRows F heard01 2) ≡ 0
+passes = premises-pass F heard01 2 example-premises
+
+left-of-two : remainingOf F heard01 2 ≡ told (4 ∷ 1 ∷ 3 ∷ [])
+unfolding remainingOf
+left-of-two =
+    answer-accepted (T (chain F) 0 2 ∷ heardOf F heard01 2 ∷ leftOf F heard01 2 ∷ []) [] [] passes
+    ∙ ap (λ (x : ℕ). told (x ∷ heardOf F heard01 2 ∷ leftOf F heard01 2 ∷ [])) (T-doubled 0)
+    ∙ ap (λ (x : ℕ). told (4 ∷ x ∷ leftOf F heard01 2 ∷ [])) heard-one
+    ∙ ap (λ (x : ℕ). told (4 ∷ 1 ∷ x ∷ [])) left-three
+
+draw-below : (q : ℕ) (out : List ℕ) → q < 3 → 2 ≤ length out
+    → drawOf F heard01 2 q out ≡ written (3 ∷ drawn F heard01 2 q .0 ∷ []) (sentence (drawn F heard01 2 q .1) ++ drop 2 out)
+unfolding drawOf firstThatApplies
+draw-below q out h l =
+    answer-accepted (leftOf F heard01 2 ∷ drawn F heard01 2 q .0 ∷ []) out (sentence (drawn F heard01 2 q .1) ++ drop 2 out)
+    (rows-pass (remainingRows F heard01 2) ((leb (leftOf F heard01 2) q, 16) ∷ (ltb (length out) 2, 20) ∷ []) refl passes
+    ∙ row-passed 16 ((ltb (length out) 2, 20) ∷ []) (lt-leb (leftOf F heard01 2) q (omega (arith, left-three)))
+    ∙ row-passed 20 [] (le-ltb (length out) 2 l))
+    ∙ ap (λ (x : ℕ). written (x ∷ drawn F heard01 2 q .0 ∷ []) (sentence (drawn F heard01 2 q .1) ++ drop 2 out)) left-three
+
+draws-three : (out : List ℕ) → 2 ≤ length out
+    → map (λ q. drawOf F heard01 2 q out) (upFrom 0 3)
+    ≡ written (3 ∷ 0 ∷ []) (0 ∷ 0 ∷ drop 2 out) ∷ written (3 ∷ 2 ∷ []) (1 ∷ 0 ∷ drop 2 out) ∷ written (3 ∷ 3 ∷ []) (1 ∷ 1 ∷ drop 2 out) ∷ []
+draws-three out l =
+    rw (draw-below 0 out (omega arith) l, draw-below 1 out (omega arith) l, draw-below 2 out (omega arith) l, unheard-three)
+
+draw-beyond : (out : List ℕ) → drawOf F heard01 2 3 out ≡ refused 16 out
+unfolding drawOf
+draw-beyond out =
+    let e : firstThatApplies (drawRows F heard01 2 3 out) ≡ 16
+    = rows-pass (remainingRows F heard01 2) ((leb (leftOf F heard01 2) 3, 16) ∷ (ltb (length out) 2, 20) ∷ []) refl passes
+    ∙ row-applies 16 ((ltb (length out) 2, 20) ∷ []) (le-leb (leftOf F heard01 2) 3 (omega (arith, left-three))) in
+    rw e (answer-refused 16 (leftOf F heard01 2 ∷ drawn F heard01 2 3 .0 ∷ []) out (sentence (drawn F heard01 2 3 .1) ++ drop 2 out) (omega arith))
+
+-- ---- the grammar G
+
+G-accepted : Accepted G
+unfolding firstThatApplies tooShort outOfRange wrongSize fits badRule badLink metTwice onNoChain twins repeated metFrom someBelow
+G-accepted = refl
+
+G-totals : map (T (chain G) 0) (upFrom 1 4) ≡ 1 ∷ 1 ∷ 2 ∷ 5 ∷ []
+unfolding total totalTo metFrom rest
+G-totals = refl
+
+G-counts : (A m : ℕ) → A < 1 → 1 ≤ m → m ≤ 4 → T (chain G) A m ≤ most
+G-counts zero zero a l u = absurd (omega arith)
+G-counts zero (suc zero) a l u = omega (arith, ap (λ (x : List ℕ). getD x 0 0) G-totals)
+G-counts zero (suc (suc zero)) a l u = omega (arith, ap (λ (x : List ℕ). getD x 1 0) G-totals)
+G-counts zero (suc (suc (suc zero))) a l u = omega (arith, ap (λ (x : List ℕ). getD x 2 0) G-totals)
+G-counts zero (suc (suc (suc (suc zero)))) a l u = omega (arith, ap (λ (x : List ℕ). getD x 3 0) G-totals)
+G-counts zero (suc (suc (suc (suc (suc m))))) a l u = absurd (omega arith)
+G-counts (suc A) m a l u = absurd (omega arith)
+
+G-prepared : (n : ℕ) → 1 ≤ n → n ≤ 4 → firstThatApplies (preparedRows G n) ≡ 0
+G-prepared n l u = prepared-pass G n G-accepted l (omega arith) (λ A m a b c. G-counts A m a b (omega arith))
+
+G-count : (n t : ℕ) → 1 ≤ n → n ≤ 4 → T (chain G) 0 n ≡ t → countOf G n ≡ told (t ∷ [])
+unfolding countOf
+G-count n t l u e = answer-accepted (T (chain G) 0 n ∷ []) [] [] (G-prepared n l u) ∙ rw e
+
+two-readings : rankOf G (0 ∷ 0 ∷ 0 ∷ []) ≡ record { refusal = 18; figures = 0 ∷ 0 ∷ []; buffer = [] }
+unfolding rankOf firstThatApplies trees treesTo metFrom rest
+two-readings =
+    let e : firstThatApplies (rankRows G (0 ∷ 0 ∷ 0 ∷ [])) ≡ 18
+    = rows-pass (preparedRows G 3) ((false, 17) ∷ (true, 18) ∷ []) refl (G-prepared 3 (omega arith) (omega arith)) in
+    rw e (answer-refused 18 (numberOf G (0 ∷ 0 ∷ 0 ∷ []) ∷ T (chain G) 0 3 ∷ []) [] [] (omega arith))
+
+-- ---- all of them
+
+pub examples : Examples
+examples =
+    record {
+      p1 = F-count 1 0 (omega arith) (omega arith) T-first;
+      p2 = F-count 2 4 (omega arith) (omega arith) (T-doubled 0);
+      p3 = F-count 16 65536 (omega arith) (omega arith) (T-doubled 14);
+      p4 = gives-five;
+      p5 = gives-no-eight;
+      p6 = ranks-101;
+      p7 = left-of-two;
+      p7-draws = draws-three;
+      p8 = draw-beyond;
+      p9 = G-count 3 2 (omega arith) (omega arith) (ap (λ (x : List ℕ). getD x 2 0) G-totals);
+      p9-four = G-count 4 5 (omega arith) (omega arith) (ap (λ (x : List ℕ). getD x 3 0) G-totals);
+      p10 = two-readings;
+    }

@@ -1,0 +1,8 @@
+-- The laws of *Left* and *Draw*, and demand 3.
+pub mod Barred
+pub mod Skipping
+pub mod Hearing
+pub mod Answering
+pub mod Premises
+pub mod Demand3
+pub mod Examples

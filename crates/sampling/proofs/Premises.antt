@@ -1,0 +1,131 @@
+-- What demand 3 asks of a grammar, a history and a length is just what *Left* needs to accept them: line by line, a refusal that doesn't
+-- apply says one of the premises, and the other way round. Line 15 doesn't apply exactly if no heard sentence of the length has two
+-- derivations, as the derivations of a sentence can be listed, each once.
+-- Assumes nothing.
+use mathlib.Core.Path.{_≡_, refl, sym, _∙_}
+use mathlib.Core.Logic.{_↔_}
+use mathlib.Core.Bool.{true, false}
+use mathlib.Core.List.{List, [], _∷_, _++_}
+use Prim.Native.Nat.{ℕ, zero, suc, _≤_, _<_}
+use native.Mathlib.Omega.{arith}
+use lib.ListN.{length}
+use lib.Dec.{ltb, leb}
+use borrow.Author.Tests.{ltb-false, le-ltb, lt-leb}
+use Rattle.lists.specs.Searched.{someBelow}
+use Rattle.lists.proofs.Orders.{few-same, same-few}
+use Rattle.lists.proofs.Tests.{within-facts, within-both, some-clear, below-at, below-clear, to-clear}
+use Rattle.answers.specs.Answer.{firstThatApplies}
+use Rattle.answers.specs.Length.{badLength}
+use Rattle.answers.proofs.Refusals.{row-passed, row-clear, rows-pass, rows-clear, answer-number}
+use Rattle.grammar.specs.Layout.{nonterminals}
+use Rattle.grammar.specs.Chains.{chain}
+use Rattle.grammar.specs.Refusals.{grammarRows, Accepted}
+use Rattle.counting.specs.Totals.{T}
+use Rattle.counting.specs.Tables.{most, tooLarge}
+use Rattle.counting.specs.Prepared.{preparedRows}
+use Rattle.ranking.specs.Answers.{totalOf, readingsOf}
+use Rattle.ranking.proofs.Demand2.{exactly-readings}
+use Rattle.history.specs.Refusals as history
+use Rattle.history.specs.Heard.{heard}
+use Rattle.sampling.specs.Unheard.{ofLength, heardOf, leftOf, ambiguous}
+use Rattle.sampling.specs.Answers.{remainingRows, remainingOf}
+use Rattle.sampling.specs.Demand3.{Single, Premises}
+use Rattle.sampling.proofs.Barred.{length-∈, ∈-length, few-readings}
+
+-- ---- 9
+
+pub length-within : (n : ℕ) → (badLength n ≡ false) ↔ ((1 ≤ n) × (n ≤ 16))
+unfolding badLength
+length-within n = (within-facts 1 16 n, λ q. within-both 1 16 n (q .0) (q .1))
+
+-- ---- 10
+
+module _ (g : List ℕ) (n : ℕ) where
+  fits-counts : tooLarge g n ≡ false → (A m : ℕ) → A < nonterminals g → 1 ≤ m → m ≤ n → T (chain g) A m ≤ most
+  unfolding tooLarge
+  fits-counts e A zero h l u = absurd (omega arith)
+  fits-counts e A (suc m) h l u =
+      ltb-false most (T (chain g) A (suc m))
+      (below-at (λ B. ltb most (T (chain g) B (suc m))) (nonterminals g) A
+      (below-at (λ i. someBelow (λ B. ltb most (T (chain g) B (suc i))) (nonterminals g)) n m e u) h)
+
+  counts-fit : ((A m : ℕ) → A < nonterminals g → 1 ≤ m → m ≤ n → T (chain g) A m ≤ most) → tooLarge g n ≡ false
+  unfolding tooLarge
+  counts-fit c =
+      to-clear (λ m. someBelow (λ A. ltb most (T (chain g) A m)) (nonterminals g)) n
+      (λ m l u. below-clear (λ A. ltb most (T (chain g) A m)) (nonterminals g) (λ A h. le-ltb most (T (chain g) A m) (c A m h l u)))
+
+  pub counts-small : (tooLarge g n ≡ false) ↔ ((A m : ℕ) → A < nonterminals g → 1 ≤ m → m ≤ n → T (chain g) A m ≤ most)
+  counts-small = (fits-counts, counts-fit)
+
+-- ---- none of 1 to 10 applies
+
+pub prepared-pass : (g : List ℕ) (n : ℕ) → Accepted g → 1 ≤ n → n ≤ 16
+    → ((A m : ℕ) → A < nonterminals g → 1 ≤ m → m ≤ n → T (chain g) A m ≤ most) → firstThatApplies (preparedRows g n) ≡ 0
+unfolding firstThatApplies
+prepared-pass g n ok l u c =
+    rows-pass (grammarRows g) ((badLength n, 9) ∷ (tooLarge g n, 10) ∷ []) refl ok
+    ∙ row-passed 9 ((tooLarge g n, 10) ∷ []) (length-within n .1 (l, u))
+    ∙ row-passed 10 [] (counts-small g n .1 c)
+
+-- ---- 15
+
+-- two derivations of one sentence are one, where fewer than two are counted
+pub single-readings : (g s : List ℕ) → Single g s ↔ (readingsOf g s < 2)
+single-readings g s =
+    let e = exactly-readings g s in (
+      λ single. rw (e .many) at (same-few (e .listed) (e .once)
+          (λ t u m k. let p = e .all t .1 m in let q = e .all u .1 k in single t u (p .0) (q .0) (p .1) (q .1))),
+      λ few t u dt du st su. few-same (e .listed) (rw (e .many) few) t u (e .all t .0 (dt, st)) (e .all u .0 (du, su)),
+    )
+
+-- with an accepted history
+module _ (g h : List ℕ) (n : ℕ) (diary : history.Accepted h) where
+  clear-single : ambiguous g h n ≡ false → (s : List ℕ) → length s ≡ n → heard h s ≡ true → Single g s
+  clear-single e s l k = single-readings g s .1 (few-readings g h n diary e s (∈-length g h n diary s k l))
+
+  single-clear : ((s : List ℕ) → length s ≡ n → heard h s ≡ true → Single g s) → ambiguous g h n ≡ false
+  unfolding ambiguous
+  single-clear f =
+      some-clear (λ s. leb 2 (readingsOf g s)) (ofLength n h)
+      (λ s m. let q = length-∈ g h n diary s m in lt-leb 2 (readingsOf g s) (single-readings g s .0 (f s (q .1) (q .0))))
+
+  pub heard-single : (ambiguous g h n ≡ false) ↔ ((s : List ℕ) → length s ≡ n → heard h s ≡ true → Single g s)
+  heard-single = (clear-single, single-clear)
+
+-- ---- all lines
+
+module _ (g h : List ℕ) (n : ℕ) where
+  pub remaining-refusal : remainingOf g h n .refusal ≡ firstThatApplies (remainingRows g h n)
+  unfolding remainingOf
+  remaining-refusal = answer-number (firstThatApplies (remainingRows g h n)) (totalOf g n ∷ heardOf g h n ∷ leftOf g h n ∷ []) [] []
+
+  pub premises-pass : Premises g h n → firstThatApplies (remainingRows g h n) ≡ 0
+  unfolding firstThatApplies
+  premises-pass p =
+      rows-pass (preparedRows g n) (history.historyRows h ++ ((ambiguous g h n, 15) ∷ [])) refl
+      (prepared-pass g n (p .bank) (p .some) (p .short) (p .counts))
+      ∙ rows-pass (history.historyRows h) ((ambiguous g h n, 15) ∷ []) refl (p .diary)
+      ∙ row-passed 15 [] (heard-single g h n (p .diary) .1 (p .single))
+
+  pass-premises : firstThatApplies (remainingRows g h n) ≡ 0 → Premises g h n
+  pass-premises e =
+      let a = rows-clear (preparedRows g n) (history.historyRows h ++ ((ambiguous g h n, 15) ∷ [])) refl e in
+      let b = rows-clear (grammarRows g) ((badLength n, 9) ∷ (tooLarge g n, 10) ∷ []) refl (a .0) in
+      let c = rows-clear (history.historyRows h) ((ambiguous g h n, 15) ∷ []) refl (a .1) in
+      let d = row-clear 9 ((tooLarge g n, 10) ∷ []) (badLength n) (omega arith) (b .1) in
+      let f = row-clear 10 [] (tooLarge g n) (omega arith) (d .1) in
+      let k = row-clear 15 [] (ambiguous g h n) (omega arith) (c .1) in
+      let l = length-within n .0 (d .0) in
+      record {
+        bank = b .0;
+        some = l .0;
+        short = l .1;
+        counts = counts-small g n .0 (f .0);
+        diary = c .0;
+        single = heard-single g h n (c .0) .0 (k .0);
+      }
+
+  -- the premises of demand 3 hold exactly where *Left* isn't refused
+  pub premises : Premises g h n ↔ (remainingOf g h n .refusal ≡ 0)
+  premises = (λ p. remaining-refusal ∙ premises-pass p, λ e. pass-premises (sym remaining-refusal ∙ e))

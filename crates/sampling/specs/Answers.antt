@@ -1,0 +1,61 @@
+-- What *Left* and *Draw* answer (document 01, section 'Operations'), and the paper's number and figures of each case of the answers.
+-- Assumes nothing: these are definitions.
+use mathlib.Core.List.{List, [], _∷_, _++_}
+use Prim.Native.Nat.{ℕ}
+use lib.ListN.{length, getD, drop}
+use lib.Dec.{ltb, leb}
+use Rattle.answers.specs.Answer.{Row, Answer, answer}
+use Rattle.grammar.specs.Trees.{leaf, sentence}
+use Rattle.counting.specs.Prepared.{preparedRows, countNumber}
+use Rattle.history.specs.Refusals.{historyRows}
+use Rattle.history.specs.Answers.{refusalNumber}
+use Rattle.ranking.specs.Answers.{totalOf}
+use Rattle.sampling.specs.declared.prepare.SampleRefusal.{SampleRefusal}
+use Rattle.sampling.specs.declared.prepare.SampleRefusal.the-variants.{Count, History, Ambiguous}
+use Rattle.sampling.specs.declared.remaining.RemainingAnswer.{RemainingAnswer}
+use Rattle.sampling.specs.declared.remaining.RemainingAnswer.the-variants.{Remaining, NotRemaining}
+use Rattle.sampling.specs.declared.draw.DrawAnswer.{DrawAnswer}
+use Rattle.sampling.specs.declared.draw.DrawAnswer.the-variants.{Drawn, NotDrawn, Beyond, Short}
+use Rattle.sampling.specs.Unheard.{Entry, unheard, heardOf, leftOf, ambiguous}
+
+abbrev pub sampleNumber : SampleRefusal → ℕ
+sampleNumber (Count r) = countNumber r
+sampleNumber (History r) = refusalNumber r
+sampleNumber Ambiguous = 15
+
+-- ---- *Left*
+
+-- the paper's number and figures of each case
+abbrev pub remainingSaid : RemainingAnswer → Answer
+remainingSaid (Remaining t k l) = record { refusal = 0; figures = t ∷ k ∷ l ∷ []; buffer = [] }
+remainingSaid (NotRemaining r) = record { refusal = sampleNumber r; figures = 0 ∷ 0 ∷ 0 ∷ []; buffer = [] }
+
+-- the lines 1 to 8, 9, 10, 11 to 14 and 15, in their order
+abbrev pub remainingRows : (g h : List ℕ) (n : ℕ) → List Row
+remainingRows g h n = preparedRows g n ++ (historyRows h ++ ((ambiguous g h n, 15) ∷ []))
+
+-- "*Left* (bank, diary, length) gives T, heard (distinct heard sentences of that length with one derivation) and left = T - heard."
+unfoldable pub remainingOf : (g h : List ℕ) (n : ℕ) → Answer
+remainingOf g h n = answer (remainingRows g h n) (totalOf g n ∷ heardOf g h n ∷ leftOf g h n ∷ []) [] []
+
+-- ---- *Draw*
+
+-- the paper's number, figures and bytes of each case
+abbrev pub drawSaid : DrawAnswer → List ℕ → Answer
+drawSaid (Drawn l d) out = record { refusal = 0; figures = l ∷ d .0 ∷ []; buffer = out }
+drawSaid (NotDrawn r) out = record { refusal = sampleNumber r; figures = 0 ∷ 0 ∷ []; buffer = out }
+drawSaid Beyond out = record { refusal = 16; figures = 0 ∷ 0 ∷ []; buffer = out }
+drawSaid Short out = record { refusal = 20; figures = 0 ∷ 0 ∷ []; buffer = out }
+
+-- "the derivation with an unheard sentence that has exactly q such derivations before it": the unheard list's entry q
+abbrev pub drawn : (g h : List ℕ) (n q : ℕ) → Entry
+drawn g h n q = getD (unheard g h n) q (0, leaf 0 0)
+
+-- "16. The number is [..] left or more (*Draw*)." "20. The sentence buffer is shorter than the length (*Give*, *Draw*)."
+abbrev pub drawRows : (g h : List ℕ) (n q : ℕ) (out : List ℕ) → List Row
+drawRows g h n q out = remainingRows g h n ++ ((leb (leftOf g h n) q, 16) ∷ (ltb (length out) n, 20) ∷ [])
+
+-- "*Draw* (bank, diary, length, draw number q, buffer) [..] gives left and its derivation number, writes its sentence."
+unfoldable pub drawOf : (g h : List ℕ) (n q : ℕ) (out : List ℕ) → Answer
+drawOf g h n q out =
+    answer (drawRows g h n q out) (leftOf g h n ∷ drawn g h n q .0 ∷ []) out (sentence (drawn g h n q .1) ++ drop n out)

@@ -1,0 +1,53 @@
+-- The full list with derivation numbers and the unheard list (document 01, section 'The draws as one list'), and the heard sentences
+-- that *Left* counts. They come from the bytes of grammar and history, not from T and not from any call's answer.
+-- Assumes nothing: these are definitions.
+use mathlib.Core.Bool.{Bool, cond, not}
+use mathlib.Core.List.{List, [], _∷_}
+use Prim.Native.Nat.{ℕ, _-_}
+use lib.ListN.{length}
+use lib.Dec.{leb, eqb}
+use Rattle.lists.specs.Searched.{someOf, same}
+use Rattle.lists.specs.Struck.{keep, struck, numbered}
+use Rattle.grammar.specs.Trees.{Tree, sentence}
+use Rattle.ranking.specs.Answers.{fullList, totalOf, readingsOf}
+use Rattle.history.specs.Heard.{sentences, heard}
+
+-- a derivation with its derivation number
+abbrev pub Entry : Type 0
+Entry = ℕ × Tree
+
+-- the derivation's sentence is unheard: outside the diary
+abbrev pub outside : (h : List ℕ) → Tree → Bool
+outside h t = not (heard h (sentence t))
+
+-- "The full list holds every derivation of S with length n, each once, in the order above. Its entry d, counted from 0, so has derivation
+-- number d. Strike each entry whose sentence is heard. What remains, in the same order, is the unheard list."
+unfoldable pub unheard : (g h : List ℕ) (n : ℕ) → List Entry
+unheard g h n = keep (λ (e : Entry). outside h (e .1)) (numbered 0 (fullList g n))
+
+-- the places that are struck, rising: the heard derivation numbers
+abbrev pub barred : (g h : List ℕ) (n : ℕ) → List ℕ
+barred g h n = struck (outside h) (fullList g n)
+
+-- ---- what *Left* counts
+
+-- the sentences listed, each once
+abbrev pub distinct : List (List ℕ) → List (List ℕ)
+distinct [] = []
+distinct (s ∷ l) = cond (someOf (same s) l) (distinct l) (s ∷ distinct l)
+
+-- the sentences of a history that have n words
+abbrev pub ofLength : (n : ℕ) (h : List ℕ) → List (List ℕ)
+ofLength n h = keep (λ s. eqb (length s) n) (sentences h)
+
+-- "heard (distinct heard sentences of that length with one derivation)"
+unfoldable pub heardOf : (g h : List ℕ) (n : ℕ) → ℕ
+heardOf g h n = length (distinct (keep (λ s. eqb (readingsOf g s) 1) (ofLength n h)))
+
+-- "left = T - heard"
+abbrev pub leftOf : (g h : List ℕ) (n : ℕ) → ℕ
+leftOf g h n = totalOf g n - heardOf g h n
+
+-- "15. A diary sentence of the named length has two or more derivations from S (*Left*, *Draw*)."
+unfoldable pub ambiguous : (g h : List ℕ) (n : ℕ) → Bool
+ambiguous g h n = someOf (λ s. leb 2 (readingsOf g s)) (ofLength n h)

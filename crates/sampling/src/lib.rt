@@ -1,0 +1,6 @@
+// *Left* and *Draw* (document 01): sampling without the sentences that a patient has heard.
+pub mod draw;
+pub mod heard;
+pub mod prepare;
+pub mod remaining;
+pub mod skip;

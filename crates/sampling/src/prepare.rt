@@ -1,0 +1,133 @@
+// What *Left* and every *Draw* need: the tables of the grammar and the heard derivation numbers, rising, each once.
+ghost use mathlib.Core.Path.{_≡_};
+ghost use Prim.Native.Nat.{_≤_};
+ghost use Rattle.sampling.specs.Answers.{sampleNumber};
+ghost use Rattle.sampling.specs.Hearing.{Collects};
+ghost use Rattle.sampling.specs.Preparing.{Lent, Hears, HeardAs, PreparedAs};
+use crate::heard;
+use crate::heard::Collected;
+use counting::prepare;
+use counting::prepare::CountRefusal;
+use counting::prepare::Prepared;
+use history::checks;
+use history::checks::HistoryAnswer;
+use history::checks::HistoryRefusal;
+
+pub enum SampleRefusal {
+    Count(CountRefusal),
+    History(HistoryRefusal),
+    Ambiguous,
+}
+
+// How many heard numbers there are, or why not.
+pub enum Sampled {
+    Ready(usize),
+    Refused(SampleRefusal),
+}
+
+// The refusal's number in document 01's list.
+pub fn refusal_number(r: SampleRefusal) -> u8
+    ensures { λ x. ⌜ x ≡ sampleNumber r ⌝ }
+{
+    match r {
+        SampleRefusal::Count(c) => prepare::refusal_number(c),
+        SampleRefusal::History(d) => checks::refusal_number(d),
+        SampleRefusal::Ambiguous => 15,
+    }
+}
+
+// The heard numbers, rising, each once.
+fn hear(
+    g: &[u8],
+    index: &[u8; 1024],
+    plain: &[u64; 544],
+    h: &[u8],
+    n: usize,
+    memo: &mut [u64],
+    numbers: &mut [u64],
+) -> Sampled
+    requires { ⌜ Collects (now g) (now index) (now plain) (now h) n (now memo) (now numbers) ⌝ }
+    ensures { λ s. ⌜ HeardAs (now (g .entry)) (now (h .entry)) n (now (numbers .exit)) s ⌝ }
+{
+    let c = heard::collect(g, index, plain, h, n, memo, numbers);
+    match c {
+        Collected::Ambiguous => Sampled::Refused(SampleRefusal::Ambiguous),
+        Collected::Numbers(k) => {
+            let mut spare = [0u64; 1000];
+            let m = sorting::sort(&mut numbers[0..k], &mut spare);
+            Sampled::Ready(m)
+        }
+    }
+}
+
+// A memo for sentences of up to five words, and one for all.
+fn hear_short(
+    g: &[u8],
+    index: &[u8; 1024],
+    plain: &[u64; 544],
+    h: &[u8],
+    n: usize,
+    numbers: &mut [u64],
+) -> Sampled
+    requires { ⌜ Hears (now g) (now index) (now plain) (now h) n (now numbers) × (n ≤ 5) ⌝ }
+    ensures { λ s. ⌜ HeardAs (now (g .entry)) (now (h .entry)) n (now (numbers .exit)) s ⌝ }
+{
+    let mut memo = [0u64; 1280];
+    hear(g, index, plain, h, n, &mut memo, numbers)
+}
+
+fn hear_long(
+    g: &[u8],
+    index: &[u8; 1024],
+    plain: &[u64; 544],
+    h: &[u8],
+    n: usize,
+    numbers: &mut [u64],
+) -> Sampled
+    requires { ⌜ Hears (now g) (now index) (now plain) (now h) n (now numbers) ⌝ }
+    ensures { λ s. ⌜ HeardAs (now (g .entry)) (now (h .entry)) n (now (numbers .exit)) s ⌝ }
+{
+    let mut memo = [0u64; 15360];
+    hear(g, index, plain, h, n, &mut memo, numbers)
+}
+
+fn hear_all(
+    g: &[u8],
+    index: &[u8; 1024],
+    plain: &[u64; 544],
+    h: &[u8],
+    n: usize,
+    numbers: &mut [u64],
+) -> Sampled
+    requires { ⌜ Hears (now g) (now index) (now plain) (now h) n (now numbers) ⌝ }
+    ensures { λ s. ⌜ HeardAs (now (g .entry)) (now (h .entry)) n (now (numbers .exit)) s ⌝ }
+{
+    if n <= 5 {
+        return hear_short(g, index, plain, h, n, numbers);
+    }
+    hear_long(g, index, plain, h, n, numbers)
+}
+
+pub fn prepare(
+    g: &[u8],
+    h: &[u8],
+    n: u64,
+    index: &mut [u8; 1024],
+    plain: &mut [u64; 544],
+    numbers: &mut [u64],
+) -> Sampled
+    requires { ⌜ Lent (now index) (now plain) (now numbers) ⌝ }
+    ensures { λ s. ⌜ PreparedAs (now (g .entry)) (now (h .entry)) n (now (index .exit)) (now (plain .exit)) (now (numbers .exit)) s ⌝ }
+{
+    let p = prepare::prepare(g, n, index, plain);
+    match p {
+        Prepared::Refused(r) => Sampled::Refused(SampleRefusal::Count(r)),
+        Prepared::Ready => {
+            let a = checks::check(h);
+            match a {
+                HistoryAnswer::Refused(r) => Sampled::Refused(SampleRefusal::History(r)),
+                HistoryAnswer::Accepted(_) => hear_all(g, index, plain, h, n as usize, numbers),
+            }
+        }
+    }
+}

@@ -1,0 +1,29 @@
+// *Left*: how many derivations there are, how many of them are heard, and how many are left.
+ghost use mathlib.Core.Path.{_≡_};
+ghost use Rattle.sampling.specs.Answers.{remainingSaid, remainingOf};
+use crate::prepare;
+use crate::prepare::SampleRefusal;
+use crate::prepare::Sampled;
+use ranking::unrank;
+
+pub enum RemainingAnswer {
+    Remaining(u64, u64, u64),
+    NotRemaining(SampleRefusal),
+}
+
+pub fn remaining(g: &[u8], h: &[u8], n: u64) -> RemainingAnswer
+    ensures { λ r. ⌜ remainingSaid r ≡ remainingOf (now (g .entry)) (now (h .entry)) n ⌝ }
+{
+    let mut index = [0u8; 1024];
+    let mut plain = [0u64; 544];
+    let mut numbers = [0u64; 1000];
+    let p = prepare::prepare(g, h, n, &mut index, &mut plain, &mut numbers);
+    match p {
+        Sampled::Refused(r) => RemainingAnswer::NotRemaining(r),
+        Sampled::Ready(k) => {
+            let total = unrank::total(g, &plain, n as usize);
+            let heard = k as u64;
+            RemainingAnswer::Remaining(total, heard, total - heard)
+        }
+    }
+}
