@@ -1,13 +1,14 @@
 #!/usr/bin/env python3
-"""Stored vectors for the test programs that rt runs, from the brute-force program and fixed seeds.
+"""Stored calls with the answers that are expected, from the brute-force program and fixed seeds.
 
   vectors.py KIND OUTDIR           write OUTDIR/stdin and OUTDIR/stdout
   vectors.py KIND OUTDIR --check   write nothing; exit 1 and name the file where what stands there differs
   vectors.py KIND --names          each line of stdout with its case's name
   vectors.py --list                the kinds
 
-The vectors of a kind belong to the crate KIND_vectors. Its standard input is a sequence of cases, and it
-prints a line for each.
+The vectors of a kind stand in tests/stored/KIND, and replay.py runs them through the C interface; those of
+kind matrix belong to the test program crates/matrix_vectors. stdin is a sequence of cases, and stdout has a
+line for each.
 
 Kind grammar (document 01: Check bank): a case is two bytes size, low byte first, and that many bytes. The
 line is "0 N W" where they are accepted and "refused K" where not.
