@@ -28,25 +28,33 @@ same-length : tie.Need-same-length
 same-length c = search needs
 
 returns : tie.Need-returns
-returns c = case (λ a. appendSaid a (c .before .before .before .before .before .append .last .0)) (c .before .before .before .before .before .append .ensures) (c .before .a .given .1)
+returns c =
+    let u = c .before .before .before .before .before in
+    case (λ a. appendSaid a (u .append .last .0)) (u .append .ensures) (c .before .a .given .1)
 
 same-length-2 : tie.Need-same-length-2
 same-length-2 c = search needs
 
 returns-2 : tie.Need-returns-2
-returns-2 c = case (λ a. appendSaid a (c .before .before .before .before .append .last .0)) (c .before .before .before .before .append .ensures) (c .enum-told .given .1)
+returns-2 c =
+    let u = c .before .before .before .before in
+    case (λ a. appendSaid a (u .append .last .0)) (u .append .ensures) (c .enum-told .given .1)
 
 same-length-3 : tie.Need-same-length-3
 same-length-3 c = search needs
 
 returns-3 : tie.Need-returns-3
-returns-3 c = numbered _ _ (c .refusal-number .ensures) (case (λ a. appendSaid a (c .before .before .before .before .before .before .append .last .0)) (c .before .before .before .before .before .before .append .ensures) (c .before .before .a2 .given .1))
+returns-3 c =
+    let u = c .before .before .before .before .before .before in
+    numbered _ _ (c .refusal-number .ensures) (case (λ a. appendSaid a (u .append .last .0)) (u .append .ensures) (c .before .before .a2 .given .1))
 
 same-length-4 : tie.Need-same-length-4
 same-length-4 c = search needs
 
 returns-4 : tie.Need-returns-4
-returns-4 c = case (λ a. appendSaid a (c .before .before .before .before .append .last .0)) (c .before .before .before .before .append .ensures) (c .enum-told2 .given .1)
+returns-4 c =
+    let u = c .before .before .before .before in
+    case (λ a. appendSaid a (u .append .last .0)) (u .append .ensures) (c .enum-told2 .given .1)
 
 pub pumpfennel-append-spec : {M : Type 1} → statement M
 pumpfennel-append-spec =

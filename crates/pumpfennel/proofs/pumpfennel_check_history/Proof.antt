@@ -19,10 +19,12 @@ refusal-number-requires : tie.Need-refusal-number-requires
 refusal-number-requires c κs = search needs
 
 returns : tie.Need-returns
-returns c = case said (c .before .before .before .check .ensures) (c .before .a .given .1)
+returns c = let u = c .before .before .before in case said (u .check .ensures) (c .before .a .given .1)
 
 returns-2 : tie.Need-returns-2
-returns-2 c = numbered _ _ (c .refusal-number .ensures) (case said (c .before .before .before .before .check .ensures) (c .before .before .a2 .given .1))
+returns-2 c =
+    let u = c .before .before .before .before in
+    numbered _ _ (c .refusal-number .ensures) (case said (u .check .ensures) (c .before .before .a2 .given .1))
 
 pub pumpfennel-check-history-spec : {M : Type 1} → statement M
 pumpfennel-check-history-spec =

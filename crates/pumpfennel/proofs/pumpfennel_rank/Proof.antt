@@ -25,16 +25,18 @@ enum-told-2 : tie.Need-enum-told-2
 enum-told-2 c = search needs
 
 returns : tie.Need-returns
-returns c = case rankSaid (c .before .before .before .rank .ensures) (c .before .a .given .1)
+returns c = let u = c .before .before .before in case rankSaid (u .rank .ensures) (c .before .a .given .1)
 
 returns-2 : tie.Need-returns-2
-returns-2 c = numbered _ _ (c .refusal-number .ensures) (case rankSaid (c .before .before .before .before .rank .ensures) (c .before .before .a2 .given .1))
+returns-2 c =
+    let u = c .before .before .before .before in
+    numbered _ _ (c .refusal-number .ensures) (case rankSaid (u .rank .ensures) (c .before .before .a2 .given .1))
 
 returns-3 : tie.Need-returns-3
-returns-3 c = case rankSaid (c .before .before .rank .ensures) (c .enum-told .given .1)
+returns-3 c = let u = c .before .before in case rankSaid (u .rank .ensures) (c .enum-told .given .1)
 
 returns-4 : tie.Need-returns-4
-returns-4 c = case rankSaid (c .before .before .rank .ensures) (c .enum-told2 .given .1)
+returns-4 c = let u = c .before .before in case rankSaid (u .rank .ensures) (c .enum-told2 .given .1)
 
 pub pumpfennel-rank-spec : {M : Type 1} → statement M
 pumpfennel-rank-spec =

@@ -48,7 +48,11 @@ loop-again c =
     let l = c .before .before in
     let a = l .before .before .before .args in
     let m = record-length (a .next) (now (a .s)) (omega arith) in
-    (omega arith, copied (now (a .h)) (a .at) (recordBytes (a .next) (now (a .s))) (l .loop .i) (omega arith) (omega arith) (l .loop .inv .1) (c .record-byte .ensures), length-set (l .loop .h) (a .at + l .loop .i) (c .record-byte .result) ∙ l .loop .inv .2)
+    let bs = recordBytes (a .next) (now (a .s)) in (
+      omega arith,
+      copied (now (a .h)) (a .at) bs (l .loop .i) (omega arith) (omega arith) (l .loop .inv .1) (c .record-byte .ensures),
+      length-set (l .loop .h) (a .at + l .loop .i) (c .record-byte .result) ∙ l .loop .inv .2,
+    )
 
 same-length : tie.Need-same-length Inv-loop μ-loop
 same-length c = c .before .loop .inv .2

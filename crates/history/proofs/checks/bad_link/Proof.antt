@@ -58,7 +58,8 @@ returns-2 : tie.Need-returns-2 Inv-loop μ-loop
 returns-2 c =
     let n = c .before in
     let l = n .before .before .before in
-    sym (l .loop .inv .1 ∙ to-hit (nextAbove (bytes l)) (l .loop .r) (omega arith) (above (bytes l) (l .loop .r) (start l .pre .count) (n .before .record-at .ensures) (n .two-at2 .ensures .0) (c .if2 .taken)))
+    let b = above (bytes l) (l .loop .r) (start l .pre .count) (n .before .record-at .ensures) (n .two-at2 .ensures .0) (c .if2 .taken) in
+    sym (l .loop .inv .1 ∙ to-hit (nextAbove (bytes l)) (l .loop .r) (omega arith) b)
 
 sub-r : tie.Need-sub-r Inv-loop μ-loop
 sub-r c = omega arith
@@ -70,7 +71,8 @@ loop-again : tie.Need-loop-again Inv-loop μ-loop
 loop-again c =
     let n = c .before in
     let l = n .before .before .before in
-    (omega arith, l .loop .inv .1 ∙ to-miss (nextAbove (bytes l)) (l .loop .r) (omega arith) (below (bytes l) (l .loop .r) (start l .pre .count) (n .before .record-at .ensures) (n .two-at2 .ensures .0) (c .if2 .left)))
+    let b = below (bytes l) (l .loop .r) (start l .pre .count) (n .before .record-at .ensures) (n .two-at2 .ensures .0) (c .if2 .left) in
+    (omega arith, l .loop .inv .1 ∙ to-miss (nextAbove (bytes l)) (l .loop .r) (omega arith) b)
 
 returns-3 : tie.Need-returns-3 Inv-loop μ-loop
 returns-3 c = let l = c .before in sym (l .loop .inv .1 ∙ below-none _ _ (c .loop-test .left))

@@ -12,7 +12,9 @@ use Rattle.ranking.proofs.rank.rank.Tie as tie
 abbrev entry : tie.After-enum-told → tie.Start
 entry c = c .before .before .before .before .before .before .before
 
-tabled : (c : tie.After-enum-told) → Tabled (now (entry c .args .g)) (length (now (entry c .args .sentence))) (c .before .before .prepare .last .1 .1 .0) (c .before .before .prepare .last .1 .1 .1 .0)
+tabled : (c : tie.After-enum-told)
+    → let last = c .before .before .prepare .last in
+    Tabled (now (entry c .args .g)) (length (now (entry c .args .sentence))) (last .1 .1 .0) (last .1 .1 .1 .0)
 tabled c = c .before .before .prepare .ensures .ready (c .enum-told .given .1)
 
 prepare-requires : tie.Need-prepare-requires

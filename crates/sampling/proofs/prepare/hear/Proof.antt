@@ -20,7 +20,9 @@ start c = c .before .before .before .before .before .before .before
 abbrev called : tie.After-known-told → tie.After-collect
 called c = c .before .before .before .before .before .before .before
 
-numbered : (c : tie.After-known-told) → Holds (now (start (called c) .args .g)) (now (start (called c) .args .h)) (start (called c) .args .n) (called c .collect .last .1 .1 .1 .1 .1 .1 .0) (Numbers (c .before .c .given .0 .0))
+numbered : (c : tie.After-known-told)
+    → let s = start (called c) .args in
+    Holds (now (s .g)) (now (s .h)) (s .n) (called c .collect .last .1 .1 .1 .1 .1 .1 .0) (Numbers (c .before .c .given .0 .0))
 numbered c = collect-case (called c .collect .ensures) (c .before .c .given .1)
 
 lengthy : (c : tie.After-collect) → 1000 ≤ length (c .collect .last .1 .1 .1 .1 .1 .1 .0)
