@@ -1,0 +1,381 @@
+"""Tests of what C sees: the header, every call of the archive against the brute-force program, and the example session.
+
+They need target/staticlib/libpumpfennel.a, which rt staticlib pumpfennel writes, and compilers for C and C++: cc and c++,
+or what CC and CXX name.
+"""
+import collections
+import os
+import pathlib
+import re
+import shlex
+import subprocess
+import tempfile
+import unittest
+
+import listings
+import oracle
+import vectors
+from generate import Rng, brimful, damaged, grammar, history, pair, random_damage, word
+from oracle import F, G
+
+ROOT = pathlib.Path(__file__).resolve().parent.parent
+HEADER = ROOT / 'include' / 'pumpfennel.h'
+ARCHIVE = ROOT / 'target' / 'staticlib' / 'libpumpfennel.a'
+STRICT = ['-Wall', '-Wextra', '-Werror']
+MOST = oracle.MOST
+LITTLE, LARGE = 16 * 1024, 160 * 1024  # the header's figures for the stack
+CALLS = ['check_grammar', 'check_history', 'count', 'unrank', 'rank', 'remaining', 'draw', 'append']
+
+
+def run(*words, given=None):
+    return subprocess.run(words, input=given, capture_output=True)
+
+
+def compiler(variable, default):
+    return shlex.split(os.environ.get(variable, default))
+
+
+def compiled(*words):
+    """Compiles with the strict warnings, and shows what was said where that fails."""
+    ran = run(*words, *STRICT, '-I', HEADER.parent)
+    if ran.returncode != 0:
+        raise AssertionError(ran.stderr.decode())
+
+
+def linked(test, source, standard, *more):
+    """The program from a source file and the archive."""
+    if not ARCHIVE.exists():
+        raise AssertionError('there is no archive: rt staticlib pumpfennel writes it')
+    holder = tempfile.TemporaryDirectory()
+    test.addClassCleanup(holder.cleanup)
+    program = pathlib.Path(holder.name, 'program')
+    compiled(*compiler('CC', 'cc'), f'-std={standard}', '-pedantic', '-O2', source, ARCHIVE, *more, '-o', program)
+    return program
+
+
+class Header(unittest.TestCase):
+    def check_compiles(self, command, language, standard):
+        with tempfile.TemporaryDirectory() as name:
+            source = pathlib.Path(name, f'twice.{language}')
+            source.write_text('#include "pumpfennel.h"\n#include "pumpfennel.h"\n')
+            compiled(*command, f'-std={standard}', '-pedantic', '-fsyntax-only', source)
+
+    def test_c99(self):
+        self.check_compiles(compiler('CC', 'cc'), 'c', 'c99')
+
+    def test_c11(self):
+        self.check_compiles(compiler('CC', 'cc'), 'c', 'c11')
+
+    def test_cpp17(self):
+        self.check_compiles(compiler('CXX', 'c++'), 'cpp', 'c++17')
+
+    def test_from_cpp(self):
+        """A program in C++ finds the archive's names."""
+        with tempfile.TemporaryDirectory() as name:
+            source, program = pathlib.Path(name, 'count.cpp'), pathlib.Path(name, 'count')
+            source.write_text('#include "pumpfennel.h"\n#include <cstdio>\nint main() {\n'
+                              f'    const uint8_t grammar[] = {{{", ".join(map(str, F))}}};\n    uint64_t total;\n'
+                              '    if (pumpfennel_count(grammar, sizeof grammar, 16, &total) != PUMPFENNEL_ACCEPTED) return 1;\n'
+                              '    std::printf("%llu\\n", static_cast<unsigned long long>(total));\n}\n')
+            compiled(*compiler('CXX', 'c++'), '-std=c++17', source, ARCHIVE, '-o', program)
+            self.assertEqual(run(program).stdout, b'65536\n')
+
+    def test_the_numbers_run_from_0_to_20(self):
+        numbers = re.findall(r'^    PUMPFENNEL_[A-Z_]+ = (\d+)', HEADER.read_text(), re.M)
+        self.assertEqual(list(map(int, numbers)), list(range(21)))
+
+    def test_the_calls_are_the_archives(self):
+        declared = re.findall(r'^uint8_t (pumpfennel_\w+)\(', HEADER.read_text(), re.M)
+        self.assertEqual(declared, ['pumpfennel_' + call for call in CALLS])
+        names = run('nm', '--extern-only', '--defined-only', ARCHIVE).stdout.decode()
+        self.assertEqual(sorted(re.findall(r' [A-Z] (\S+)$', names, re.M)), sorted(declared))
+
+    def test_the_archive_keeps_nothing(self):
+        """It has no memory of its own that can be written, and takes nothing from the C library but functions on bytes."""
+        totals = run('size', '--totals', ARCHIVE).stdout.decode().splitlines()[-1].split()
+        self.assertEqual(totals[1:3], ['0', '0'])
+        names = run('nm', '--undefined-only', ARCHIVE).stdout.decode()
+        self.assertLessEqual(set(re.findall(r' U (\S+)$', names, re.M)), {'memcpy', 'memmove', 'memset', 'memcmp'})
+
+
+# ---- Every call
+
+def word_of(value):
+    return 'x' + value.hex() if isinstance(value, bytes) else str(value)
+
+
+def call_line(call, *args):
+    return ' '.join([call, *map(word_of, args)])
+
+
+def answer_line(call, *args):
+    return ' '.join(map(word_of, getattr(oracle, call)(*args)))
+
+
+def in_64_bits(*numbers):
+    return sorted({number for number in numbers if 0 <= number <= MOST})
+
+
+def cases_of(length, bank, diary):
+    """Every call on a bank and a diary, at the edges of what it accepts."""
+    old = b'\7' * 18
+    for size in (16, length, max(length, 1) - 1, 0):
+        yield 'unrank', bank, length, 0, old[:size]
+        yield 'draw', bank, diary, length, 0, old[:size]
+    yield 'check_grammar', bank
+    yield 'check_history', diary
+    yield 'count', bank, length
+    yield 'remaining', bank, diary, length
+    refusal, total, _, left = oracle.remaining(bank, diary, length)
+    for number in in_64_bits(1, total // 2, total - 1, total, total + 1, MOST):
+        yield 'unrank', bank, length, number, old
+    for number in in_64_bits(1, left // 2, left - 1, left, left + 1, total, MOST):
+        yield 'draw', bank, diary, length, number, old
+    size = min(length, 17)
+    sentences = [b'', b'\0' * size, b'\377' * size, bytes(17)]
+    if refusal == 0 and total:
+        sentences += [oracle.unrank(bank, length, number, bytes(length))[2] for number in (0, total // 2, total - 1)]
+    for sentence in sentences:
+        yield 'rank', bank, sentence
+        yield 'append', diary + b'\7' * 21, sentence
+    for slack in (0, 19, 20):
+        yield 'append', diary + b'\7' * slack, b'\1' * 16
+
+
+def deep_banks():
+    """Right, left and both: the trees at length 16 have 16 levels. The last has the counts up to 2^64 - 1."""
+    words = [word(0), word(1)]
+    yield grammar(2, 0, [[pair(1, 1), pair(1, 0)], words])
+    yield grammar(2, 0, [[pair(1, 1), pair(0, 1)], words])
+    yield grammar(2, 0, [[pair(2, 1), pair(1, 1)], words, [pair(1, 0)]])
+    yield brimful()
+
+
+def all_cases():
+    for length in (1, 2, 3, 16):
+        yield from cases_of(length, F, history([bytes([0, 1])]))
+    for length in (0, 1, 3, 5, 17, 2**32 + 2, MOST):
+        yield from cases_of(length, G, history([bytes(2)]) if length < 18 else history([]))
+    for bank in deep_banks():
+        for length in (5, 6, 15, 16):
+            yield from cases_of(length, bank, history([bytes(length), b'\1' * length]))
+    thousand = [oracle.unrank(oracle.matrix(), 5, 7 * i, bytes(5))[2] for i in range(1000)]
+    for many in (0, 1, 999, 1000):
+        yield from cases_of(5, oracle.matrix(), history(thousand[:many]))
+    for _, _, bank in vectors.TRAPS:
+        yield 'check_grammar', bank
+    for _, _, diary in vectors.HISTORY_TRAPS:
+        yield 'check_history', diary
+        yield 'append', diary, b'\1\2'
+    rng = Rng(41)
+    for length, bank, diary in listings.random_listings(rng, 40):
+        yield from cases_of(length, bank, diary)
+        for cut in (damaged(bank, [random_damage(rng, bank)]), bank[:-1], b''):
+            yield from cases_of(length, cut, diary) if listings.quick(listings.framed(length, cut, diary)) else []
+        for cut in (damaged(diary, [random_damage(rng, diary)]), diary[:rng.below(len(diary))]):
+            yield from cases_of(length, bank, cut)
+
+
+class Calls(unittest.TestCase):
+    @classmethod
+    def setUpClass(cls):
+        program = linked(cls, ROOT / 'tests' / 'calls.c', 'c11', '-pthread')
+        cls.expected = {call_line(*case): answer_line(*case) for case in all_cases()}
+        given = ''.join(line + '\n' for line in cls.expected)
+        cls.ran = run(program, given=given.encode())
+        cls.lines = cls.ran.stdout.decode().splitlines()
+
+    def test_answers(self):
+        self.assertEqual((self.ran.returncode, self.ran.stderr, len(self.lines)), (0, b'', len(self.expected) + 1))
+        self.assertGreater(len(self.expected), 4000)
+        for (call, expected), line in zip(self.expected.items(), self.lines):
+            self.assertEqual(line, expected, call)
+
+    def test_every_refusal_of_every_call_is_there(self):
+        met = collections.defaultdict(set)
+        for call, line in self.expected.items():
+            met[call.split()[0]].add(int(line.split()[0]))
+        bank, diary = set(range(9)), {0, 11, 12, 13, 14}
+        self.assertEqual(met, {
+            'check_grammar': bank, 'check_history': diary, 'count': bank | {9, 10}, 'unrank': bank | {9, 10, 16, 20},
+            'rank': bank | {9, 10, 17, 18}, 'remaining': bank | diary | {9, 10, 15},
+            'draw': bank | diary | {9, 10, 15, 16, 20}, 'append': diary | {9, 19}})
+
+    def test_stack(self):
+        """The header's figures hold, and the large ones are not far above the truth."""
+        used = dict(zip(CALLS, map(int, self.lines[-1].split())))
+        for call, most in used.items():
+            self.assertLess(most, LARGE if call in ('rank', 'remaining', 'draw') else LITTLE, call)
+        self.assertGreater(used['draw'], LARGE // 2)
+        self.assertIn('up to 160 KiB', HEADER.read_text())
+        self.assertIn('up to 16 KiB', HEADER.read_text())
+
+
+# ---- The session
+
+def random_bytes(seed, size):
+    rng = Rng(seed)
+    return bytes(rng.below(256) for _ in range(size))
+
+
+def below(bound, source):
+    """Document 01 leaves the source of random numbers outside; this is the example's rule."""
+    while True:
+        eight = bytes(next(source) for _ in range(8))
+        number = int.from_bytes(eight, 'little')
+        if number < 2**64 - 2**64 % bound:
+            return number % bound
+
+
+class Session(unittest.TestCase):
+    @classmethod
+    def setUpClass(cls):
+        cls.program = linked(cls, ROOT / 'examples' / 'session.c', 'c99')
+
+    def setUp(self):
+        holder = tempfile.TemporaryDirectory()
+        self.addCleanup(holder.cleanup)
+        self.folder = pathlib.Path(holder.name)
+        self.diary = self.folder / 'diary'
+
+    def session(self, bank, length, count, source, diary=None):
+        (self.folder / 'bank').write_bytes(bank)
+        (self.folder / 'source').write_bytes(source)
+        ran = run(self.program, self.folder / 'bank', diary or self.diary, str(length), str(count), self.folder / 'source')
+        split = [line.split(':') for line in ran.stdout.decode().splitlines()]
+        lines = [(int(number), bytes(map(int, words.split()))) for number, words in split]
+        self.assertEqual({path.name for path in self.folder.iterdir()} - {'bank', 'source', 'diary'}, set())
+        return ran.returncode, lines, ran.stderr.decode()
+
+    def check_drawn(self, bank, length, source, before, lines):
+        """Each line is the right draw of an unheard sentence, and the diary has its record."""
+        source = iter(source)
+        for number, sentence in lines:
+            self.assertEqual(oracle.check_history(before)[0], 0)
+            _, total, _, left = oracle.remaining(bank, before, length)
+            q = below(left, source)
+            self.assertEqual(oracle.draw(bank, before, length, q, bytes(length)), (0, left, number, sentence))
+            self.assertEqual(oracle.rank(bank, sentence), (0, number, total))
+            self.assertNotIn(sentence, oracle.sentences_of(before))
+            records = oracle.two_bytes(before, 0)
+            refusal, now, after = oracle.append(before[:4 + 20 * records] + bytes(20), sentence)
+            self.assertEqual((refusal, now), (0, records + 1))
+            before = after
+        self.assertEqual(self.diary.read_bytes(), before)
+        self.assertEqual(oracle.check_history(before), (0, oracle.two_bytes(before, 0)))
+
+    def test_two_sessions_on_one_diary(self):
+        before = bytes(4)
+        for seed, count in [(51, 20), (52, 15)]:
+            source = random_bytes(seed, 8 * count)
+            status, lines, _ = self.session(oracle.matrix(), 5, count, source)
+            self.assertEqual((status, len(lines)), (0, count))
+            self.check_drawn(oracle.matrix(), 5, source, before, lines)
+            before = self.diary.read_bytes()
+        self.assertEqual(len(set(oracle.sentences_of(before))), 35)
+
+    def test_one_record_longer_each_time(self):
+        """With a diary that has slack and a chain of its own order."""
+        heard = [oracle.unrank(oracle.matrix(), 5, d, bytes(5))[2] for d in (0, 7, 99999)] + [b'\377', b'\1\2']
+        self.diary.write_bytes(history(heard, [3, 1, 5, 2, 4], b'\7' * 33))
+        for k in range(5, 13):
+            before, source = self.diary.read_bytes(), random_bytes(k, 8)
+            self.assertEqual(oracle.two_bytes(before, 0), k)
+            status, lines, errors = self.session(oracle.matrix(), 5, 1, source)
+            self.assertEqual((status, len(lines), errors), (0, 1, ''))
+            self.assertEqual(len(self.diary.read_bytes()), 4 + 20 * (k + 1))
+            self.check_drawn(oracle.matrix(), 5, source, before, lines)
+
+    def test_bytes_that_would_favour_a_draw_are_passed_over(self):
+        """Of 15^16 sentences; the numbers from twice that on are passed over."""
+        bank, total = oracle.f_words(15), 15**16
+        eights = [MOST, 2 * total, 2 * total - 1, total, 0, MOST - 1, 2 * total - 6, 2 * total - 7]
+        source = b''.join(number.to_bytes(8, 'little') for number in eights)
+        status, lines, _ = self.session(bank, 16, 4, source)
+        self.assertEqual((status, [number for number, _ in lines]), (0, [total - 1, 1, 0, total - 2]))
+        source = random_bytes(53, 1000)
+        self.diary.unlink()
+        status, lines, _ = self.session(bank, 16, 40, source)
+        self.assertEqual((status, len(lines)), (0, 40))
+        self.check_drawn(bank, 16, source, bytes(4), lines)
+
+    def test_nothing_left(self):
+        source = random_bytes(54, 100)
+        status, lines, errors = self.session(F, 2, 10, source)
+        self.assertEqual((status, len(lines)), (1, 4))
+        self.assertIn('nothing is left: 4 of 4 were heard', errors)
+        self.check_drawn(F, 2, source, bytes(4), lines)
+        before = self.diary.read_bytes()
+        self.assertEqual(self.session(F, 2, 10, source), (1, [], 'session: nothing is left: 4 of 4 were heard\n'))
+        self.assertEqual(self.diary.read_bytes(), before)
+
+    def test_full_diary(self):
+        heard = [oracle.unrank(oracle.matrix(), 5, 3 * d, bytes(5))[2] for d in range(998)]
+        self.diary.write_bytes(history(heard))
+        source = random_bytes(55, 100)
+        status, lines, errors = self.session(oracle.matrix(), 5, 5, source)
+        self.assertEqual((status, len(lines), errors), (1, 2, f'session: {self.diary}: the diary is full\n'))
+        self.check_drawn(oracle.matrix(), 5, source, history(heard), lines)
+        self.assertEqual(oracle.check_history(self.diary.read_bytes()), (0, 1000))
+
+    def test_a_new_diary_is_announced(self):
+        self.assertEqual(self.session(F, 2, 1, bytes(8)), (0, [(0, b'\0\0')], f'session: {self.diary}: a new diary\n'))
+        self.assertEqual(self.session(F, 2, 0, b''), (0, [], ''))
+
+    def test_a_diary_cut_short_is_not_taken_for_a_new_one(self):
+        whole = history([bytes([0, 1]), bytes([1, 1])])
+        for size in (0, 3, 4, 23, 43):
+            self.diary.write_bytes(whole[:size])
+            status, lines, errors = self.session(F, 2, 1, bytes(8))
+            self.assertEqual((status, lines), (2, []))
+            self.assertIn('refused 11: ', errors)
+            self.assertEqual(self.diary.read_bytes(), whole[:size])
+
+    def test_each_refusal_is_explained(self):
+        told = {}
+        empty = history([])
+        cases = [(bank, empty, 2) for _, refusal, bank in vectors.TRAPS if refusal]
+        cases += [(F, diary, 2) for _, refusal, diary in vectors.HISTORY_TRAPS if refusal]
+        cases += [(F, empty, 0), (F, empty, 17), (oracle.f_words(16), empty, 16), (G, history([bytes(3)]), 3)]
+        for bank, diary, length in cases:
+            self.diary.write_bytes(diary)
+            refusal = oracle.remaining(bank, diary, length)[0]
+            status, lines, errors = self.session(bank, length, 1, bytes(8))
+            self.assertEqual((status, lines), (2, []))
+            said, number, why = re.fullmatch(r'session: (.*): refused (\d+): (.*)\n', errors).groups()
+            self.assertEqual(int(number), refusal)
+            self.assertEqual(told.setdefault(refusal, why), why)
+            self.assertEqual(self.diary.read_bytes(), diary)
+        self.assertEqual(set(told), set(range(1, 16)))
+        self.assertEqual(len(set(told.values())), 15)
+
+    def test_a_source_that_ends(self):
+        source = random_bytes(56, 23)
+        status, lines, errors = self.session(oracle.matrix(), 5, 5, source)
+        self.assertEqual((status, len(lines)), (2, 2))
+        self.assertIn('source: no more bytes', errors)
+        self.check_drawn(oracle.matrix(), 5, source, bytes(4), lines)
+
+    def test_what_cannot_be_logged_is_not_printed(self):
+        status, lines, errors = self.session(F, 2, 1, bytes(8), self.folder / 'no folder' / 'diary')
+        self.assertEqual((status, lines), (2, []))
+        self.assertIn('diary.new: ', errors)
+
+    def test_without_a_named_source(self):
+        (self.folder / 'bank').write_bytes(F)
+        ran = run(self.program, self.folder / 'bank', self.diary, '4', '16')
+        self.assertEqual((ran.returncode, len(ran.stdout.splitlines())), (0, 16))
+        self.assertEqual(oracle.remaining(F, self.diary.read_bytes(), 4), (0, 16, 16, 0))
+
+    def test_wrong_commands(self):
+        (self.folder / 'bank').write_bytes(F)
+        for args in [(), ('bank', 'diary', '2'), ('bank', 'diary', '2', '1', 'none'), ('none', 'diary', '2', '1'),
+                     ('bank', 'diary', '-2', '1'), ('bank', 'diary', '2', 'x'), ('bank', 'diary', '2', '9' * 20)]:
+            ran = subprocess.run([self.program, *args], cwd=self.folder, capture_output=True)
+            self.assertEqual((ran.returncode, ran.stdout), (2, b''))
+            self.assertTrue(ran.stderr.startswith(b'session: '))
+            self.assertFalse(self.diary.exists())
+
+
+if __name__ == '__main__':
+    unittest.main()

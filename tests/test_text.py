@@ -1,0 +1,281 @@
+"""Tests of tools/pumpfennel-text: texts of grammars and histories become the bytes that document 01 describes, and come back."""
+import importlib.machinery
+import importlib.util
+import pathlib
+import subprocess
+import sys
+import tempfile
+import unittest
+
+import oracle
+import vectors
+from generate import Rng, brimful, damaged, history, random_damage, random_grammar
+from oracle import F, G
+
+ROOT = pathlib.Path(__file__).resolve().parent.parent
+TOOL = ROOT / 'tools' / 'pumpfennel-text'
+
+
+def loaded():
+    loader = importlib.machinery.SourceFileLoader('pumpfennel_text', str(TOOL))
+    module = importlib.util.module_from_spec(importlib.util.spec_from_loader(loader.name, loader))
+    sys.dont_write_bytecode, kept = True, sys.dont_write_bytecode
+    loader.exec_module(module)
+    sys.dont_write_bytecode = kept
+    return module
+
+
+text = loaded()
+
+
+def bare(lines):
+    """A text without its comments and blank lines."""
+    lines = [line.split('#')[0].rstrip() for line in lines.split('\n')]
+    return ''.join(line + '\n' for line in lines if line)
+
+
+def meaning(bank):
+    """N, W, S, and each chain's rules without their numbers."""
+    rules = oracle.rules_of(bank)
+    chains = oracle.walk(oracle.heads_of(bank), oracle.nexts_of(bank))
+    return bank[0], bank[1], bank[3], [[rules[i][:3] for i in numbers] for numbers in chains]
+
+
+def logged(sentences, room):
+    """The history after logging these sentences in turn."""
+    diary = bytes(4 + 20 * room)
+    for sentence in sentences:
+        refusal, _, diary = oracle.append(diary, sentence)
+        assert refusal == 0
+    return diary
+
+
+def random_sentences(rng):
+    return [bytes(rng.below(256) for _ in range(1 + rng.below(16))) for _ in range(rng.below(12))]
+
+
+class Examples(unittest.TestCase):
+    def test_the_house_matrix_bank(self):
+        data = text.grammar_bytes((ROOT / 'examples' / 'matrix.txt').read_text())
+        self.assertEqual(len(data), 229)
+        self.assertEqual(data, oracle.matrix())
+        self.assertEqual(data, bytes(map(int, (ROOT / 'crates' / 'matrix_vectors' / 'stdout').read_text().split())))
+
+    def test_the_sample_diary(self):
+        lines = (ROOT / 'examples' / 'diary.txt').read_text()
+        diary = text.history_bytes(lines)
+        self.assertEqual(oracle.remaining(oracle.matrix(), diary, 5), (0, 100000, 4, 99996))
+        numbers = [oracle.rank(oracle.matrix(), sentence)[1] for sentence in oracle.sentences_of(diary)]
+        self.assertEqual(numbers, [5, 31415, 2, 0])
+        self.assertEqual(len(diary), 4 + 20 * 40)
+
+    def test_their_texts_come_back(self):
+        for name, there, back in [('matrix.txt', text.grammar_bytes, text.grammar_text),
+                                  ('diary.txt', text.history_bytes, text.history_text)]:
+            lines = (ROOT / 'examples' / name).read_text()
+            self.assertEqual(back(there(lines)), bare(lines))
+
+    def test_the_help_has_examples_that_hold(self):
+        grammar, diary = ['\n'.join(line[4:] for line in part.split('\n') if line.startswith('    '))
+                          for part in text.__doc__.split('A history has')]
+        chains = [[(1, 1, 1), (1, 0, 1)], [(0, 0, 0), (0, 1, 0), (0, 2, 0)]]
+        self.assertEqual(meaning(text.grammar_bytes(grammar)), (2, 3, 0, chains))
+        self.assertEqual(text.history_bytes(diary), logged([bytes([2, 2]), bytes([0, 1, 2])], 40))
+
+
+class Grammars(unittest.TestCase):
+    def check(self, bank):
+        lines = text.grammar_text(bank)
+        again = text.grammar_bytes(lines)
+        self.assertEqual(meaning(again), meaning(bank))
+        self.assertEqual(oracle.check_grammar(again), oracle.check_grammar(bank))
+        self.assertEqual(text.grammar_text(again), lines)
+        self.assertEqual(text.grammar_bytes(lines), again)
+
+    def test_f_and_g(self):
+        self.assertEqual(text.grammar_text(F), 'words 2\nstart 0\n0 -> (1 1) | (0 1)\n1 -> 0 | 1\n')
+        self.assertEqual(text.grammar_text(G), 'words 1\nstart 0\n0 -> (0 0) | 0\n')
+        for bank in (F, G):
+            self.assertEqual(text.grammar_bytes(text.grammar_text(bank)), bank)
+
+    def test_stored_cases_come_back(self):
+        for name, refusal, bank in vectors.TRAPS:
+            if refusal == 0:
+                with self.subTest(name):
+                    self.check(bank)
+
+    def test_the_largest_come_back(self):
+        for bank in (vectors.FULL, brimful(), oracle.f_words(253)):
+            self.check(bank)
+            self.assertLess(max(map(len, text.grammar_text(bank).split('\n'))), 120)
+
+    def test_random_ones_come_back(self):
+        rng = Rng(31)
+        for _ in range(300):
+            self.check(random_grammar(rng, 1 + rng.below(32), 1 + rng.below(255), 1 + rng.below(60)))
+
+    def test_damaged_ones_come_back_or_have_no_text(self):
+        rng, without = Rng(32), 0
+        for _ in range(600):
+            bank = random_grammar(rng, 4, 4, 9)
+            bank = damaged(bank, [random_damage(rng, bank)])[:len(bank) - rng.choice([0, 0, 0, 0, 1])]
+            try:
+                text.grammar_text(bank)
+            except text.Wrong:
+                without += 1
+                self.assertNotEqual(oracle.check_grammar(bank)[0], 0)
+            else:
+                self.check(bank)
+        self.assertIn(without, range(100, 500))
+
+    def test_layout_is_free(self):
+        lines = '# F\r\n\r\n 1->0|\t1 # words\r\nstart   0\r\n0   ->( 1   1 )|(0 1)\r\nwords 02'
+        self.assertEqual(text.grammar_bytes(lines), F)
+        self.assertEqual(text.grammar_bytes('words 2\nstart 0\n1 -> 0\n# between\n  | 1\n0 -> (1 1)\n| (0 1)\n'), F)
+
+    def test_what_the_library_refuses_is_its_own_matter(self):
+        for refusal, lines in [(2, 'words 0\nstart 0\n0 -> 0'), (2, 'words 1\nstart 1\n0 -> 0'), (2, 'words 1\nstart 0'),
+                               (2, 'words 1\nstart 0\n0 ->'), (4, 'words 1\nstart 0\n0 -> 1'),
+                               (4, 'words 1\nstart 0\n0 -> (0 1)'), (8, 'words 1\nstart 0\n0 -> 0 | 0')]:
+            self.assertEqual(oracle.check_grammar(text.grammar_bytes(lines))[0], refusal)
+
+    def test_errors(self):
+        many = ' | '.join(map(str, range(200)))
+        for lines, message in [
+            ('words 2\nstart 0\n\n0 -> 1 2', "line 4: neither a word nor two nonterminals in brackets: '1 2'"),
+            ('words 2\nstart 0\n0 -> (1 2', "line 3: neither a word nor two nonterminals in brackets: '(1 2'"),
+            ('words 2\nstart 0\n0 -> (1 2 3)', "line 3: neither a word nor two nonterminals in brackets: '(1 2 3)'"),
+            ('words 2\nstart 0\n0 -> (1 256)', 'line 3: a nonterminal is above 255: 256'),
+            ('words 2\nstart 0\n0 -> dog', "line 3: a word is not a number: 'dog'"),
+            ('words 2\nstart 0\n0 -> -1', "line 3: a word is not a number: '-1'"),
+            ('words 2\nstart 0\n0 -> 0 | 256', 'line 3: a word is above 255: 256'),
+            ('words 2\nstart 0\n0 -> 0 || 1', 'line 3: a rule is missing beside a bar'),
+            ('words 2\nstart 0\n0 -> 0 |', 'line 3: a rule is missing beside a bar'),
+            ('words 2\nstart 0\n255 -> 0', 'line 3: the nonterminal is above 254: 255'),
+            ('words 2\nstart 0\n0 -> 0\n\n0 -> 1', 'line 5: nonterminal 0 has a line already'),
+            ('words 2\n| 3', 'line 2: there is no rule before this bar'),
+            ('words 2\nstart 0\n0 ->\n| 3', 'line 4: there is no rule before this bar'),
+            ('0 -> 1\nwords 2\n| 3', 'line 3: there is no rule before this bar'),
+            ('words 2\nwords 2', 'line 2: "words" stands there already'),
+            ('words many', "line 1: words is not a number: 'many'"),
+            ('words 256', 'line 1: words is above 255: 256'),
+            ('words ' + '9' * 5000, 'line 1: words is above 255: ' + '9' * 5000),
+            ('words 2 3', "line 1: neither words, start nor a chain: 'words 2 3'"),
+            ('words 2\nstart 0\nS -> 0', "line 3: neither words, start nor a chain: 'S -> 0'"),
+            (f'words 200\nstart 0\n0 -> {many}\n1 -> {many}', 'line 4: there are more than 255 rules'),
+            ('start 0\n0 -> 1', 'there is no line "words"'),
+            ('words 2\n0 -> 1', 'there is no line "start"'),
+            ('words 2\nstart 0\n0 -> 1\n2 -> 1', 'nonterminal 1 has no line'),
+        ]:
+            with self.subTest(lines[:60]), self.assertRaises(text.Wrong) as caught:
+                text.grammar_bytes(lines)
+            self.assertEqual(str(caught.exception), message)
+
+    def test_bytes_without_text(self):
+        for refusal, message in [(1, 'there are 3 bytes, and 4 is the least'),
+                                 (3, 'there are 27 bytes, and 2 nonterminals and 5 rules take 26'),
+                                 (4, 'rule 1 is neither a word nor a pair: 2 1 1'),
+                                 (5, 'a link leads to 6, and there are 5'),
+                                 (6, 'number 1 is met twice on the chains'),
+                                 (7, 'rule 5 is on no chain')]:
+            small, rule = vectors.SMALL, vectors.RULE
+            bank = {1: small[:3], 3: small + b'\0', 4: damaged(small, [(rule[1], 2)]), 5: damaged(small, [(rule[5] + 3, 6)]),
+                    6: damaged(small, [(rule[5] + 3, 1)]), 7: damaged(small, [(rule[4] + 3, 0)])}[refusal]
+            self.assertEqual(oracle.check_grammar(bank)[0], refusal)
+            with self.assertRaises(text.Wrong) as caught:
+                text.grammar_text(bank)
+            self.assertEqual(str(caught.exception), message)
+
+
+class Histories(unittest.TestCase):
+    def check(self, diary):
+        lines = text.history_text(diary)
+        again = text.history_bytes(lines)
+        self.assertEqual(oracle.check_history(again), oracle.check_history(diary))
+        self.assertEqual(oracle.sentences_of(again), oracle.sentences_of(diary))
+        self.assertEqual(len(again), len(diary) - (len(diary) - 4) % 20)
+        self.assertEqual(text.history_text(again), lines)
+
+    def test_a_line_is_a_sentence_and_the_newest_comes_first(self):
+        self.assertEqual(text.history_bytes(''), bytes(4))
+        self.assertEqual(text.history_bytes('0 1\n'), bytes([1, 0, 1, 0, 0, 0, 2, 0, 0, 1] + [0] * 14))
+        rng = Rng(33)
+        for _ in range(50):
+            sentences = random_sentences(rng)
+            room = len(sentences) + rng.below(3)
+            lines = [' '.join(map(str, sentence)) for sentence in reversed(sentences)] + [f'room {room}']
+            self.assertEqual(text.history_bytes('\n'.join(lines)), logged(sentences, room))
+
+    def test_random_ones_come_back(self):
+        rng = Rng(34)
+        for _ in range(200):
+            sentences = random_sentences(rng)
+            slack = bytes(rng.below(256) for _ in range(rng.choice([0, 0, 1, 19, 20, 45])))
+            self.check(history(sentences, rng.shuffled(range(1, len(sentences) + 1)), slack))
+
+    def test_a_thousand_and_more(self):
+        for many in (999, 1000, 1001):
+            diary = text.history_bytes('7\n' * many)
+            self.assertEqual(oracle.check_history(diary)[0], 0 if many <= 1000 else 11)
+            self.assertEqual(text.history_text(diary), '7\n' * many)
+
+    def test_stored_cases_come_back_or_have_no_text(self):
+        for name, refusal, diary in vectors.HISTORY_TRAPS:
+            with self.subTest(name):
+                if refusal == 0:
+                    self.check(diary)
+                elif oracle.two_bytes(diary.ljust(4), 0) <= 1000:
+                    with self.assertRaises(text.Wrong):
+                        text.history_text(diary)
+
+    def test_errors(self):
+        for lines, message in [
+            ('1 2\n\n1 two', "line 3: a word is not a number: 'two'"),
+            ('1 256', 'line 1: a word is above 255: 256'),
+            ('# none\n' + '1 ' * 17, 'line 2: the sentence has 17 words, and 16 is the most'),
+            ('room 3\nroom 3', 'line 2: "room" stands there already'),
+            ('room 65536', 'line 1: room is above 65535: 65536'),
+            ('room x', "line 1: room is not a number: 'x'"),
+            ('room 1\n1\n2', 'there are 2 sentences, and room for 1'),
+        ]:
+            with self.subTest(lines), self.assertRaises(text.Wrong) as caught:
+                text.history_bytes(lines)
+            self.assertEqual(str(caught.exception), message)
+
+
+class Commands(unittest.TestCase):
+    def tool(self, *args, given=b''):
+        run = subprocess.run([TOOL, *map(str, args)], input=given, capture_output=True)
+        return run.returncode, run.stdout, run.stderr.decode()
+
+    def test_files_and_standard_input(self):
+        matrix = ROOT / 'examples' / 'matrix.txt'
+        self.assertEqual(self.tool('grammar', 'to-bytes', matrix), (0, oracle.matrix(), ''))
+        self.assertEqual(self.tool('grammar', 'to-text', given=oracle.matrix()), (0, bare(matrix.read_text()).encode(), ''))
+        self.assertEqual(self.tool('history', 'to-bytes', '-', given=b'5\n'), (0, history([b'\5']), ''))
+        self.assertEqual(self.tool('history', 'to-text', given=history([b'\5'])), (0, b'5\n', ''))
+
+    def test_listing(self):
+        with tempfile.TemporaryDirectory() as name:
+            bank, diary = pathlib.Path(name, 'bank'), pathlib.Path(name, 'diary')
+            bank.write_bytes(oracle.matrix())
+            diary.write_bytes(history([b'\5']))
+            joined = bytes([5, 229, 0]) + oracle.matrix() + history([b'\5'])
+            self.assertEqual(self.tool('listing', 5, bank, diary), (0, joined, ''))
+            status, output, errors = self.tool('listing', 256, bank, diary)
+            self.assertEqual((status, output, errors), (1, b'', 'pumpfennel-text: the length is above 255: 256\n'))
+            bank.write_bytes(bytes(65536))
+            self.assertEqual(self.tool('listing', 5, bank, diary)[:2], (1, b''))
+
+    def test_errors(self):
+        status, output, errors = self.tool('grammar', 'to-bytes', given=b'words 2\nstart zero\n')
+        self.assertEqual((status, output, errors), (1, b'', "pumpfennel-text: -: line 2: start is not a number: 'zero'\n"))
+        self.assertEqual(self.tool('history', 'to-bytes', given=b'\377')[::2], (1, 'pumpfennel-text: -: this is no text\n'))
+        self.assertEqual(self.tool('grammar', 'to-text', ROOT / 'no such file')[:2], (1, b''))
+        for args in [(), ('grammar',), ('grammar', 'to-hex'), ('listing', '5'), ('grammar', 'to-text', '-', '-')]:
+            self.assertEqual(self.tool(*args)[:2], (2, b''))
+        self.assertEqual(self.tool('--help')[0], 0)
+
+
+if __name__ == '__main__':
+    unittest.main()
