@@ -1,0 +1,73 @@
+//! The C functions as the archive has them.
+//!
+//! Each returns the refusal's number, 0 where the call is accepted. On a refusal every figure is 0 and every
+//! lent buffer is as it was. Nothing is required of the bytes and numbers handed in.
+//!
+//! # Safety
+//!
+//! A pointer and the length after it are those of a slice, a pointer alone is that of a figure. None is null,
+//! also where the length is 0. What a call may write overlaps nothing else that it is lent.
+
+unsafe extern "C" {
+    pub fn pumpfennel_check_grammar(
+        grammar: *const u8,
+        grammar_len: usize,
+        nonterminals: *mut u64,
+        words: *mut u64,
+    ) -> u8;
+
+    pub fn pumpfennel_check_history(history: *const u8, history_len: usize, records: *mut u64) -> u8;
+
+    pub fn pumpfennel_count(grammar: *const u8, grammar_len: usize, length: u64, total: *mut u64) -> u8;
+
+    pub fn pumpfennel_unrank(
+        grammar: *const u8,
+        grammar_len: usize,
+        length: u64,
+        number: u64,
+        sentence: *mut u8,
+        sentence_len: usize,
+        total: *mut u64,
+    ) -> u8;
+
+    pub fn pumpfennel_rank(
+        grammar: *const u8,
+        grammar_len: usize,
+        sentence: *const u8,
+        sentence_len: usize,
+        number: *mut u64,
+        total: *mut u64,
+    ) -> u8;
+
+    pub fn pumpfennel_remaining(
+        grammar: *const u8,
+        grammar_len: usize,
+        history: *const u8,
+        history_len: usize,
+        length: u64,
+        total: *mut u64,
+        heard: *mut u64,
+        remaining: *mut u64,
+    ) -> u8;
+
+    pub fn pumpfennel_draw(
+        grammar: *const u8,
+        grammar_len: usize,
+        history: *const u8,
+        history_len: usize,
+        length: u64,
+        draw: u64,
+        sentence: *mut u8,
+        sentence_len: usize,
+        remaining: *mut u64,
+        number: *mut u64,
+    ) -> u8;
+
+    pub fn pumpfennel_append(
+        history: *mut u8,
+        history_len: usize,
+        sentence: *const u8,
+        sentence_len: usize,
+        records: *mut u64,
+    ) -> u8;
+}

@@ -1,0 +1,332 @@
+//! A verified sampler of test sentences for cochlear implant fitting.
+//!
+//! A *grammar* derives sentences of 1 to 16 words, a *history* holds the sentences that one patient has heard. The
+//! calls count the derivations of a length, give the sentence of a derivation number and the number of a
+//! sentence, and draw from what is outside the history. Both are plain bytes, laid out as the project's document
+//! 01 says; it calls them bank and diary.
+//!
+//! The work is done by a proved archive, written by `rt staticlib pumpfennel` in the project's folder. This crate
+//! links it and gives each of its functions a safe face; it checks nothing itself and allocates nothing. No call
+//! requires anything of the bytes it is handed: what is wrong with them is a [`Refusal`]. After a refusal every
+//! lent buffer is as it was. Nothing is kept between calls. A call takes less than 192 KiB of stack.
+//!
+//! # The house matrix grammar
+//!
+//! Five groups of ten words, one word of each group: 100,000 sentences of five words and none of another length.
+//!
+//! ```
+//! use pumpfennel::{DerivationNumber, DrawNumber};
+//!
+//! let mut grammar = vec![9, 50, 54, 0, 1, 2, 3, 4, 5, 15, 25, 35, 45];
+//! grammar.extend([1, 4, 1, 0, 1, 5, 2, 0, 1, 6, 3, 0, 1, 7, 8, 0]);
+//! for word in 0..50 {
+//!     grammar.extend([0, word, 0, if word % 10 == 9 { 0 } else { word + 6 }]);
+//! }
+//! assert_eq!(grammar.len(), 229);
+//! assert_eq!(pumpfennel::count(&grammar, 5)?, 100_000);
+//! assert_eq!(pumpfennel::count(&grammar, 4)?, 0);
+//!
+//! // The sentence of a derivation number, and back.
+//! let mut sentence = [0; 5];
+//! pumpfennel::unrank(&grammar, 5, DerivationNumber(31415), &mut sentence)?;
+//! assert_eq!(sentence, [3, 11, 24, 31, 45]);
+//! assert_eq!(pumpfennel::rank(&grammar, &sentence)?.number, DerivationNumber(31415));
+//!
+//! // A history with room for 30 records. Once the sentence is heard, no draw gives it again.
+//! let mut history = [0; 4 + 20 * 30];
+//! pumpfennel::append(&mut history, &sentence)?;
+//! assert_eq!(pumpfennel::remaining(&grammar, &history, 5)?.remaining, 99_999);
+//! let drawn = pumpfennel::draw(&grammar, &history, 5, DrawNumber(31415), &mut sentence)?;
+//! assert_eq!(drawn.number, DerivationNumber(31416));
+//! assert_eq!(sentence, [3, 11, 24, 31, 46]);
+//! # Ok::<(), pumpfennel::Refusal>(())
+//! ```
+#![deny(unsafe_op_in_unsafe_fn, missing_docs)]
+
+#[allow(missing_docs)]
+pub mod ffi;
+mod refusal;
+
+pub use refusal::Refusal;
+
+/// How many derivations stand before one, among those of the start and its length.
+#[derive(Clone, Copy, Debug, PartialEq, Eq, PartialOrd, Ord, Hash)]
+pub struct DerivationNumber(pub u64);
+
+/// How many derivations with an unheard sentence stand before one. It never serves as a [`DerivationNumber`].
+#[derive(Clone, Copy, Debug, PartialEq, Eq, PartialOrd, Ord, Hash)]
+pub struct DrawNumber(pub u64);
+
+/// What [`check_grammar`] gives.
+#[derive(Clone, Copy, Debug, PartialEq, Eq)]
+pub struct GrammarCounts {
+    /// N, 1 to 32.
+    pub nonterminals: u64,
+    /// W, 1 to 255.
+    pub words: u64,
+}
+
+/// What [`rank`] gives.
+#[derive(Clone, Copy, Debug, PartialEq, Eq)]
+pub struct Ranked {
+    /// The sentence's derivation number.
+    pub number: DerivationNumber,
+    /// How many derivations there are of the sentence's length.
+    pub total: u64,
+}
+
+/// What [`remaining`] gives.
+#[derive(Clone, Copy, Debug, PartialEq, Eq)]
+pub struct Remaining {
+    /// How many derivations there are of that length.
+    pub total: u64,
+    /// How many different sentences of that length are heard and have a derivation.
+    pub heard: u64,
+    /// How many derivations have an unheard sentence: `total - heard`.
+    pub remaining: u64,
+}
+
+/// What [`draw`] gives.
+#[derive(Clone, Copy, Debug, PartialEq, Eq)]
+pub struct Drawn {
+    /// How many derivations have an unheard sentence.
+    pub remaining: u64,
+    /// The derivation number of the sentence drawn.
+    pub number: DerivationNumber,
+}
+
+fn accepted<T>(refusal: u8, figures: T) -> Result<T, Refusal> {
+    if refusal == 0 {
+        return Ok(figures);
+    }
+    Err(Refusal::from_number(refusal).expect("the archive refuses with a number of its list"))
+}
+
+/// Checks a grammar: how many nonterminals and words it has.
+///
+/// ```
+/// use pumpfennel::{GrammarCounts, Refusal};
+///
+/// let grammar = [2, 2, 4, 0, 1, 3, 1, 1, 1, 2, 1, 0, 1, 0, 0, 0, 0, 4, 0, 1, 0, 0];
+/// assert_eq!(pumpfennel::check_grammar(&grammar), Ok(GrammarCounts { nonterminals: 2, words: 2 }));
+/// assert_eq!(pumpfennel::check_grammar(&grammar[..21]), Err(Refusal::GrammarWrongSize));
+/// assert_eq!(pumpfennel::check_grammar(&[]), Err(Refusal::GrammarTooShort));
+/// ```
+///
+/// # Errors
+///
+/// Refusals 1 to 8.
+pub fn check_grammar(grammar: &[u8]) -> Result<GrammarCounts, Refusal> {
+    let (mut nonterminals, mut words) = (0, 0);
+    // SAFETY: a slice, and two figures of this function.
+    let refusal =
+        unsafe { ffi::pumpfennel_check_grammar(grammar.as_ptr(), grammar.len(), &mut nonterminals, &mut words) };
+    accepted(refusal, GrammarCounts { nonterminals, words })
+}
+
+/// Checks a history: how many records it has.
+///
+/// ```
+/// use pumpfennel::Refusal;
+///
+/// let mut history = [0; 24];
+/// assert_eq!(pumpfennel::check_history(&history), Ok(0));
+/// history[2] = 1; // a head and no record
+/// assert_eq!(pumpfennel::check_history(&history), Err(Refusal::HistoryBadLink));
+/// ```
+///
+/// # Errors
+///
+/// Refusals 11 to 14.
+pub fn check_history(history: &[u8]) -> Result<u64, Refusal> {
+    let mut records = 0;
+    // SAFETY: a slice, and a figure of this function.
+    let refusal = unsafe { ffi::pumpfennel_check_history(history.as_ptr(), history.len(), &mut records) };
+    accepted(refusal, records)
+}
+
+/// Counts the derivations of that length.
+///
+/// ```
+/// let grammar = [2, 2, 4, 0, 1, 3, 1, 1, 1, 2, 1, 0, 1, 0, 0, 0, 0, 4, 0, 1, 0, 0];
+/// assert_eq!(pumpfennel::count(&grammar, 1), Ok(0));
+/// assert_eq!(pumpfennel::count(&grammar, 2), Ok(4));
+/// assert_eq!(pumpfennel::count(&grammar, 16), Ok(65_536));
+/// ```
+///
+/// # Errors
+///
+/// Refusals 1 to 10.
+pub fn count(grammar: &[u8], length: u64) -> Result<u64, Refusal> {
+    let mut total = 0;
+    // SAFETY: a slice, and a figure of this function.
+    let refusal = unsafe { ffi::pumpfennel_count(grammar.as_ptr(), grammar.len(), length, &mut total) };
+    accepted(refusal, total)
+}
+
+/// Writes the sentence of a derivation number into the first bytes of `sentence`, and counts as [`count`] does.
+/// Bytes past the sentence keep their content.
+///
+/// ```
+/// use pumpfennel::{DerivationNumber, Refusal};
+///
+/// let grammar = [2, 2, 4, 0, 1, 3, 1, 1, 1, 2, 1, 0, 1, 0, 0, 0, 0, 4, 0, 1, 0, 0];
+/// let mut sentence = [7; 4];
+/// assert_eq!(pumpfennel::unrank(&grammar, 3, DerivationNumber(5), &mut sentence), Ok(8));
+/// assert_eq!(sentence, [1, 0, 1, 7]);
+/// assert_eq!(pumpfennel::unrank(&grammar, 3, DerivationNumber(8), &mut sentence), Err(Refusal::Beyond));
+/// ```
+///
+/// # Errors
+///
+/// Refusals 1 to 10, 16 and 20.
+pub fn unrank(grammar: &[u8], length: u64, number: DerivationNumber, sentence: &mut [u8]) -> Result<u64, Refusal> {
+    let mut total = 0;
+    // SAFETY: two slices, of which the one that is written is borrowed alone, and a figure of this function.
+    let refusal = unsafe {
+        ffi::pumpfennel_unrank(
+            grammar.as_ptr(),
+            grammar.len(),
+            length,
+            number.0,
+            sentence.as_mut_ptr(),
+            sentence.len(),
+            &mut total,
+        )
+    };
+    accepted(refusal, total)
+}
+
+/// Numbers a sentence that has one derivation.
+///
+/// ```
+/// use pumpfennel::{DerivationNumber, Ranked, Refusal};
+///
+/// let grammar = [2, 2, 4, 0, 1, 3, 1, 1, 1, 2, 1, 0, 1, 0, 0, 0, 0, 4, 0, 1, 0, 0];
+/// let ranked = Ranked { number: DerivationNumber(5), total: 8 };
+/// assert_eq!(pumpfennel::rank(&grammar, &[1, 0, 1]), Ok(ranked));
+/// assert_eq!(pumpfennel::rank(&grammar, &[1, 0, 2]), Err(Refusal::Underivable));
+/// ```
+///
+/// # Errors
+///
+/// Refusals 1 to 10, 17 and 18.
+pub fn rank(grammar: &[u8], sentence: &[u8]) -> Result<Ranked, Refusal> {
+    let (mut number, mut total) = (0, 0);
+    // SAFETY: two slices, and two figures of this function.
+    let refusal = unsafe {
+        ffi::pumpfennel_rank(
+            grammar.as_ptr(),
+            grammar.len(),
+            sentence.as_ptr(),
+            sentence.len(),
+            &mut number,
+            &mut total,
+        )
+    };
+    accepted(refusal, Ranked { number: DerivationNumber(number), total })
+}
+
+/// Counts what is outside the history.
+///
+/// ```
+/// use pumpfennel::Remaining;
+///
+/// let grammar = [2, 2, 4, 0, 1, 3, 1, 1, 1, 2, 1, 0, 1, 0, 0, 0, 0, 4, 0, 1, 0, 0];
+/// let mut history = [0; 24];
+/// pumpfennel::append(&mut history, &[0, 1])?;
+/// let remaining = Remaining { total: 4, heard: 1, remaining: 3 };
+/// assert_eq!(pumpfennel::remaining(&grammar, &history, 2)?, remaining);
+/// # Ok::<(), pumpfennel::Refusal>(())
+/// ```
+///
+/// # Errors
+///
+/// Refusals 1 to 15.
+pub fn remaining(grammar: &[u8], history: &[u8], length: u64) -> Result<Remaining, Refusal> {
+    let (mut total, mut heard, mut remaining) = (0, 0, 0);
+    // SAFETY: two slices, and three figures of this function.
+    let refusal = unsafe {
+        ffi::pumpfennel_remaining(
+            grammar.as_ptr(),
+            grammar.len(),
+            history.as_ptr(),
+            history.len(),
+            length,
+            &mut total,
+            &mut heard,
+            &mut remaining,
+        )
+    };
+    accepted(refusal, Remaining { total, heard, remaining })
+}
+
+/// Writes the sentence of a draw number into the first bytes of `sentence`: that of the derivation with an unheard
+/// sentence that has exactly so many such derivations before it. Bytes past the sentence keep their content.
+///
+/// ```
+/// use pumpfennel::{DerivationNumber, DrawNumber, Drawn, Refusal};
+///
+/// let grammar = [2, 2, 4, 0, 1, 3, 1, 1, 1, 2, 1, 0, 1, 0, 0, 0, 0, 4, 0, 1, 0, 0];
+/// let mut history = [0; 24];
+/// pumpfennel::append(&mut history, &[0, 1])?;
+/// let mut sentence = [0; 2];
+/// let drawn = Drawn { remaining: 3, number: DerivationNumber(2) };
+/// assert_eq!(pumpfennel::draw(&grammar, &history, 2, DrawNumber(1), &mut sentence)?, drawn);
+/// assert_eq!(sentence, [1, 0]);
+/// let past = pumpfennel::draw(&grammar, &history, 2, DrawNumber(3), &mut sentence);
+/// assert_eq!(past, Err(Refusal::Beyond));
+/// # Ok::<(), Refusal>(())
+/// ```
+///
+/// # Errors
+///
+/// Refusals 1 to 16 and 20.
+pub fn draw(
+    grammar: &[u8],
+    history: &[u8],
+    length: u64,
+    draw: DrawNumber,
+    sentence: &mut [u8],
+) -> Result<Drawn, Refusal> {
+    let (mut remaining, mut number) = (0, 0);
+    // SAFETY: three slices, of which the one that is written is borrowed alone, and two figures of this function.
+    let refusal = unsafe {
+        ffi::pumpfennel_draw(
+            grammar.as_ptr(),
+            grammar.len(),
+            history.as_ptr(),
+            history.len(),
+            length,
+            draw.0,
+            sentence.as_mut_ptr(),
+            sentence.len(),
+            &mut remaining,
+            &mut number,
+        )
+    };
+    accepted(refusal, Drawn { remaining, number: DerivationNumber(number) })
+}
+
+/// Adds a sentence to the history that `history` holds, and gives how many records there are then. The buffer
+/// must have room for the record, 20 bytes past the last one. Any word bytes will do.
+///
+/// ```
+/// let mut history = [0; 24]; // no record, and room for one
+/// assert_eq!(pumpfennel::append(&mut history, &[0, 1]), Ok(1));
+/// assert_eq!(history[..10], [1, 0, 1, 0, 0, 0, 2, 0, 0, 1]);
+/// assert_eq!(history[10..], [0; 14]);
+/// assert_eq!(pumpfennel::append(&mut history, &[0, 1]), Err(pumpfennel::Refusal::NoRoom));
+/// ```
+///
+/// # Errors
+///
+/// Refusals 9, 11 to 14 and 19.
+pub fn append(history: &mut [u8], sentence: &[u8]) -> Result<u64, Refusal> {
+    let mut records = 0;
+    // SAFETY: two slices, of which the one that is written is borrowed alone, and a figure of this function.
+    let refusal = unsafe {
+        ffi::pumpfennel_append(history.as_mut_ptr(), history.len(), sentence.as_ptr(), sentence.len(), &mut records)
+    };
+    accepted(refusal, records)
+}

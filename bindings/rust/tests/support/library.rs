@@ -1,0 +1,154 @@
+//! The library under test: each case through the C function and through the safe one.
+use super::case::{Answer, Call, Case};
+use pumpfennel::{DerivationNumber, DrawNumber, Refusal, ffi};
+
+const GUARD: usize = 24;
+const JUNK: u64 = 0xdead_beef_0bad_cafe;
+
+/// Bytes to lend, with guard bytes before and after them.
+struct Lent {
+    bytes: Vec<u8>,
+    from: usize,
+    to: usize,
+    guard: u8,
+}
+
+impl Lent {
+    /// `shift` moves the bytes against every alignment.
+    fn new(content: &[u8], guard: u8, shift: usize) -> Lent {
+        let (from, to) = (GUARD + shift, GUARD + shift + content.len());
+        let mut bytes = vec![guard; to + GUARD];
+        bytes[from..to].copy_from_slice(content);
+        Lent { bytes, from, to, guard }
+    }
+
+    fn slice(&self) -> &[u8] {
+        if self.from == self.to { &[] } else { &self.bytes[self.from..self.to] }
+    }
+
+    fn slice_mut(&mut self) -> &mut [u8] {
+        if self.from == self.to { &mut [] } else { &mut self.bytes[self.from..self.to] }
+    }
+
+    fn guarded(&self) -> bool {
+        let guards = self.bytes[..self.from].iter().chain(&self.bytes[self.to..]);
+        guards.into_iter().all(|&byte| byte == self.guard)
+    }
+}
+
+struct Loan {
+    grammar: Lent,
+    history: Lent,
+    sentence: Lent,
+}
+
+impl Loan {
+    fn new(case: &Case, guard: u8) -> Loan {
+        let shift = usize::from(guard) % 7 + case.length as usize % 8;
+        Loan {
+            grammar: Lent::new(&case.grammar, guard, shift),
+            history: Lent::new(&case.history, guard, shift + 1),
+            sentence: Lent::new(&case.sentence, guard, shift + 3),
+        }
+    }
+
+    /// The written buffer, where nothing else changed.
+    fn back(self, case: &Case) -> Result<Vec<u8>, String> {
+        for (name, lent) in [("grammar", &self.grammar), ("history", &self.history), ("sentence", &self.sentence)] {
+            if !lent.guarded() {
+                return Err(format!("a byte outside the {name} was written"));
+            }
+        }
+        let buffer = match case.call {
+            Call::Unrank | Call::Draw => self.sentence.slice().to_vec(),
+            Call::Append => self.history.slice().to_vec(),
+            _ => vec![],
+        };
+        let writes_sentence = matches!(case.call, Call::Unrank | Call::Draw);
+        if self.grammar.slice() != case.grammar
+            || (case.call != Call::Append && self.history.slice() != case.history)
+            || (!writes_sentence && self.sentence.slice() != case.sentence)
+        {
+            return Err("an input was written".to_string());
+        }
+        Ok(buffer)
+    }
+}
+
+/// Through the C function, the figures preset to junk and parted by junk.
+fn through_c(case: &Case) -> Result<Answer, String> {
+    let mut loan = Loan::new(case, 0xa5);
+    let mut figures = [JUNK; 7];
+    let [_, first, _, second, _, third, _] = &mut figures;
+    let Case { length, number, .. } = *case;
+    let (g, h, s) = (loan.grammar.slice(), loan.history.slice(), loan.sentence.slice());
+    let (gp, gl, hp, hl, sp, sl) = (g.as_ptr(), g.len(), h.as_ptr(), h.len(), s.as_ptr(), s.len());
+    // SAFETY: slices with their lengths, figures of this function; what is written is borrowed just before.
+    let refusal = unsafe {
+        match case.call {
+            Call::CheckGrammar => ffi::pumpfennel_check_grammar(gp, gl, first, second),
+            Call::CheckHistory => ffi::pumpfennel_check_history(hp, hl, first),
+            Call::Count => ffi::pumpfennel_count(gp, gl, length, first),
+            Call::Unrank => {
+                let out = loan.sentence.slice_mut().as_mut_ptr();
+                ffi::pumpfennel_unrank(gp, gl, length, number, out, sl, first)
+            }
+            Call::Rank => ffi::pumpfennel_rank(gp, gl, sp, sl, first, second),
+            Call::Remaining => ffi::pumpfennel_remaining(gp, gl, hp, hl, length, first, second, third),
+            Call::Draw => {
+                let out = loan.sentence.slice_mut().as_mut_ptr();
+                ffi::pumpfennel_draw(gp, gl, hp, hl, length, number, out, sl, first, second)
+            }
+            Call::Append => {
+                let out = loan.history.slice_mut().as_mut_ptr();
+                ffi::pumpfennel_append(out, hl, sp, sl, first)
+            }
+        }
+    };
+    let buffer = loan.back(case)?;
+    let given = case.call.figures();
+    let kept = figures.iter().enumerate().filter(|(i, _)| i % 2 == 0 || i / 2 >= given);
+    if kept.into_iter().any(|(_, &figure)| figure != JUNK) {
+        return Err("a number beside the figures was written".to_string());
+    }
+    Ok(Answer { refusal, figures: (0..given).map(|i| figures[2 * i + 1]).collect(), buffer })
+}
+
+/// Through the safe function, with other guard bytes and in other places.
+fn through_rust(case: &Case) -> Result<Answer, String> {
+    let mut loan = Loan::new(case, 0x5a);
+    let length = case.length;
+    let (g, h) = (loan.grammar.slice(), loan.history.slice());
+    let result: Result<Vec<u64>, Refusal> = match case.call {
+        Call::CheckGrammar => pumpfennel::check_grammar(g).map(|c| vec![c.nonterminals, c.words]),
+        Call::CheckHistory => pumpfennel::check_history(h).map(|records| vec![records]),
+        Call::Count => pumpfennel::count(g, length).map(|total| vec![total]),
+        Call::Unrank => {
+            let out = loan.sentence.slice_mut();
+            pumpfennel::unrank(g, length, DerivationNumber(case.number), out).map(|total| vec![total])
+        }
+        Call::Rank => pumpfennel::rank(g, loan.sentence.slice()).map(|r| vec![r.number.0, r.total]),
+        Call::Remaining => pumpfennel::remaining(g, h, length).map(|r| vec![r.total, r.heard, r.remaining]),
+        Call::Draw => {
+            let out = loan.sentence.slice_mut();
+            pumpfennel::draw(g, h, length, DrawNumber(case.number), out).map(|d| vec![d.remaining, d.number.0])
+        }
+        Call::Append => {
+            pumpfennel::append(loan.history.slice_mut(), loan.sentence.slice()).map(|records| vec![records])
+        }
+    };
+    let buffer = loan.back(case)?;
+    Ok(match result {
+        Ok(figures) => Answer { refusal: 0, figures, buffer },
+        Err(refusal) => Answer { refusal: refusal.number(), figures: vec![0; case.call.figures()], buffer },
+    })
+}
+
+/// What both ways answer, or what is wrong with them.
+pub fn answer(case: &Case) -> Result<Answer, String> {
+    let (c, rust) = (through_c(case)?, through_rust(case)?);
+    if c != rust {
+        return Err(format!("the C function gave {c}, the safe one {rust}"));
+    }
+    Ok(c)
+}

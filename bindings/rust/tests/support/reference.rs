@@ -1,0 +1,462 @@
+//! Document 01 once more in plain Rust, for the tests alone: slow, and written from the document's text. Where there
+//! are few derivations they are written down one by one; else the answers come from exact counts.
+use super::case::{Answer, Call, Case};
+use std::collections::BTreeSet;
+
+/// The most derivations, over all nonterminals and lengths, that are written down.
+const LISTED: u128 = 300;
+
+#[derive(Clone, Copy, PartialEq, Eq)]
+pub enum Rule {
+    Word(u8),
+    Pair(usize, usize),
+}
+
+/// An accepted grammar: for each nonterminal its rules in the order of its chain.
+pub struct Grammar {
+    pub words: u8,
+    pub start: usize,
+    pub chains: Vec<Vec<Rule>>,
+}
+
+/// "Bank bytes", and 1 to 8.
+pub fn read_grammar(bytes: &[u8]) -> Result<Grammar, u8> {
+    let [n, w, r, s] = *bytes.first_chunk::<4>().ok_or(1)?;
+    if !(1..=32).contains(&n) || w == 0 || r == 0 || s >= n {
+        return Err(2);
+    }
+    let n = usize::from(n);
+    if bytes.len() != 4 + n + 4 * usize::from(r) {
+        return Err(3);
+    }
+    let (heads, rules) = bytes[4..].split_at(n);
+    let rules: Vec<&[u8]> = rules.chunks(4).collect();
+    let mut bodies = vec![];
+    for rule in &rules {
+        let (a, b) = (usize::from(rule[1]), usize::from(rule[2]));
+        bodies.push(match rule[0] {
+            0 if rule[1] < w && b == 0 => Rule::Word(rule[1]),
+            1 if a < n && b < n => Rule::Pair(a, b),
+            _ => return Err(4),
+        });
+    }
+    if heads.iter().chain(rules.iter().map(|rule| &rule[3])).any(|&link| link > r) {
+        return Err(5);
+    }
+    let mut met = vec![false; rules.len()];
+    let mut chains = vec![];
+    for &head in heads {
+        let (mut chain, mut at) = (vec![], usize::from(head));
+        while at != 0 {
+            if met[at - 1] {
+                return Err(6);
+            }
+            met[at - 1] = true;
+            chain.push(bodies[at - 1]);
+            at = usize::from(rules[at - 1][3]);
+        }
+        chains.push(chain);
+    }
+    if met.contains(&false) {
+        return Err(7);
+    }
+    for chain in &chains {
+        if chain.iter().enumerate().any(|(i, rule)| chain[..i].contains(rule)) {
+            return Err(8);
+        }
+    }
+    Ok(Grammar { words: w, start: usize::from(s), chains })
+}
+
+/// T(A, m) at `[m][A]`, for m up to the length; or 10, where one is above 2^64 - 1.
+pub fn totals(grammar: &Grammar, length: usize) -> Result<Vec<Vec<u64>>, u8> {
+    let mut t = vec![vec![0; grammar.chains.len()]];
+    for _ in 1..=length {
+        t.push(next_row(grammar, &t)?);
+    }
+    Ok(t)
+}
+
+/// T(A, m) by A, from the rows below m.
+pub fn next_row(grammar: &Grammar, t: &[Vec<u64>]) -> Result<Vec<u64>, u8> {
+    let m = t.len();
+    let mut row = vec![];
+    for chain in &grammar.chains {
+        let mut sum = 0u128;
+        for rule in chain {
+            match *rule {
+                Rule::Word(_) if m == 1 => sum += 1,
+                Rule::Word(_) => {}
+                Rule::Pair(b, c) => {
+                    for k in 1..m {
+                        sum = sum.saturating_add(u128::from(t[k][b]) * u128::from(t[m - k][c]));
+                    }
+                }
+            }
+        }
+        row.push(u64::try_from(sum).map_err(|_| 10)?);
+    }
+    Ok(row)
+}
+
+/// How many derivations a sentence has, and the number of a single one.
+#[derive(Clone, Copy, Debug, PartialEq, Eq)]
+pub enum Readings {
+    None,
+    One(u64),
+    Many,
+}
+
+/// The full list of one length.
+pub enum Full<'a> {
+    Listed(Vec<Vec<u8>>),
+    Counted(Counted<'a>),
+}
+
+impl<'a> Full<'a> {
+    pub fn new(grammar: &'a Grammar, length: usize) -> Result<Full<'a>, u8> {
+        let t = totals(grammar, length)?;
+        let all: u128 = t.iter().flatten().map(|&count| u128::from(count)).sum();
+        if all <= LISTED {
+            return Ok(Full::Listed(listed(grammar, length)));
+        }
+        Ok(Full::Counted(Counted { grammar, length, t }))
+    }
+
+    pub fn total(&self) -> u64 {
+        match self {
+            Full::Listed(list) => list.len() as u64,
+            Full::Counted(counted) => counted.t[counted.length][counted.grammar.start],
+        }
+    }
+
+    /// The sentence of a derivation number below the total.
+    pub fn sentence(&self, number: u64) -> Vec<u8> {
+        match self {
+            Full::Listed(list) => list[number as usize].clone(),
+            Full::Counted(counted) => {
+                let mut words = vec![];
+                counted.unrank(counted.grammar.start, counted.length, number, &mut words);
+                words
+            }
+        }
+    }
+
+    /// Of a sentence of the list's length.
+    pub fn readings(&self, sentence: &[u8]) -> Readings {
+        match self {
+            Full::Listed(list) => {
+                let mut places = (0..list.len()).filter(|&d| list[d] == sentence);
+                match (places.next(), places.next()) {
+                    (None, _) => Readings::None,
+                    (Some(d), None) => Readings::One(d as u64),
+                    _ => Readings::Many,
+                }
+            }
+            Full::Counted(counted) => counted.readings(sentence),
+        }
+    }
+
+    /// The unheard list: its length, and entry q, if there is one, as its derivation number. `struck` are the heard
+    /// derivation numbers.
+    fn unheard(&self, heard: &BTreeSet<&[u8]>, struck: &BTreeSet<u64>, q: u64) -> (u64, Option<u64>) {
+        if let Full::Listed(list) = self {
+            let left: Vec<usize> = (0..list.len()).filter(|&d| !heard.contains(&list[d][..])).collect();
+            let entry = if q < left.len() as u64 { Some(left[q as usize] as u64) } else { None };
+            return (left.len() as u64, entry);
+        }
+        // The gaps between the struck numbers, one after another.
+        let (mut from, mut ahead) = (0, q);
+        for &number in struck {
+            let gap = number - from;
+            if ahead < gap {
+                break;
+            }
+            ahead -= gap;
+            from = number + 1;
+        }
+        let left = self.total() - struck.len() as u64;
+        (left, if q < left { Some(from + ahead) } else { None })
+    }
+}
+
+/// Every derivation of the start and that length, as its sentence, in order.
+pub fn listed(grammar: &Grammar, length: usize) -> Vec<Vec<u8>> {
+    let mut lists: Vec<Vec<Vec<Vec<u8>>>> = vec![vec![]];
+    for m in 1..=length {
+        let mut row = vec![];
+        for chain in &grammar.chains {
+            let mut list = vec![];
+            for rule in chain {
+                match *rule {
+                    Rule::Word(word) if m == 1 => list.push(vec![word]),
+                    Rule::Word(_) => {}
+                    Rule::Pair(b, c) => {
+                        for k in 1..m {
+                            for left in &lists[k][b] {
+                                for right in &lists[m - k][c] {
+                                    list.push([&left[..], &right[..]].concat());
+                                }
+                            }
+                        }
+                    }
+                }
+            }
+            row.push(list);
+        }
+        lists.push(row);
+    }
+    lists.pop().unwrap().swap_remove(grammar.start)
+}
+
+pub struct Counted<'a> {
+    pub grammar: &'a Grammar,
+    pub length: usize,
+    pub t: Vec<Vec<u64>>,
+}
+
+impl Counted<'_> {
+    fn unrank(&self, a: usize, m: usize, mut d: u64, words: &mut Vec<u8>) {
+        for rule in &self.grammar.chains[a] {
+            match *rule {
+                Rule::Word(word) if m == 1 => {
+                    if d == 0 {
+                        words.push(word);
+                        return;
+                    }
+                    d -= 1;
+                }
+                Rule::Word(_) => {}
+                Rule::Pair(b, c) => {
+                    for k in 1..m {
+                        let (left, right) = (self.t[k][b], self.t[m - k][c]);
+                        if u128::from(d) < u128::from(left) * u128::from(right) {
+                            self.unrank(b, k, d / right, words);
+                            self.unrank(c, m - k, d % right, words);
+                            return;
+                        }
+                        d -= left * right;
+                    }
+                }
+            }
+        }
+        unreachable!("the number is below the total");
+    }
+
+    /// How many derivations, none, one or 2 for more, of each run of the words: at `[m][p][A]`.
+    fn runs(&self, sentence: &[u8]) -> Vec<Vec<Vec<u8>>> {
+        let chains = &self.grammar.chains;
+        let mut runs: Vec<Vec<Vec<u8>>> = vec![vec![]];
+        for m in 1..=sentence.len() {
+            let mut row = vec![];
+            for p in 0..=sentence.len() - m {
+                let mut cell = vec![0u8; chains.len()];
+                for (a, chain) in chains.iter().enumerate() {
+                    for rule in chain {
+                        match *rule {
+                            Rule::Word(word) => cell[a] += u8::from(m == 1 && word == sentence[p]),
+                            Rule::Pair(b, c) => {
+                                for k in 1..m {
+                                    cell[a] = (cell[a] + runs[k][p][b] * runs[m - k][p + k][c]).min(2);
+                                }
+                            }
+                        }
+                    }
+                }
+                row.push(cell);
+            }
+            runs.push(row);
+        }
+        runs
+    }
+
+    fn readings(&self, sentence: &[u8]) -> Readings {
+        let runs = self.runs(sentence);
+        match runs[sentence.len()][0][self.grammar.start] {
+            0 => Readings::None,
+            1 => Readings::One(self.place(&runs, sentence, self.grammar.start, 0, sentence.len())),
+            _ => Readings::Many,
+        }
+    }
+
+    /// How many derivations of A and length m stand before the one of the words from p on.
+    fn place(&self, runs: &[Vec<Vec<u8>>], sentence: &[u8], a: usize, p: usize, m: usize) -> u64 {
+        let mut before = 0;
+        for rule in &self.grammar.chains[a] {
+            match *rule {
+                Rule::Word(word) if m == 1 => {
+                    if word == sentence[p] {
+                        return before;
+                    }
+                    before += 1;
+                }
+                Rule::Word(_) => {}
+                Rule::Pair(b, c) => {
+                    for k in 1..m {
+                        let right = self.t[m - k][c];
+                        if runs[k][p][b] != 0 && runs[m - k][p + k][c] != 0 {
+                            let left_place = self.place(runs, sentence, b, p, k);
+                            let right_place = self.place(runs, sentence, c, p + k, m - k);
+                            return before + left_place * right + right_place;
+                        }
+                        before += self.t[k][b] * right;
+                    }
+                }
+            }
+        }
+        unreachable!("the sentence has a derivation");
+    }
+}
+
+fn two_bytes(bytes: &[u8], at: usize) -> usize {
+    usize::from(bytes[at]) + 256 * usize::from(bytes[at + 1])
+}
+
+/// "Diary bytes", and 11 to 14: the sentences along the chain.
+pub fn read_history(bytes: &[u8]) -> Result<Vec<&[u8]>, u8> {
+    if bytes.len() < 4 || two_bytes(bytes, 0) > 1000 || bytes.len() < 4 + 20 * two_bytes(bytes, 0) {
+        return Err(11);
+    }
+    let (k, head) = (two_bytes(bytes, 0), two_bytes(bytes, 2));
+    let records: Vec<&[u8]> = bytes[4..4 + 20 * k].chunks(20).collect();
+    for record in &records {
+        let length = usize::from(record[2]);
+        if !(1..=16).contains(&length) || record[3] != 0 || record[4 + length..].iter().any(|&byte| byte != 0) {
+            return Err(12);
+        }
+    }
+    if head > k || records.iter().any(|record| two_bytes(record, 0) > k) {
+        return Err(13);
+    }
+    let (mut met, mut at, mut sentences) = (vec![false; k], head, vec![]);
+    while at != 0 {
+        if met[at - 1] {
+            return Err(14);
+        }
+        met[at - 1] = true;
+        let record = records[at - 1];
+        sentences.push(&record[4..4 + usize::from(record[2])]);
+        at = two_bytes(record, 0);
+    }
+    if met.contains(&false) {
+        return Err(14);
+    }
+    Ok(sentences)
+}
+
+/// 9.
+fn fitting(length: u64) -> Result<usize, u8> {
+    if (1..=16).contains(&length) { Ok(length as usize) } else { Err(9) }
+}
+
+/// The heard sentences of that length, and the derivation numbers of those that have a derivation; or 15.
+fn heard<'a>(sentences: &[&'a [u8]], length: usize, full: &Full) -> Result<(BTreeSet<&'a [u8]>, BTreeSet<u64>), u8> {
+    let heard: BTreeSet<&[u8]> = sentences.iter().copied().filter(|sentence| sentence.len() == length).collect();
+    let mut struck = BTreeSet::new();
+    for sentence in &heard {
+        match full.readings(sentence) {
+            Readings::None => {}
+            Readings::One(number) => assert!(struck.insert(number)),
+            Readings::Many => return Err(15),
+        }
+    }
+    Ok((heard, struck))
+}
+
+/// The figures, and the buffer after the call; or the first refusal that applies.
+fn attempt(case: &Case) -> Result<(Vec<u64>, Vec<u8>), u8> {
+    let written = |sentence: &[u8]| [sentence, &case.sentence[sentence.len()..]].concat();
+    match case.call {
+        Call::CheckGrammar => {
+            let grammar = read_grammar(&case.grammar)?;
+            Ok((vec![grammar.chains.len() as u64, u64::from(grammar.words)], vec![]))
+        }
+        Call::CheckHistory => Ok((vec![read_history(&case.history)?.len() as u64], vec![])),
+        Call::Count => {
+            let grammar = read_grammar(&case.grammar)?;
+            let length = fitting(case.length)?;
+            Ok((vec![totals(&grammar, length)?[length][grammar.start]], vec![]))
+        }
+        Call::Unrank => {
+            let grammar = read_grammar(&case.grammar)?;
+            let length = fitting(case.length)?;
+            let full = Full::new(&grammar, length)?;
+            if case.number >= full.total() {
+                return Err(16);
+            }
+            if case.sentence.len() < length {
+                return Err(20);
+            }
+            Ok((vec![full.total()], written(&full.sentence(case.number))))
+        }
+        Call::Rank => {
+            let grammar = read_grammar(&case.grammar)?;
+            let length = fitting(case.sentence.len() as u64)?;
+            let full = Full::new(&grammar, length)?;
+            match full.readings(&case.sentence) {
+                Readings::None => Err(17),
+                Readings::One(number) => Ok((vec![number, full.total()], vec![])),
+                Readings::Many => Err(18),
+            }
+        }
+        Call::Remaining => {
+            let grammar = read_grammar(&case.grammar)?;
+            let length = fitting(case.length)?;
+            let full = Full::new(&grammar, length)?;
+            let sentences = read_history(&case.history)?;
+            let (heard, struck) = heard(&sentences, length, &full)?;
+            let (left, _) = full.unheard(&heard, &struck, 0);
+            assert_eq!(left, full.total() - struck.len() as u64);
+            Ok((vec![full.total(), struck.len() as u64, left], vec![]))
+        }
+        Call::Draw => {
+            let grammar = read_grammar(&case.grammar)?;
+            let length = fitting(case.length)?;
+            let full = Full::new(&grammar, length)?;
+            let sentences = read_history(&case.history)?;
+            let (heard, struck) = heard(&sentences, length, &full)?;
+            let (left, entry) = full.unheard(&heard, &struck, case.number);
+            let number = entry.ok_or(16)?;
+            if case.sentence.len() < length {
+                return Err(20);
+            }
+            Ok((vec![left, number], written(&full.sentence(number))))
+        }
+        Call::Append => {
+            let length = fitting(case.sentence.len() as u64)?;
+            let k = read_history(&case.history)?.len();
+            if k == 1000 || case.history.len() < 4 + 20 * (k + 1) {
+                return Err(19);
+            }
+            let mut after = case.history.clone();
+            let (low, high) = ((k + 1) as u8, ((k + 1) / 256) as u8);
+            after[..4].copy_from_slice(&[low, high, low, high]);
+            let record = &mut after[4 + 20 * k..][..20];
+            record.fill(0);
+            record[..2].copy_from_slice(&case.history[2..4]);
+            record[2] = length as u8;
+            record[4..4 + length].copy_from_slice(&case.sentence);
+            Ok((vec![k as u64 + 1], after))
+        }
+    }
+}
+
+pub fn answer(case: &Case) -> Answer {
+    match attempt(case) {
+        Ok((figures, buffer)) => Answer { refusal: 0, figures, buffer },
+        Err(refusal) => Answer { refusal, figures: vec![0; case.call.figures()], buffer: case.buffer().to_vec() },
+    }
+}
+
+/// Whether the two ways say the same: every sentence and its readings, written down and by counts.
+pub fn ways_agree(grammar: &Grammar, length: usize, tried: &[Vec<u8>]) -> bool {
+    let t = totals(grammar, length).expect("counts that fit");
+    let list = Full::Listed(listed(grammar, length));
+    let counted = Full::Counted(Counted { grammar, length, t });
+    list.total() == counted.total()
+        && (0..list.total()).all(|d| {
+            let sentence = list.sentence(d);
+            sentence == counted.sentence(d) && list.readings(&sentence) == counted.readings(&sentence)
+        })
+        && tried.iter().all(|sentence| list.readings(sentence) == counted.readings(sentence))
+}
