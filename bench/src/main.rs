@@ -1,0 +1,512 @@
+//! Measures the library against the plain version: first that both answer alike, then the times, as tables.
+use bench::banks::{self, Rng};
+use bench::{ours, plain};
+use std::collections::HashSet;
+use std::fs::File;
+use std::hint::black_box;
+use std::path::{Path, PathBuf};
+use std::process::{Command, Stdio};
+use std::time::{Duration, Instant};
+
+const RANDOM: usize = 20_000;
+const MANY: usize = 2_000;
+const DRAWS: usize = 20;
+
+// ---- Both answer alike
+
+/// How often each refusal was given, 0 for accepted.
+struct Alike {
+    refusals: [usize; 21],
+    calls: usize,
+}
+
+impl Alike {
+    fn note<T: PartialEq + std::fmt::Debug>(&mut self, call: &str, input: &dyn std::fmt::Debug, a: Result<T, u8>, b: Result<T, u8>) {
+        if a != b {
+            eprintln!("{call} differs: ours {a:?}, plain {b:?}, on {input:?}");
+            std::process::exit(1);
+        }
+        self.calls += 1;
+        self.refusals[*a.as_ref().err().unwrap_or(&0) as usize] += 1;
+    }
+
+    fn same_buffers(&self, call: &str, input: &dyn std::fmt::Debug, a: &[u8], b: &[u8]) {
+        if a != b {
+            eprintln!("{call} differs in the buffer: ours {a:?}, plain {b:?}, on {input:?}");
+            std::process::exit(1);
+        }
+    }
+
+    fn grammar(&mut self, g: &[u8]) {
+        self.note("check_grammar", &g, ours::check_grammar(g), plain::check_grammar(g));
+    }
+
+    fn count(&mut self, g: &[u8], n: u64) {
+        self.note("count", &(g, n), ours::count(g, n), plain::count(g, n));
+    }
+
+    fn unrank(&mut self, g: &[u8], n: u64, d: u64, room: usize) {
+        let (mut x, mut y) = (vec![77; room], vec![77; room]);
+        let input = (g, n, d, room);
+        self.note("unrank", &input, ours::unrank(g, n, d, &mut x), plain::unrank(g, n, d, &mut y));
+        self.same_buffers("unrank", &input, &x, &y);
+    }
+
+    fn rank(&mut self, g: &[u8], s: &[u8]) {
+        self.note("rank", &(g, s), ours::rank(g, s), plain::rank(g, s));
+    }
+
+    fn history(&mut self, h: &[u8]) {
+        self.note("check_history", &h, ours::check_history(h), plain::check_history(h));
+    }
+
+    fn remaining(&mut self, g: &[u8], h: &[u8], n: u64) {
+        self.note("remaining", &(g, h, n), ours::remaining(g, h, n), plain::remaining(g, h, n));
+    }
+
+    fn draw(&mut self, g: &[u8], h: &[u8], n: u64, q: u64, room: usize) {
+        let (mut x, mut y) = (vec![77; room], vec![77; room]);
+        let input = (g, h, n, q, room);
+        self.note("draw", &input, ours::draw(g, h, n, q, &mut x), plain::draw(g, h, n, q, &mut y));
+        self.same_buffers("draw", &input, &x, &y);
+    }
+
+    fn append(&mut self, h: &[u8], s: &[u8]) {
+        let (mut x, mut y) = (h.to_vec(), h.to_vec());
+        let input = (h, s);
+        self.note("append", &input, ours::append(&mut x, s), plain::append(&mut y, s));
+        self.same_buffers("append", &input, &x, &y);
+    }
+}
+
+/// Small random inputs, all eight calls on each.
+fn random_inputs(alike: &mut Alike) {
+    let mut rng = Rng::new(1);
+    for _ in 0..RANDOM {
+        let g = banks::small_bank(&mut rng);
+        let n = match rng.below(12) {
+            0 => 0,
+            1 => 16,
+            2 => 17,
+            3 => rng.next(),
+            _ => 1 + rng.below(5),
+        };
+        let total = plain::count(&g, n).unwrap_or(0);
+        let derivable = |rng: &mut Rng| {
+            let mut s = vec![0; 16];
+            let d = rng.below(total.max(1));
+            plain::unrank(&g, n, d, &mut s).ok()?;
+            s.truncate(n as usize);
+            Some(s)
+        };
+        let h = banks::small_history(&mut rng, &mut |rng| derivable(rng));
+        let s = match rng.below(8) {
+            0 => vec![0; rng.index(40)],
+            1 | 2 => banks::small_sentence(&mut rng),
+            _ => derivable(&mut rng).unwrap_or_default(),
+        };
+        let room = if rng.below(6) == 0 { rng.index(6) } else { 17 };
+        let number = |rng: &mut Rng| match rng.below(5) {
+            0 => rng.next(),
+            1 => total,
+            _ => rng.below(total.saturating_add(2).min(1 << 40)),
+        };
+        alike.grammar(&g);
+        alike.count(&g, n);
+        alike.unrank(&g, n, number(&mut rng), room);
+        alike.rank(&g, &s);
+        alike.history(&h);
+        alike.remaining(&g, &h, n);
+        alike.draw(&g, &h, n, number(&mut rng), room);
+        alike.append(&h, &s);
+    }
+}
+
+// ---- Times
+
+struct Row {
+    ours: f64,
+    plain: f64,
+}
+
+struct Table {
+    title: String,
+    first: &'static str,
+    rows: Vec<(String, Row)>,
+}
+
+/// The tables so far: of each row the best time of each side over the sweeps.
+#[derive(Default)]
+struct Report {
+    tables: Vec<Table>,
+    current: usize,
+}
+
+impl Report {
+    fn table(&mut self, title: String, first: &'static str) {
+        self.current = match self.tables.iter().position(|t| t.title == title) {
+            Some(i) => i,
+            None => {
+                self.tables.push(Table { title, first, rows: Vec::new() });
+                self.tables.len() - 1
+            }
+        };
+    }
+
+    fn row(&mut self, what: &str, row: Row) {
+        let rows = &mut self.tables[self.current].rows;
+        match rows.iter_mut().find(|(w, _)| w == what) {
+            Some((_, old)) => {
+                old.ours = old.ours.min(row.ours);
+                old.plain = old.plain.min(row.plain);
+            }
+            None => rows.push((what.to_string(), row)),
+        }
+    }
+
+    fn print(&self) {
+        for t in &self.tables {
+            println!("\n{}\n\n| {} | ours | plain Rust | ratio |\n|---|---:|---:|---:|", t.title, t.first);
+            for (what, row) in &t.rows {
+                println!("| {what} | {} | {} | {:.2} |", shown(row.ours), shown(row.plain), row.ours / row.plain);
+            }
+        }
+    }
+}
+
+/// A call's time in nanoseconds. The inputs go through in chunks of some 100 µs; each chunk is timed for ours and then for plain, round after
+/// round, and counts with its best round. The rounds end once none was better by a two-hundredth for as long as `BUDGET`.
+fn measure<A>(inputs: usize, mut ours: impl FnMut(usize) -> A, mut plain: impl FnMut(usize) -> A) -> Row {
+    let mut slow = f64::MAX;
+    for _ in 0..5 {
+        let from = Instant::now();
+        black_box(ours(black_box(0)));
+        black_box(plain(black_box(0)));
+        slow = slow.min(from.elapsed().as_nanos() as f64 / 2.0);
+    }
+    let chunk = ((100_000.0 / slow) as usize).clamp(1, 5_000);
+    let chunks = inputs.div_ceil(chunk).max(1);
+    let mut best = vec![(u64::MAX, u64::MAX); chunks];
+    let begun = Instant::now();
+    let (mut better, mut sum) = (begun, u64::MAX);
+    let mut round = 0;
+    while round < 5 || better.elapsed() < BUDGET && begun.elapsed() < MOST {
+        for (c, b) in best.iter_mut().enumerate() {
+            let from = Instant::now();
+            for i in 0..chunk {
+                black_box(ours(black_box((c * chunk + i) % inputs)));
+            }
+            let between = Instant::now();
+            for i in 0..chunk {
+                black_box(plain(black_box((c * chunk + i) % inputs)));
+            }
+            let end = Instant::now();
+            b.0 = b.0.min((between - from).as_nanos() as u64);
+            b.1 = b.1.min((end - between).as_nanos() as u64);
+        }
+        round += 1;
+        let now = best.iter().map(|b| b.0 + b.1).sum::<u64>();
+        if round <= 5 || now < sum - sum / 200 {
+            (better, sum) = (Instant::now(), now);
+        }
+    }
+    let calls = (chunk * chunks) as f64;
+    Row { ours: best.iter().map(|b| b.0).sum::<u64>() as f64 / calls, plain: best.iter().map(|b| b.1).sum::<u64>() as f64 / calls }
+}
+
+fn shown(ns: f64) -> String {
+    if ns < 1_000.0 {
+        format!("{ns:.0} ns")
+    } else if ns < 100_000.0 {
+        format!("{:.2} µs", ns / 1e3)
+    } else if ns < 1_000_000.0 {
+        format!("{:.0} µs", ns / 1e3)
+    } else {
+        format!("{:.2} ms", ns / 1e6)
+    }
+}
+
+const BUDGET: Duration = Duration::from_millis(250);
+const MOST: Duration = Duration::from_secs(3);
+
+// ---- Inputs
+
+struct Case {
+    name: &'static str,
+    /// The same shape with other seeds: other chains and rule numbers. The first is the one that histories belong to.
+    banks: Vec<Vec<u8>>,
+    length: u64,
+    total: u64,
+    sentences: Vec<Vec<u8>>,
+    numbers: Vec<u64>,
+    /// Histories of 1,000 distinct derivable sentences, and 500 of them as calls of *Log* leave it.
+    full: Vec<Vec<u8>>,
+    half: Vec<u8>,
+    /// As many records, with repeats and other lengths.
+    mixed: Vec<Vec<u8>>,
+}
+
+fn sentence(bank: &[u8], n: u64, d: u64) -> Vec<u8> {
+    let mut s = vec![0; n as usize];
+    plain::unrank(bank, n, d, &mut s).expect("d is below T");
+    s
+}
+
+fn case(name: &'static str, banks: Vec<Vec<u8>>, length: u64, mixed: bool) -> Case {
+    let mut rng = Rng::new(2);
+    let bank = &banks[0];
+    for b in &banks {
+        plain::count(b, length).expect("an accepted bank");
+    }
+    let total = plain::count(bank, length).expect("an accepted bank");
+    let numbers: Vec<u64> = (0..MANY).map(|_| rng.below(total - 1_000)).collect();
+    let sentences = numbers.iter().map(|&d| sentence(bank, length, d)).collect();
+    let mut case = Case { name, length, total, sentences, numbers, full: Vec::new(), half: Vec::new(), mixed: Vec::new(), banks };
+    for _ in 0..4 {
+        let mut met = HashSet::new();
+        let mut heard = Vec::new();
+        while heard.len() < 1_000 {
+            let d = rng.below(total);
+            if met.insert(d) {
+                heard.push(sentence(&case.banks[0], length, d));
+            }
+        }
+        case.full.push(banks::history(&heard, &mut rng));
+        case.half = banks::logged(&heard[..500]);
+        if mixed {
+            heard.truncate(400);
+            for _ in 0..300 {
+                heard.push(heard[rng.index(400)].clone());
+            }
+            for _ in 0..300 {
+                let n = 1 + rng.index(16);
+                heard.push((0..n).map(|_| rng.below(50) as u8).collect());
+            }
+            rng.shuffle(&mut heard);
+            case.mixed.push(banks::history(&heard, &mut rng));
+        }
+    }
+    case.half.resize(4 + 20 * 1_000, 0);
+    case
+}
+
+fn cases() -> Vec<Case> {
+    vec![
+        case("matrix", vec![banks::matrix()], 5, true),
+        case("right-linear", (0..16).map(|s| banks::right_linear(255, s)).collect(), 16, false),
+        case("ladder", (0..16).map(banks::ladder).collect(), 16, false),
+    ]
+}
+
+const EMPTY: [u8; 4] = [0; 4];
+
+/// The inputs of the tables.
+fn table_inputs(alike: &mut Alike, cases: &[Case]) {
+    for c in cases {
+        let g = &c.banks[0];
+        let n = c.length;
+        for b in &c.banks {
+            alike.grammar(b);
+            for m in 1..=16 {
+                alike.count(b, m);
+            }
+        }
+        for (&d, s) in c.numbers.iter().zip(&c.sentences) {
+            alike.unrank(g, n, d, 16);
+            alike.rank(g, s);
+            alike.draw(g, &EMPTY, n, d, 16);
+            alike.append(&c.half, s);
+        }
+        for h in [&EMPTY[..], &c.half].into_iter().chain(c.full.iter().chain(&c.mixed).map(Vec::as_slice)) {
+            alike.history(h);
+            alike.remaining(g, h, n);
+            for &d in &c.numbers[..DRAWS] {
+                alike.draw(g, h, n, d, 16);
+            }
+            let left = plain::remaining(g, h, n).expect("an accepted history").2;
+            alike.draw(g, h, n, left - 1, 16);
+            alike.draw(g, h, n, left, 16);
+        }
+    }
+    for rules in RULES {
+        alike.grammar(&banks::right_linear(rules, 0));
+        alike.count(&banks::right_linear(rules, 0), 16);
+    }
+}
+
+const RULES: [usize; 4] = [32, 64, 128, 255];
+
+// ---- Tables
+
+fn calls_table(report: &mut Report, c: &Case) {
+    report.table(format!("**{}**: {} bytes, length {}, T = {}", c.name, c.banks[0].len(), c.length, c.total), "call");
+    let g = &c.banks[0][..];
+    let n = c.length;
+    let mut out = [0u8; 16];
+    let mut out2 = [0u8; 16];
+    let kinds = c.banks.len();
+    let row = measure(kinds, |i| ours::check_grammar(&c.banks[i]), |i| plain::check_grammar(&c.banks[i]));
+    report.row("check_grammar", row);
+    let row = measure(kinds, |i| ours::count(&c.banks[i], n), |i| plain::count(&c.banks[i], n));
+    report.row("count", row);
+    let row = measure(MANY, |i| ours::unrank(g, n, c.numbers[i], &mut out), |i| plain::unrank(g, n, c.numbers[i], &mut out2));
+    report.row("unrank", row);
+    let row = measure(MANY, |i| ours::rank(g, &c.sentences[i]), |i| plain::rank(g, &c.sentences[i]));
+    report.row("rank", row);
+    let empty = vec![EMPTY.to_vec()];
+    let mut histories = vec![("empty", &empty, MANY), ("full", &c.full, DRAWS)];
+    if !c.mixed.is_empty() {
+        histories.push(("full, repeats and other lengths", &c.mixed, DRAWS));
+    }
+    for (what, h, draws) in histories {
+        let k = h.len();
+        let row = measure(k, |i| ours::check_history(&h[i]), |i| plain::check_history(&h[i]));
+        report.row(&format!("check_history, {what}"), row);
+        let row = measure(k, |i| ours::remaining(g, &h[i], n), |i| plain::remaining(g, &h[i], n));
+        report.row(&format!("remaining, {what}"), row);
+        let row = measure(
+            draws,
+            |i| ours::draw(g, &h[i % k], n, c.numbers[i], &mut out),
+            |i| plain::draw(g, &h[i % k], n, c.numbers[i], &mut out2),
+        );
+        report.row(&format!("draw, {what}"), row);
+    }
+    // the four bytes of K and head are put back before each call
+    let (mut h, mut h2) = (c.half.clone(), c.half.clone());
+    let header: [u8; 4] = c.half[..4].try_into().unwrap();
+    let row = measure(
+        MANY,
+        |i| {
+            h[..4].copy_from_slice(&header);
+            ours::append(&mut h, &c.sentences[i])
+        },
+        |i| {
+            h2[..4].copy_from_slice(&header);
+            plain::append(&mut h2, &c.sentences[i])
+        },
+    );
+    report.row("append, half full", row);
+}
+
+fn growth_tables(report: &mut Report, cases: &[Case]) {
+    for c in &cases[1..] {
+        report.table(format!("*count* on the {} bank, by length", c.name), "length");
+        for m in 1..=16 {
+            let row = measure(16, |i| ours::count(&c.banks[i], m), |i| plain::count(&c.banks[i], m));
+            report.row(&m.to_string(), row);
+        }
+    }
+    report.table("*count* at length 16 on right-linear banks, by rules".to_string(), "rules");
+    for rules in RULES {
+        let made: Vec<Vec<u8>> = (0..16).map(|s| banks::right_linear(rules, s)).collect();
+        let row = measure(16, |i| ours::count(&made[i], 16), |i| plain::count(&made[i], 16));
+        report.row(&rules.to_string(), row);
+    }
+    for c in cases {
+        report.table(format!("*remaining* on the {} bank, by records", c.name), "records");
+        for k in [0, 10, 100, 1_000] {
+            let records: Vec<Vec<u8>> = (0..k).map(|r| c.full[0][8 + 20 * r..8 + 20 * r + c.length as usize].to_vec()).collect();
+            let h = banks::history(&records, &mut Rng::new(3));
+            let g = &c.banks[0][..];
+            let row = measure(1, |_| ours::remaining(g, black_box(&h), c.length), |_| plain::remaining(g, black_box(&h), c.length));
+            report.row(&k.to_string(), row);
+        }
+    }
+}
+
+/// What a listing would cost through the C interface: every draw is whole.
+fn draws_table(report: &mut Report, c: &Case) {
+    report.table(format!("Draws 0 to 999 as single calls on the {} bank", c.name), "history");
+    let g = &c.banks[0][..];
+    let (mut out, mut out2) = ([0u8; 16], [0u8; 16]);
+    for (what, h) in [("empty", &EMPTY[..]), ("full", &c.full[0])] {
+        let row = measure(
+            1,
+            |_| (0..1_000).map(|q| ours::draw(g, h, c.length, q, &mut out).unwrap().1).sum::<u64>(),
+            |_| (0..1_000).map(|q| plain::draw(g, h, c.length, q, &mut out2).unwrap().1).sum::<u64>(),
+        );
+        report.row(what, row);
+    }
+}
+
+fn run(program: &Path, input: &Path, output: Stdio) -> std::process::Child {
+    Command::new(program).stdin(File::open(input).expect("the input")).stdout(output).spawn().expect("a listing program")
+}
+
+fn output(program: &Path, input: &Path) -> Vec<u8> {
+    run(program, input, Stdio::piped()).wait_with_output().expect("its output").stdout
+}
+
+/// Both listing programs as processes, on the same input files.
+fn listing_table(report: &mut Report, cases: &[Case], ours: &Path, plain: &Path, room: &Path) {
+    let mut inputs = vec![("no input: start and end of a process".to_string(), Vec::new())];
+    for c in cases {
+        let g = &c.banks[0];
+        for (what, h) in [("empty history", &EMPTY[..]), ("full history", &c.full[0])] {
+            let mut bytes = vec![c.length as u8];
+            bytes.extend((g.len() as u16).to_le_bytes());
+            bytes.extend(g);
+            bytes.extend(h);
+            inputs.push((format!("{}, {what}", c.name), bytes));
+        }
+    }
+    report.table("The listing program as a process, output thrown away".to_string(), "input");
+    for (i, (what, bytes)) in inputs.iter().enumerate() {
+        let file: PathBuf = room.join(format!("listing-input-{i}"));
+        std::fs::write(&file, bytes).expect("a place for the input");
+        if output(ours, &file) != output(plain, &file) {
+            eprintln!("the listings differ on {what}");
+            std::process::exit(1);
+        }
+        let time = |program: &Path| {
+            let from = Instant::now();
+            run(program, &file, Stdio::null()).wait().expect("its end");
+            from.elapsed().as_nanos() as f64
+        };
+        let mut row = Row { ours: f64::MAX, plain: f64::MAX };
+        for _ in 0..80 {
+            row.ours = row.ours.min(time(ours));
+            row.plain = row.plain.min(time(plain));
+        }
+        report.row(what, row);
+    }
+}
+
+fn main() {
+    let arguments: Vec<PathBuf> = std::env::args().skip(1).map(PathBuf::from).collect();
+    let cases = cases();
+    let mut alike = Alike { refusals: [0; 21], calls: 0 };
+    random_inputs(&mut alike);
+    table_inputs(&mut alike, &cases);
+    println!("Both gave the same answers and buffers in {} calls. Answers by refusal, 0 first:", alike.calls);
+    println!("{:?}", alike.refusals);
+    if alike.refusals.contains(&0) {
+        eprintln!("some refusal was never given");
+        std::process::exit(1);
+    }
+    let mut report = Report::default();
+    let mut sweep = || {
+        for c in &cases {
+            calls_table(&mut report, c);
+        }
+        growth_tables(&mut report, &cases);
+        draws_table(&mut report, &cases[0]);
+        if let [ours, plain, room] = &arguments[..] {
+            listing_table(&mut report, &cases, ours, plain, room);
+        }
+    };
+    lower::<16>(&mut sweep);
+    lower::<32>(&mut sweep);
+    lower::<48>(&mut sweep);
+    lower::<64>(&mut sweep);
+    report.print();
+}
+
+/// Runs a sweep with the stack so many bytes lower: where tables lie on the stack changes times by a tenth and more.
+#[inline(never)]
+fn lower<const BYTES: usize>(sweep: &mut dyn FnMut()) {
+    let space = [0u8; BYTES];
+    black_box(&space);
+    sweep();
+    black_box(&space);
+}

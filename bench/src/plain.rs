@@ -1,0 +1,512 @@
+//! The calls of document 01 in plain Rust: the yardstick. Written from document 01 alone; no unsafe code, no threads, nothing kept
+//! between calls. An error is the refusal's number.
+
+const MOST_RECORDS: usize = 1000;
+
+/// An accepted grammar: words and pairs by nonterminal, in chain order.
+struct Grammar {
+    nonterminals: usize,
+    words_below: u8,
+    start: usize,
+    words: [u8; 256],
+    word_from: [u8; 33],
+    pairs: [(u8, u8); 256],
+    pair_from: [u8; 33],
+}
+
+impl Grammar {
+    fn words(&self, a: usize) -> &[u8] {
+        &self.words[self.word_from[a] as usize..self.word_from[a + 1] as usize]
+    }
+
+    fn pairs(&self, a: usize) -> &[(u8, u8)] {
+        &self.pairs[self.pair_from[a] as usize..self.pair_from[a + 1] as usize]
+    }
+
+    /// The refusals 1 to 8, and the rules sorted out by kind on the way.
+    fn read(bytes: &[u8]) -> Result<Grammar, u8> {
+        let &[n, w, r, s, ref rest @ ..] = bytes else {
+            return Err(1);
+        };
+        if !(1..=32).contains(&n) || w == 0 || r == 0 || s >= n {
+            return Err(2);
+        }
+        let count = r as usize;
+        if rest.len() != n as usize + 4 * count {
+            return Err(3);
+        }
+        let (heads, rules) = rest.split_at(n as usize);
+        let mut far = heads.iter().any(|&h| h > r);
+        for rule in rules.chunks_exact(4) {
+            let fits = match rule[0] {
+                0 => rule[1] < w && rule[2] == 0,
+                1 => rule[1] < n && rule[2] < n,
+                _ => false,
+            };
+            if !fits {
+                return Err(4);
+            }
+            far |= rule[3] > r;
+        }
+        if far {
+            return Err(5);
+        }
+
+        let mut g = Grammar {
+            nonterminals: n as usize,
+            words_below: w,
+            start: s as usize,
+            words: [0; 256],
+            word_from: [0; 33],
+            pairs: [(0, 0); 256],
+            pair_from: [0; 33],
+        };
+        let mut seen = [false; 256];
+        let (mut words, mut pairs) = (0, 0);
+        for (a, &head) in heads.iter().enumerate() {
+            let mut at = head as usize;
+            while at != 0 {
+                if seen[at] {
+                    return Err(6);
+                }
+                seen[at] = true;
+                let rule = &rules[4 * at - 4..4 * at];
+                if rule[0] == 0 {
+                    g.words[words] = rule[1];
+                    words += 1;
+                } else {
+                    g.pairs[pairs] = (rule[1], rule[2]);
+                    pairs += 1;
+                }
+                at = rule[3] as usize;
+            }
+            g.word_from[a + 1] = words as u8;
+            g.pair_from[a + 1] = pairs as u8;
+        }
+        if words + pairs != count {
+            return Err(7);
+        }
+        for a in 0..g.nonterminals {
+            let mut met = [0u64; 4];
+            for &x in g.words(a) {
+                let (i, bit) = (x as usize / 64, 1u64 << (x % 64));
+                if met[i] & bit != 0 {
+                    return Err(8);
+                }
+                met[i] |= bit;
+            }
+            let mut met = [0u32; 32];
+            for &(b, c) in g.pairs(a) {
+                let bit = 1u32 << (c & 31);
+                let row = &mut met[b as usize & 31];
+                if *row & bit != 0 {
+                    return Err(8);
+                }
+                *row |= bit;
+            }
+        }
+        Ok(g)
+    }
+}
+
+/// The places of the ones of a mask, rising.
+struct Bits(u32);
+
+impl Iterator for Bits {
+    type Item = usize;
+
+    fn next(&mut self) -> Option<usize> {
+        if self.0 == 0 {
+            return None;
+        }
+        let i = self.0.trailing_zeros() as usize;
+        self.0 &= self.0 - 1;
+        Some(i)
+    }
+}
+
+/// T by nonterminal and length.
+pub type Totals = [[u64; 17]; 32];
+
+pub const NO_TOTALS: Totals = [[0; 17]; 32];
+
+/// 10, or T for the lengths 1 to n. Which lengths a nonterminal has is a mask, so that no product with a zero is looked at.
+fn fill_totals(g: &Grammar, n: usize, t: &mut Totals) -> Result<(), u8> {
+    let mut lengths = [0u32; 32];
+    for a in 0..g.nonterminals {
+        t[a][1] = g.words(a).len() as u64;
+        lengths[a] = u32::from(t[a][1] != 0) << 1;
+    }
+    for m in 2..=n {
+        for a in 0..g.nonterminals {
+            let mut sum = 0u64;
+            for &(b, c) in g.pairs(a) {
+                let (b, c) = (b as usize & 31, c as usize & 31);
+                // the k with bit k on the left and bit m - k on the right
+                for k in Bits(lengths[b] & lengths[c].reverse_bits() >> (31 - m)) {
+                    let product = t[b][k].checked_mul(t[c][m - k]).ok_or(10)?;
+                    sum = sum.checked_add(product).ok_or(10)?;
+                }
+            }
+            t[a][m] = sum;
+            lengths[a] |= u32::from(sum != 0) << m;
+        }
+    }
+    Ok(())
+}
+
+/// The refusals 1 to 10; then T is in the table.
+fn prepare(grammar: &[u8], length: u64, t: &mut Totals) -> Result<(Grammar, usize), u8> {
+    let g = Grammar::read(grammar)?;
+    if !(1..=16).contains(&length) {
+        return Err(9);
+    }
+    let n = length as usize;
+    fill_totals(&g, n, t)?;
+    Ok((g, n))
+}
+
+/// Writes the sentence of the derivation d of a; its length is that of `out`.
+fn write(g: &Grammar, t: &Totals, a: usize, mut d: u64, out: &mut [u8]) {
+    let m = out.len();
+    if m == 1 {
+        out[0] = g.words(a)[d as usize];
+        return;
+    }
+    for &(b, c) in g.pairs(a) {
+        let (b, c) = (b as usize & 31, c as usize & 31);
+        for k in 1..m {
+            let (x, y) = (t[b][k], t[c][m - k]);
+            let here = x * y;
+            if d < here {
+                let (left, right) = out.split_at_mut(k);
+                write(g, t, b, d / y, left);
+                write(g, t, c, d % y, right);
+                return;
+            }
+            d -= here;
+        }
+    }
+    unreachable!("d is below T");
+}
+
+/// Which nonterminals derive the runs of a sentence: sets as masks, by first position and length.
+struct Parser<'a> {
+    g: &'a Grammar,
+    t: &'a Totals,
+    /// The nonterminals with a word rule for a word.
+    of_word: [u32; 256],
+    /// The nonterminals with a pair rule for a pair.
+    of_pair: [[u32; 32]; 32],
+    /// The nonterminals that stand left, and right, in some pair rule.
+    lefts: u32,
+    rights: u32,
+    /// Those with a derivation of a run, and those with two or more.
+    some: [[u32; 17]; 16],
+    many: [[u32; 17]; 16],
+}
+
+enum Found {
+    None,
+    One(u64),
+    Many,
+}
+
+impl<'a> Parser<'a> {
+    fn new(g: &'a Grammar, t: &'a Totals) -> Self {
+        let mut p =
+            Parser { g, t, of_word: [0; 256], of_pair: [[0; 32]; 32], lefts: 0, rights: 0, some: [[0; 17]; 16], many: [[0; 17]; 16] };
+        for a in 0..g.nonterminals {
+            for &w in g.words(a) {
+                p.of_word[w as usize] |= 1 << a;
+            }
+            for &(b, c) in g.pairs(a) {
+                let (b, c) = (b as usize & 31, c as usize & 31);
+                p.of_pair[b][c] |= 1 << a;
+                p.lefts |= 1 << b;
+                p.rights |= 1 << c;
+            }
+        }
+        p
+    }
+
+    /// Fills the masks for a sentence of 1 to 16 words, shorter runs first.
+    fn fill(&mut self, s: &[u8]) {
+        let n = s.len();
+        for (p, &w) in s.iter().enumerate() {
+            self.some[p][1] = self.of_word[w as usize];
+            self.many[p][1] = 0;
+        }
+        for m in 2..=n {
+            for p in 0..=n - m {
+                let (mut some, mut many) = (0, 0);
+                for k in 1..m {
+                    let left = self.some[p][k] & self.lefts;
+                    let right = self.some[p + k][m - k] & self.rights;
+                    if left == 0 || right == 0 {
+                        continue;
+                    }
+                    for b in Bits(left) {
+                        for c in Bits(right) {
+                            let heads = self.of_pair[b][c];
+                            many |= some & heads;
+                            some |= heads;
+                            if (self.many[p][k] >> b | self.many[p + k][m - k] >> c) & 1 != 0 {
+                                many |= heads;
+                            }
+                        }
+                    }
+                }
+                self.some[p][m] = some;
+                self.many[p][m] = many;
+            }
+        }
+    }
+
+    /// The place of the one derivation of a over m words from p on.
+    fn place(&self, s: &[u8], a: usize, p: usize, m: usize) -> u64 {
+        if m == 1 {
+            return self.g.words(a).iter().position(|&w| w == s[p]).unwrap() as u64;
+        }
+        let mut before = 0;
+        for &(b, c) in self.g.pairs(a) {
+            let (b, c) = (b as usize & 31, c as usize & 31);
+            for k in 1..m {
+                let (x, y) = (self.t[b][k], self.t[c][m - k]);
+                if self.some[p][k] >> b & self.some[p + k][m - k] >> c & 1 != 0 {
+                    return before + self.place(s, b, p, k) * y + self.place(s, c, p + k, m - k);
+                }
+                before += x * y;
+            }
+        }
+        unreachable!("the run has a derivation");
+    }
+
+    fn find(&mut self, s: &[u8]) -> Found {
+        let (n, start) = (s.len(), self.g.start);
+        self.fill(s);
+        if self.some[0][n] >> start & 1 == 0 {
+            Found::None
+        } else if self.many[0][n] >> start & 1 != 0 {
+            Found::Many
+        } else {
+            Found::One(self.place(s, start, 0, n))
+        }
+    }
+}
+
+fn two(bytes: &[u8], at: usize) -> usize {
+    u16::from_le_bytes([bytes[at], bytes[at + 1]]) as usize
+}
+
+/// An accepted history: its records, and the number of the first on the chain.
+struct History<'a> {
+    records: &'a [u8],
+    head: usize,
+}
+
+impl<'a> History<'a> {
+    fn count(&self) -> usize {
+        self.records.len() / 20
+    }
+
+    fn record(&self, r: usize) -> &'a [u8] {
+        &self.records[20 * (r - 1)..20 * r]
+    }
+
+    /// The refusals 11 to 14.
+    fn read(bytes: &'a [u8]) -> Result<Self, u8> {
+        if bytes.len() < 4 {
+            return Err(11);
+        }
+        let (k, head) = (two(bytes, 0), two(bytes, 2));
+        if k > MOST_RECORDS || bytes.len() < 4 + 20 * k {
+            return Err(11);
+        }
+        let h = History { records: &bytes[4..4 + 20 * k], head };
+        let mut far = head > k;
+        for record in h.records.chunks_exact(20) {
+            let length = record[2] as usize;
+            if !(1..=16).contains(&length) || record[3] != 0 {
+                return Err(12);
+            }
+            if record[4 + length..].iter().any(|&b| b != 0) {
+                return Err(12);
+            }
+            far |= two(record, 0) > k;
+        }
+        if far {
+            return Err(13);
+        }
+        // A chain that ends meets no record twice.
+        let mut at = head;
+        for _ in 0..k {
+            if at == 0 {
+                return Err(14);
+            }
+            at = two(h.record(at), 0);
+        }
+        if at != 0 {
+            return Err(14);
+        }
+        Ok(h)
+    }
+
+    /// The derivation numbers of the sentences of n words with one derivation, rising, each once; or 15.
+    fn heard(&self, g: &Grammar, t: &Totals, n: usize) -> Result<Vec<u64>, u8> {
+        let mut numbers = Vec::with_capacity(self.count());
+        if self.count() == 0 {
+            return Ok(numbers);
+        }
+        let mut parser = Parser::new(g, t);
+        // Which records are first makes no difference: each is asked by itself.
+        for record in self.records.chunks_exact(20) {
+            if record[2] as usize != n {
+                continue;
+            }
+            match parser.find(&record[4..4 + n]) {
+                Found::None => {}
+                Found::One(d) => numbers.push(d),
+                Found::Many => return Err(15),
+            }
+        }
+        numbers.sort_unstable();
+        numbers.dedup();
+        Ok(numbers)
+    }
+}
+
+/// The derivation number of the unheard derivation with q unheard ones before it.
+fn skip(q: u64, heard: &[u64]) -> u64 {
+    let (mut low, mut high) = (0, heard.len());
+    while low < high {
+        let mid = (low + high) / 2;
+        if heard[mid] - mid as u64 <= q {
+            low = mid + 1;
+        } else {
+            high = mid;
+        }
+    }
+    q + low as u64
+}
+
+/// What many draws on one grammar, history and length share.
+pub struct Prepared<'a> {
+    g: Grammar,
+    t: &'a Totals,
+    n: usize,
+    heard: Vec<u64>,
+    pub total: u64,
+    pub left: u64,
+}
+
+impl<'a> Prepared<'a> {
+    pub fn new(grammar: &[u8], history: &[u8], length: u64, t: &'a mut Totals) -> Result<Self, u8> {
+        let (g, n) = prepare(grammar, length, t)?;
+        let heard = History::read(history)?.heard(&g, t, n)?;
+        let total = t[g.start][n];
+        let left = total - heard.len() as u64;
+        Ok(Prepared { g, t, n, heard, total, left })
+    }
+
+    pub fn heard(&self) -> u64 {
+        self.heard.len() as u64
+    }
+
+    /// The derivation number, and the sentence into the first bytes of the buffer.
+    pub fn draw(&self, q: u64, out: &mut [u8]) -> Result<u64, u8> {
+        if q >= self.left {
+            return Err(16);
+        }
+        if out.len() < self.n {
+            return Err(20);
+        }
+        let d = skip(q, &self.heard);
+        write(&self.g, self.t, self.g.start, d, &mut out[..self.n]);
+        Ok(d)
+    }
+}
+
+// ---- The calls
+
+#[inline(never)]
+pub fn check_grammar(grammar: &[u8]) -> Result<(u64, u64), u8> {
+    let g = Grammar::read(grammar)?;
+    Ok((g.nonterminals as u64, g.words_below as u64))
+}
+
+#[inline(never)]
+pub fn check_history(history: &[u8]) -> Result<u64, u8> {
+    Ok(History::read(history)?.count() as u64)
+}
+
+#[inline(never)]
+pub fn count(grammar: &[u8], length: u64) -> Result<u64, u8> {
+    let mut t = NO_TOTALS;
+    let (g, n) = prepare(grammar, length, &mut t)?;
+    Ok(t[g.start][n])
+}
+
+#[inline(never)]
+pub fn unrank(grammar: &[u8], length: u64, number: u64, out: &mut [u8]) -> Result<u64, u8> {
+    let mut t = NO_TOTALS;
+    let (g, n) = prepare(grammar, length, &mut t)?;
+    let total = t[g.start][n];
+    if number >= total {
+        return Err(16);
+    }
+    if out.len() < n {
+        return Err(20);
+    }
+    write(&g, &t, g.start, number, &mut out[..n]);
+    Ok(total)
+}
+
+#[inline(never)]
+pub fn rank(grammar: &[u8], sentence: &[u8]) -> Result<(u64, u64), u8> {
+    let mut t = NO_TOTALS;
+    let (g, n) = prepare(grammar, sentence.len() as u64, &mut t)?;
+    match Parser::new(&g, &t).find(sentence) {
+        Found::None => Err(17),
+        Found::Many => Err(18),
+        Found::One(d) => Ok((d, t[g.start][n])),
+    }
+}
+
+#[inline(never)]
+pub fn remaining(grammar: &[u8], history: &[u8], length: u64) -> Result<(u64, u64, u64), u8> {
+    let mut t = NO_TOTALS;
+    let (g, n) = prepare(grammar, length, &mut t)?;
+    let heard = History::read(history)?.heard(&g, &t, n)?.len() as u64;
+    let total = t[g.start][n];
+    Ok((total, heard, total - heard))
+}
+
+#[inline(never)]
+pub fn draw(grammar: &[u8], history: &[u8], length: u64, q: u64, out: &mut [u8]) -> Result<(u64, u64), u8> {
+    let mut t = NO_TOTALS;
+    let prepared = Prepared::new(grammar, history, length, &mut t)?;
+    let d = prepared.draw(q, out)?;
+    Ok((prepared.left, d))
+}
+
+#[inline(never)]
+pub fn append(history: &mut [u8], sentence: &[u8]) -> Result<u64, u8> {
+    let n = sentence.len();
+    if !(1..=16).contains(&n) {
+        return Err(9);
+    }
+    let h = History::read(history)?;
+    let (new, head) = (h.count() + 1, h.head);
+    if new > MOST_RECORDS || history.len() < 4 + 20 * new {
+        return Err(19);
+    }
+    let record = &mut history[20 * new - 16..20 * new + 4];
+    record.fill(0);
+    record[..2].copy_from_slice(&(head as u16).to_le_bytes());
+    record[2] = n as u8;
+    record[4..4 + n].copy_from_slice(sentence);
+    history[..2].copy_from_slice(&(new as u16).to_le_bytes());
+    history[2..4].copy_from_slice(&(new as u16).to_le_bytes());
+    Ok(new as u64)
+}
