@@ -3,7 +3,7 @@
 -- Assumes nothing.
 use mathlib.Core.Path.{_≡_, refl, sym, ap, _∙_}
 use mathlib.Core.Bool.{Bool, true, false, cond, _&&_}
-use mathlib.Core.List.{List, [], _∷_, _++_, List·Memᴰ·head, List·Memᴰ·not-nil, List·Memᴰ·eq-of-singleton}
+use mathlib.Core.List.{List, [], _∷_, _++_, map, List·Memᴰ·head, List·Memᴰ·not-nil, List·Memᴰ·eq-of-singleton}
 use mathlib.Core.Logic.{_↔_}
 use Prim.Native.Nat.{ℕ, _-_, _≤_, _<_}
 use native.Mathlib.Omega.{arith}
@@ -30,7 +30,10 @@ use Rattle.ranking.specs.Giving.{WriteSought}
 use Rattle.ranking.proofs.Answering.{left-of, refused-of, total-fits}
 use Rattle.ranking.proofs.Demand2.{listed-total}
 use Rattle.history.specs.Refusals as history
+use Rattle.history.specs.Layout.{recordsOf, headOf, wordsOf}
 use Rattle.history.specs.Heard.{sentences}
+use Rattle.history.proofs.Acceptance.{known}
+use Rattle.history.proofs.Chain.{numbers-zero}
 use Rattle.history.proofs.Outcome.{number-some}
 use Rattle.sorting.specs.Sorted.{Sorted}
 use Rattle.sampling.specs.Unheard.{Entry, outside, barred, heardOf, leftOf, ambiguous}
@@ -92,6 +95,14 @@ heard-sorted g h n diary before part rest k m c s =
       take-append-le m part rest (omega (arith, s .few, s .long))
           ∙ sorted-barred g h n diary (c .0) (take m part) (s .rising) (λ x. rw (← c .2) (s′ .same x)),
     )
+
+-- a history without records has no heard number
+pub none-heard : (g h : List ℕ) (n : ℕ) → history.Accepted h → recordsOf h ≡ 0 → Hold g h n [] (Ready 0)
+unfolding ambiguous
+none-heard g h n diary none =
+    let e : sentences h ≡ [] = ap (map (wordsOf h)) (numbers-zero h diary (headOf h) (omega (arith, known h diary .head, none))) in
+    let clear : ambiguous g h n ≡ false = rw e refl in
+    (clear, omega arith, sorted-barred g h n diary clear [] Pairwise.none (λ x. rw e ((λ m. m), λ m. m)))
 
 -- ---- 1 to 15
 

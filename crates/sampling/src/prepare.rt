@@ -1,6 +1,7 @@
 // What *Left* and every *Draw* need: the tables of the grammar and the heard derivation numbers, rising, each once.
 ghost use mathlib.Core.Path.{_≡_};
 ghost use Prim.Native.Nat.{_≤_};
+ghost use Rattle.history.specs.Layout.{recordsOf};
 ghost use Rattle.sampling.specs.Answers.{sampleNumber};
 ghost use Rattle.sampling.specs.Hearing.{Collects};
 ghost use Rattle.sampling.specs.Preparing.{Lent, Hears, HeardAs, PreparedAs};
@@ -91,17 +92,22 @@ fn hear_long(
     hear(g, index, plain, h, n, &mut memo, numbers)
 }
 
+// The k records heard. No memo is made for a history without records.
 fn hear_all(
     g: &[u8],
     index: &[u8; 1024],
     plain: &[u64; 544],
     h: &[u8],
+    k: u64,
     n: usize,
     numbers: &mut [u64],
 ) -> Sampled
-    requires { ⌜ Hears (now g) (now index) (now plain) (now h) n (now numbers) ⌝ }
+    requires { ⌜ Hears (now g) (now index) (now plain) (now h) n (now numbers) × (k ≡ recordsOf (now h)) ⌝ }
     ensures { λ s. ⌜ HeardAs (now (g .entry)) (now (h .entry)) n (now (numbers .exit)) s ⌝ }
 {
+    if k == 0 {
+        return Sampled::Ready(0);
+    }
     if n <= 5 {
         return hear_short(g, index, plain, h, n, numbers);
     }
@@ -126,7 +132,7 @@ pub fn prepare(
             let a = checks::check(h);
             match a {
                 HistoryAnswer::Refused(r) => Sampled::Refused(SampleRefusal::History(r)),
-                HistoryAnswer::Accepted(_) => hear_all(g, index, plain, h, n as usize, numbers),
+                HistoryAnswer::Accepted(k) => hear_all(g, index, plain, h, k, n as usize, numbers),
             }
         }
     }

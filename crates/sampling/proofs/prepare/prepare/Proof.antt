@@ -1,6 +1,8 @@
 -- `prepare` meets its contract: the grammar's refusals, then the history's, then 15; past them the tables and the heard numbers.
 -- Assumes nothing.
+use mathlib.Core.Path.{_≡_}
 use Rattle.history.proofs.Outcome.{check-accepted, check-refused, number-some}
+use Rattle.history.specs.Layout.{recordsOf}
 use Rattle.history.specs.Refusals.{Accepted}
 use Rattle.counting.specs.Prepared.{Tabled}
 use native.Mathlib.Omega.{arith}
@@ -19,11 +21,12 @@ called c = c .before .before
 tabled : (c : tie.After-enum-told) → Tabled (now (start (called c) .args .g)) (start (called c) .args .n) (called c .prepare .last .1 .1 .0) (called c .prepare .last .1 .1 .1 .0)
 tabled c = called c .prepare .ensures .ready (c .enum-told .given .1)
 
-abbrev checked : tie.After-enum-told2 → tie.After-enum-told
+abbrev checked : tie.After-a2 → tie.After-enum-told
 checked c = c .before .before .before
 
-diary : (c : tie.After-enum-told2) → Accepted (now (start (called (checked c)) .args .h))
-diary c = check-accepted _ (c .before .before .check .ensures) (c .enum-told2 .given .1) .0
+-- the history is accepted and has as many records as the check said
+diary : (c : tie.After-a2) → let h = now (start (called (checked c)) .args .h) in Accepted h × (c .a2 .given .0 .0 ≡ recordsOf h)
+diary c = check-accepted _ (c .before .before .check .ensures) (c .a2 .given .1)
 
 prepare-requires : tie.Need-prepare-requires
 prepare-requires c κs = let s = c .before .before .before .before .before .pre in (s .index-long, s .plain-long)
@@ -40,13 +43,13 @@ check-requires c κs = search needs
 enum-known-a : tie.Need-enum-known-a
 enum-known-a c = search needs
 
-enum-told-2 : tie.Need-enum-told-2
-enum-told-2 c = search needs
+enum-known-a-2 : tie.Need-enum-known-a-2
+enum-known-a-2 c = search needs
 
 hear-all-requires : tie.Need-hear-all-requires
 hear-all-requires c κs =
-    let a = c .before .before .before in
-    record { tabled = tabled (checked a); diary = diary a; room = start (called (checked a)) .pre .room }
+    let a = c .before .before .before .before in
+    (record { tabled = tabled (checked a); diary = diary a .0; room = start (called (checked a)) .pre .room }, diary a .1)
 
 returns : tie.Need-returns
 returns c =
@@ -69,8 +72,8 @@ same-length c = search needs
 returns-3 : tie.Need-returns-3
 returns-3 c =
     let l = c .before .before in
-    let a = l .before .before .before .before in
-    heard-prepared (tabled (checked a)) (diary a) (l .hear-all .ensures) (omega (arith, l .hear-all .kept .1 .1 .1 .1 .1 .0, start (called (checked a)) .pre .room))
+    let a = l .before .before .before .before .before in
+    heard-prepared (tabled (checked a)) (diary a .0) (l .hear-all .ensures) (omega (arith, l .hear-all .kept .1 .1 .1 .1 .1 .1 .0, start (called (checked a)) .pre .room))
 
 pub prepare-spec : {M : Type 1} → statement M
 prepare-spec =
@@ -81,7 +84,7 @@ prepare-spec =
     enum-told
     check-requires
     enum-known-a
-    enum-told-2
+    enum-known-a-2
     hear-all-requires
     returns
     returns-2
