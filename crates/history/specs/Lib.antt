@@ -3,6 +3,6 @@ pub mod Chain
 pub mod Refusals
 pub mod Checks
 pub mod Heard
-pub mod Steps
+pub mod Reading
 pub mod Writing
 pub mod Answers

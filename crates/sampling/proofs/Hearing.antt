@@ -1,9 +1,9 @@
--- Collecting the heard numbers: what one record adds, and what is collected along the chain. The numbers so far, with what the records still
+-- Collecting the heard numbers: what one sentence adds, and what is collected along the chain. The numbers so far, with what the sentences still
 -- to come add, are all of them.
 -- Assumes nothing.
 use mathlib.Core.Path.{_≡_, refl, sym, ap, _∙_}
 use mathlib.Core.Bool.{Bool, true, false, cond, _&&_, _||_}
-use mathlib.Core.List.{List, [], _∷_, _++_, map, append-nil, append-assoc, List·Memᴰ·head}
+use mathlib.Core.List.{List, [], _∷_, _++_, map, append-nil, append-assoc}
 use Prim.Native.Nat.{ℕ, suc, _+_, _≤_, _<_}
 use native.Mathlib.Omega.{arith}
 use native.Mathlib.Numerals.{add-one}
@@ -20,13 +20,14 @@ use Rattle.ranking.specs.Answers.{readingsOf, numberOf}
 use Rattle.ranking.specs.Ranking.{FindSought, FoundAs}
 use Rattle.ranking.specs.declared.rank.Found.the-variants.{None, One, Many}
 use Rattle.ranking.specs.declared.unrank.DerivationNumber.{DerivationNumber}
-use Rattle.history.specs.Layout.{headOf, lengthOf, wordsOf}
+use Rattle.history.specs.Layout.{headOf, wordsOf}
 use Rattle.history.specs.Chain.{numbersFrom}
 use Rattle.history.specs.Refusals.{Accepted}
-use Rattle.history.specs.Checks.{Inside}
+use Rattle.history.specs.Reading.{sentenceAt, nextAt}
 use Rattle.history.specs.Heard.{sentences}
-use Rattle.history.proofs.Acceptance.{known, words-length}
-use Rattle.history.proofs.Chain.{numbers-inside, chained}
+use Rattle.history.proofs.Acceptance.{known}
+use Rattle.history.proofs.Chain.{chained}
+use Rattle.history.proofs.Reading.{read-end, read-record}
 use Rattle.sampling.specs.Unheard.{ambiguous}
 use Rattle.sampling.specs.Hearing.{numbersIn, manyIn, Clear, Tells, ToldAs, Collects, Holds, CollectedAs}
 use Rattle.sampling.specs.declared.heard.Collected.{Collected}
@@ -63,7 +64,7 @@ module _ (g : List ℕ) (n : ℕ) (s : List ℕ) where
       go true = omega arith
       go false = omega arith
 
--- ---- one record
+-- ---- one sentence
 
 -- the memo serves every sentence again under the next stamp
 clear-next : (g : List ℕ) {n t : ℕ} {memo : List ℕ} → Clear g n t memo → Clear g n (t + 1) memo
@@ -76,50 +77,43 @@ take-put l i x h =
     (take-suc (set l i x) i 0 (omega (arith, length-set l i x))
     ∙ rw (take-set-le i l i x (omega arith), getD-set-same l i x 0 h))
 
-module _ {g index plain h : List ℕ} {n r t count : ℕ} {memo numbers : List ℕ} (w : Tells g index plain h n r t count memo numbers) where
-  long : {k : ℕ} → k ≡ lengthOf h r → length (wordsOf h r) ≡ k
-  long e = words-length h (w .diary) r (w .inside .low) (w .inside .high) ∙ sym e
-
+module _ {g index plain s : List ℕ} {n t count : ℕ} {memo numbers : List ℕ} (w : Tells g index plain n t count memo numbers) where
   -- none
-  adds-nothing : (memo′ : List ℕ) → Clear g n (t + 1) memo′ → (manyIn g n (wordsOf h r) ≡ false) × (numbersIn g n (wordsOf h r) ≡ [])
-      → ToldAs g h n r t count memo′ numbers numbers (Numbers count)
+  adds-nothing : (memo′ : List ℕ) → Clear g n (t + 1) memo′ → (manyIn g n s ≡ false) × (numbersIn g n s ≡ [])
+      → ToldAs g s n t count memo′ numbers numbers (Numbers count)
   adds-nothing memo′ c q = record {
     adds = (q .0, rw (q .1) (omega arith), rw (q .1) (sym (append-nil (take count numbers))));
     clear = c;
   }
 
-  pub told-other : {k : ℕ} → k ≡ lengthOf h r → (k ≡ n → ⊥) → ToldAs g h n r t count memo numbers numbers (Numbers count)
-  told-other e f = adds-nothing memo (clear-next g (w .clear)) (other-none g n (wordsOf h r) (λ l. f (sym (long e) ∙ l)))
+  pub told-other : (length s ≡ n → ⊥) → ToldAs g s n t count memo numbers numbers (Numbers count)
+  told-other f = adds-nothing memo (clear-next g (w .clear)) (other-none g n s f)
 
-  module _ {k : ℕ} {words : List ℕ} (e : k ≡ lengthOf h r) (f : k ≡ n) (same : words ≡ wordsOf h r) where
-    named : length (wordsOf h r) ≡ n
-    named = long e ∙ f
+  module _ (e : length s ≡ n) where
+    pub told-sought : FindSought g index plain s t memo
+    told-sought = record { tabled = rw e (w .tabled); clear = rw e (w .clear s) }
 
-    pub told-sought : FindSought g index plain words t memo
-    told-sought = rw same (record { tabled = rw named (w .tabled); clear = rw named (w .clear (wordsOf h r)) })
+    again : {memo′ : List ℕ} {x : _} → FoundAs g s t memo′ x → Clear g n (t + 1) memo′
+    again q z = remembers-next (omega arith) (rw e at (q .remembers))
 
-    again : {memo′ : List ℕ} {x : _} → FoundAs g words t memo′ x → Clear g n (t + 1) memo′
-    again q s = remembers-next (omega arith) (rw named at ((rw same at q) .remembers))
+    pub told-none : {memo′ : List ℕ} → FoundAs g s t memo′ None → ToldAs g s n t count memo′ numbers numbers (Numbers count)
+    told-none {memo′} q = adds-nothing memo′ (again q) (read-none g n s e (q .says))
 
-    pub told-none : {memo′ : List ℕ} → FoundAs g words t memo′ None → ToldAs g h n r t count memo′ numbers numbers (Numbers count)
-    told-none {memo′} q = adds-nothing memo′ (again q) (read-none g n (wordsOf h r) named ((rw same at q) .says))
+    pub told-many : {memo′ : List ℕ} → FoundAs g s t memo′ Many → ToldAs g s n t count memo′ numbers numbers Ambiguous
+    told-many q = record { adds = read-many g n s e (q .says); clear = again q }
 
-    pub told-many : {memo′ : List ℕ} → FoundAs g words t memo′ Many → ToldAs g h n r t count memo′ numbers numbers Ambiguous
-    told-many q = record { adds = read-many g n (wordsOf h r) named ((rw same at q) .says); clear = again q }
-
-    pub told-one : {memo′ : List ℕ} (d : DerivationNumber) → FoundAs g words t memo′ (One d)
-        → ToldAs g h n r t count memo′ numbers (set numbers count (d .0)) (Numbers (count + 1))
+    pub told-one : {memo′ : List ℕ} (d : DerivationNumber) → FoundAs g s t memo′ (One d)
+        → ToldAs g s n t count memo′ numbers (set numbers count (d .0)) (Numbers (count + 1))
     told-one d q =
-        let says = (rw same at q) .says in
-        let a = read-one g n (wordsOf h r) named (says .0) in
+        let a = read-one g n s e (q .says .0) in
         record {
-          adds = (a .0, rw (a .1) (omega arith), rw (a .1) (take-put numbers count (d .0) (w .room) ∙ rw (says .1)));
+          adds = (a .0, rw (a .1) (omega arith), rw (a .1) (take-put numbers count (d .0) (w .room) ∙ rw (q .says .1)));
           clear = again q;
         }
 
 -- ---- the whole chain
 
--- a heard sentence with two or more derivations, by the test of a record
+-- a heard sentence with two or more derivations, by the test of a sentence
 many-ambiguous : (g : List ℕ) (n : ℕ) (l : List (List ℕ)) → someOf (manyIn g n) l ≡ someOf (λ s. leb 2 (readingsOf g s)) (keep (λ s. eqb (length s) n) l)
 many-ambiguous g n [] = refl
 many-ambiguous g n (s ∷ l) = go (eqb (length s) n) (many-ambiguous g n l)
@@ -143,6 +137,12 @@ pub record Collecting (g h : List ℕ) (n : ℕ) (memo numbers : List ℕ) (at c
   pub clear : Clear g n t memo
   pub long : 1000 ≤ length numbers
 
+-- s was read there, and it is not the end
+pub record Read (h : List ℕ) (at : ℕ) (s : List ℕ) : Type 0 where
+  pub diary : Accepted h
+  pub same : s ≡ sentenceAt h at
+  pub more : length s ≡ 0 → ⊥
+
 module _ {g index plain h : List ℕ} {n : ℕ} {memo numbers : List ℕ} (w : Collects g index plain h n memo numbers) where
   pub collect-start : {at : ℕ} → at ≡ headOf h → Collecting g h n memo numbers at 0 1
   unfolding ambiguous
@@ -160,53 +160,63 @@ module _ {g index plain h : List ℕ} {n : ℕ} {memo numbers : List ℕ} (w : C
       })
 
 module _ {g h : List ℕ} {n : ℕ} {memo numbers : List ℕ} {at count t : ℕ} (w : Collecting g h n memo numbers at count t) where
-  pub collect-end : numbersFrom h at ≡ [] → CollectedAs g h n numbers (Numbers count)
-  collect-end e = record {
-    holds = (
-      sym (w .many) ∙ ap (λ (l : List ℕ). someOf (manyIn g n) (map (wordsOf h) l)) e,
-      omega (arith, w .room),
-      sym (append-nil (take count numbers)) ∙ ap (λ (l : List ℕ). take count numbers ++ concatMap (numbersIn g n) (map (wordsOf h) l)) (sym e) ∙ w .due,
-    );
-  }
+  -- at the end
+  pub collect-end : {s : List ℕ} → Accepted h → s ≡ sentenceAt h at → length s ≡ 0 → CollectedAs g h n numbers (Numbers count)
+  collect-end diary same z =
+      let e = read-end h at diary (ap length (sym same) ∙ z) in
+      record {
+        holds = (
+          sym (w .many) ∙ ap (λ (l : List ℕ). someOf (manyIn g n) (map (wordsOf h) l)) e,
+          omega (arith, w .room),
+          sym (append-nil (take count numbers)) ∙ ap (λ (l : List ℕ). take count numbers ++ concatMap (numbersIn g n) (map (wordsOf h) l)) (sym e) ∙ w .due,
+        );
+      }
 
-  -- a record more
-  module _ (r next : ℕ) (step : numbersFrom h at ≡ r ∷ numbersFrom h next) where
-    shorter : length (numbersFrom h at) ≡ suc (length (numbersFrom h next))
-    shorter = ap length step
+  -- a sentence more
+  module _ {s : List ℕ} (r : Read h at s) where
+    -- it is the first of those to come
+    step : (s ≡ wordsOf h at) × (numbersFrom h at ≡ at ∷ numbersFrom h (nextAt h at))
+    step = let q = read-record h at (r .diary) (λ z. r .more (ap length (r .same) ∙ z)) in (r .same ∙ q .0, q .1)
 
-    pub collect-inside : Inside h r
-    collect-inside = let q = numbers-inside h at {x = r} (rw step (List·Memᴰ·head refl)) in record { low = q .0; high = q .1 }
+    comes : toCome h at ≡ s ∷ toCome h (nextAt h at)
+    comes = ap (map (wordsOf h)) (step .1) ∙ ap (λ (x : List ℕ). x ∷ toCome h (nextAt h at)) (sym (step .0))
 
-    pub collect-asks : {index plain : List ℕ} → Tabled g n index plain → Accepted h → Tells g index plain h n r t count memo numbers
-    collect-asks tabled diary = record {
+    fewer : length (numbersFrom h at) ≡ suc (length (numbersFrom h (nextAt h at)))
+    fewer = ap length (step .1)
+
+    pub collect-less : {next : ℕ} → next ≡ nextAt h at → length (numbersFrom h next) < length (numbersFrom h at)
+    collect-less e = rw e (omega (arith, fewer))
+
+    pub collect-asks : {index plain : List ℕ} → Tabled g n index plain → Tells g index plain n t count memo numbers
+    collect-asks tabled = record {
       tabled = tabled;
-      diary = diary;
-      inside = collect-inside;
       clear = w .clear;
-      room = omega (arith, w .room, w .long, shorter);
+      room = omega (arith, w .room, w .long, fewer);
     }
 
-    pub collect-many : {memo′ after : List ℕ} → ToldAs g h n r t count memo′ numbers after Ambiguous → CollectedAs g h n after Ambiguous
-    collect-many q = record { holds = sym (w .many) ∙ rw (step, q .adds) }
+    pub collect-many : {memo′ after : List ℕ} {c : Collected} → ToldAs g s n t count memo′ numbers after c → c ≡ Ambiguous → CollectedAs g h n after Ambiguous
+    collect-many told case = let q = rw case at told in record { holds = sym (w .many) ∙ rw (comes, q .adds) }
 
-    pub collect-more : {memo′ after : List ℕ} {k : ℕ} → ToldAs g h n r t count memo′ numbers after (Numbers k) → length after ≡ length numbers
+    pub collect-more : {memo′ after : List ℕ} {c : Collected} {next k : ℕ} → next ≡ nextAt h at
+        → ToldAs g s n t count memo′ numbers after c → c ≡ Numbers k → length after ≡ length numbers
         → Collecting g h n memo′ after next k (t + 1)
-    collect-more {memo′} {after} {k} q same =
-        let s = wordsOf h r in
+    collect-more {memo′} {after} {c} {next} {k} e told case kept =
+        let q = rw case at told in
         let few = few-in g n s in
-        record {
-          due = ap (λ (l : List ℕ). l ++ concatMap (numbersIn g n) (toCome h next)) (q .adds .2)
-              ∙ append-assoc (take count numbers) (numbersIn g n s) (concatMap (numbersIn g n) (toCome h next))
-              ∙ ap (λ (l : List ℕ). take count numbers ++ concatMap (numbersIn g n) (map (wordsOf h) l)) (sym step)
+        rw e
+        (record {
+          due = ap (λ (l : List ℕ). l ++ concatMap (numbersIn g n) (toCome h (nextAt h at))) (q .adds .2)
+              ∙ append-assoc (take count numbers) (numbersIn g n s) (concatMap (numbersIn g n) (toCome h (nextAt h at)))
+              ∙ ap (λ (l : List (List ℕ)). take count numbers ++ concatMap (numbersIn g n) l) (sym comes)
               ∙ w .due;
-          many = ap (λ (b : Bool). b || someOf (manyIn g n) (toCome h next)) (sym (q .adds .0))
-              ∙ ap (λ (l : List ℕ). someOf (manyIn g n) (map (wordsOf h) l)) (sym step)
+          many = ap (λ (b : Bool). b || someOf (manyIn g n) (toCome h (nextAt h at))) (sym (q .adds .0))
+              ∙ ap (someOf (manyIn g n)) (sym comes)
               ∙ w .many;
-          room = omega (arith, q .adds .1, few, w .room, shorter);
-          stamps = omega (arith, w .stamps, shorter);
+          room = omega (arith, q .adds .1, few, w .room, fewer);
+          stamps = omega (arith, w .stamps, fewer);
           clear = q .clear;
           long = omega (arith, w .long);
-        }
+        })
 
 -- what is collected, once its case is known
 pub collect-case : {g h : List ℕ} {n : ℕ} {numbers : List ℕ} {c d : Collected} → CollectedAs g h n numbers c → c ≡ d → Holds g h n numbers d

@@ -12,9 +12,7 @@ use Rattle.counting.specs.Prepared.{Tabled}
 use Rattle.readings.specs.Pattern.{fitting}
 use Rattle.readings.specs.Memo.{Remembers}
 use Rattle.ranking.specs.Answers.{readingsOf, numberOf}
-use Rattle.history.specs.Layout.{wordsOf}
 use Rattle.history.specs.Refusals.{Accepted}
-use Rattle.history.specs.Checks.{Inside}
 use Rattle.history.specs.Heard.{sentences}
 use Rattle.sampling.specs.Unheard.{ambiguous}
 use Rattle.sampling.specs.declared.heard.Collected.{Collected}
@@ -32,12 +30,10 @@ manyIn g n s = eqb (length s) n && leb 2 (readingsOf g s)
 abbrev pub Clear : (g : List ℕ) (n t : ℕ) (memo : List ℕ) → Type 0
 Clear g n t memo = (s : List ℕ) → Remembers (chain g) (fitting s) n t memo
 
--- ---- one record
+-- ---- one sentence
 
-pub record Tells (g index plain h : List ℕ) (n r t count : ℕ) (memo numbers : List ℕ) : Type 0 where
+pub record Tells (g index plain : List ℕ) (n t count : ℕ) (memo numbers : List ℕ) : Type 0 where
   pub tabled : Tabled g n index plain
-  pub diary : Accepted h
-  pub inside : Inside h r
   pub clear : Clear g n t memo
   pub room : count < length numbers
 
@@ -47,11 +43,11 @@ Adds g n s count before after (Numbers k) =
     (manyIn g n s ≡ false) × (k ≡ count + length (numbersIn g n s)) × (take k after ≡ take count before ++ numbersIn g n s)
 Adds g n s count before after Ambiguous = manyIn g n s ≡ true
 
-pub record ToldAs (g h : List ℕ) (n r t count : ℕ) (memo before after : List ℕ) (c : Collected) : Type 0 where
-  pub adds : Adds g n (wordsOf h r) count before after c
+pub record ToldAs (g s : List ℕ) (n t count : ℕ) (memo before after : List ℕ) (c : Collected) : Type 0 where
+  pub adds : Adds g n s count before after c
   pub clear : Clear g n (t + 1) memo
 
--- ---- all records
+-- ---- all sentences
 
 pub record Collects (g index plain h : List ℕ) (n : ℕ) (memo numbers : List ℕ) : Type 0 where
   pub tabled : Tabled g n index plain

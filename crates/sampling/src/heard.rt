@@ -1,8 +1,6 @@
 // The heard derivation numbers: those of the history's sentences of a length that have one derivation.
 ghost use Rattle.sampling.specs.Hearing.{Tells, ToldAs, Collects, CollectedAs};
-use history::cursor::RecordCursor;
-use history::cursor::Step;
-use history::records;
+use history::reader;
 use ranking::rank;
 use ranking::rank::Found;
 
@@ -12,26 +10,25 @@ pub enum Collected {
     Ambiguous,
 }
 
-// What record r adds to the first `count` numbers.
+// What a sentence of the history adds to the first `count` numbers.
 fn tell(
     g: &[u8],
     index: &[u8; 1024],
     plain: &[u64; 544],
-    h: &[u8],
+    s: &[u8],
     n: usize,
-    r: usize,
     t: u64,
     count: usize,
     memo: &mut [u64],
     numbers: &mut [u64],
 ) -> Collected
-    requires { ⌜ Tells (now g) (now index) (now plain) (now h) n r t count (now memo) (now numbers) ⌝ }
-    ensures { λ c. ⌜ ToldAs (now (g .entry)) (now (h .entry)) n r t count (now (memo .exit)) (now (numbers .entry)) (now (numbers .exit)) c ⌝ }
+    requires { ⌜ Tells (now g) (now index) (now plain) n t count (now memo) (now numbers) ⌝ }
+    ensures { λ c. ⌜ ToldAs (now (g .entry)) (now (s .entry)) n t count (now (memo .exit)) (now (numbers .entry)) (now (numbers .exit)) c ⌝ }
 {
-    if records::length(h, r) != n {
+    if s.len() != n {
         return Collected::Numbers(count);
     }
-    let f = rank::find(g, index, plain, records::words(h, r), t, memo);
+    let f = rank::find(g, index, plain, s, t, memo);
     match f {
         Found::None => Collected::Numbers(count),
         Found::Many => Collected::Ambiguous,
@@ -42,7 +39,7 @@ fn tell(
     }
 }
 
-// The numbers along the chain, one after another.
+// The numbers along the chain, one sentence after another. An empty sentence is the end.
 pub fn collect(
     g: &[u8],
     index: &[u8; 1024],
@@ -55,27 +52,23 @@ pub fn collect(
     requires { ⌜ Collects (now g) (now index) (now plain) (now h) n (now memo) (now numbers) ⌝ }
     ensures { λ c. ⌜ CollectedAs (now (g .entry)) (now (h .entry)) n (now (numbers .exit)) c ⌝ }
 {
-    let mut cursor = RecordCursor::new(h);
+    let mut at = reader::first(h);
     let mut count = 0;
     let mut t = 1;
     loop {
-        let s = cursor.step(h);
-        match s {
-            Step::End => {
-                return Collected::Numbers(count);
+        let s = reader::sentence(h, at);
+        if s.len() == 0 {
+            return Collected::Numbers(count);
+        }
+        let c = tell(g, index, plain, s, n, t, count, memo, numbers);
+        match c {
+            Collected::Ambiguous => {
+                return Collected::Ambiguous;
             }
-            Step::Record(r, next) => {
-                let c = tell(g, index, plain, h, n, r, t, count, memo, numbers);
-                match c {
-                    Collected::Ambiguous => {
-                        return Collected::Ambiguous;
-                    }
-                    Collected::Numbers(k) => {
-                        cursor = next;
-                        count = k;
-                        t += 1;
-                    }
-                }
+            Collected::Numbers(k) => {
+                at = reader::after(h, at);
+                count = k;
+                t += 1;
             }
         }
     }
