@@ -31,7 +31,7 @@ pub fn record_at(r: usize) -> usize
 }
 
 // How many words the sentence of record r has.
-pub fn length(h: &[u8], r: usize) -> usize
+fn length(h: &[u8], r: usize) -> usize
     requires { ⌜ Accepted (now h) × Inside (now h) r ⌝ }
     ensures { λ n. ⌜ n ≡ lengthOf (now (h .entry)) r ⌝ }
 {

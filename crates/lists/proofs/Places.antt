@@ -2,10 +2,10 @@
 -- Assumes nothing.
 use mathlib.Core.Path.{_≡_, refl, sym, ap, _∙_}
 use mathlib.Core.List.{List, [], _∷_, _++_, map}
-use Prim.Native.Nat.{ℕ, zero, suc, _+_, _*_, _-_, _/_, _%_, _≤_, _<_}
+use Prim.Native.Nat.{ℕ, zero, suc, _+_, _*_, _-_, _/_, _≤_, _<_}
 use native.Mathlib.Omega.{arith}
 use native.Mathlib.Numerals.{add-one}
-use native.Mathlib.Nat.{div-add-mod', mod-lt, div-lt-iff-lt-mul, div-eq-of-lt, mul-add-div-right}
+use native.Mathlib.Nat.{div-eq-of-lt, mul-add-div-right}
 use lib.Seq.{getD-append-add, drop-cons}
 use lib.ListN.{length, getD, set, drop, replicate, length-map, List·getD-append}
 use Rattle.lists.specs.Joined.{combine, upFrom}
@@ -36,10 +36,6 @@ module _ {X : Type 0} where
   getD-same (suc n) (suc i) x = getD-same n i x
 
 module _ {X Y : Type 0} where
-  some-right : (l : List X) (r : List Y) (d : ℕ) → d < length l * length r → 0 < length r
-  some-right l [] d h = absurd (omega arith)
-  some-right l (y ∷ r) d h = omega arith
-
   pub getD-map : (f : X → Y) (l : List X) (n : ℕ) (x : X) (y : Y) → n < length l → getD (map f l) n y ≡ f (getD l n x)
   getD-map f [] n x y h = absurd (omega arith)
   getD-map f (a ∷ l) zero x y h = refl
@@ -56,15 +52,6 @@ module _ {X Y Z : Type 0} where
   getD-combine-at f (c ∷ l) r (suc a) b x y z h h′ =
       let e : suc a * length r + b ≡ length (map (f c) r) + (a * length r + b) = omega (arith, length-map r (f c)) in
       rw e (getD-append-add (map (f c) r) (combine f l r) (a * length r + b) z ∙ getD-combine-at f l r a b x y z (omega arith) h′)
-
-  -- the quotient chooses on the left, the remainder on the right
-  pub getD-combine : (f : X → Y → Z) (l : List X) (r : List Y) (d : ℕ) (x : X) (y : Y) (z : Z) → d < length l * length r
-      → getD (combine f l r) d z ≡ f (getD l (d / length r) x) (getD r (d % length r) y)
-  getD-combine f l r d x y z h =
-      let p : 0 < length r = some-right l r d h in
-      let q : d / length r < length l = div-lt-iff-lt-mul p .1 h in
-      ap (λ (k : ℕ). getD (combine f l r) k z) (sym (div-add-mod' d (length r)))
-      ∙ getD-combine-at f l r (d / length r) (d % length r) x y z q (mod-lt d p)
 
 pub getD-upFrom : (k n i d : ℕ) → i < n → getD (upFrom k n) i d ≡ k + i
 getD-upFrom k zero i d h = absurd (omega arith)

@@ -30,7 +30,6 @@ use Rattle.grammar.proofs.Enumeration.{sound, complete}
 use Rattle.grammar.proofs.Order as order
 use Rattle.ranking.specs.Answers.{fullList, totalOf}
 use Rattle.ranking.specs.Demand2.{written}
-use Rattle.history.specs.Refusals as history
 use Rattle.history.specs.Heard.{heard}
 use Rattle.sampling.specs.Unheard.{Entry, outside, unheard, barred, heardOf, leftOf, ambiguous}
 use Rattle.sampling.specs.Answers.{remainingRows, remainingOf, drawn, drawOf}

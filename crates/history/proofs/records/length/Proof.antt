@@ -9,8 +9,6 @@ use Rattle.history.proofs.Acceptance.{known}
 use borrow.Author.Needs.{needs}
 use Rattle.history.proofs.records.length.Statement.{statement}
 use Rattle.history.proofs.records.length.Tie as tie
-use Rattle.history.proofs.records.record_at.Reads as record-at-reads
-use Rattle.history.proofs.records.wide.Reads as wide-reads
 
 record-at-requires : tie.Need-record-at-requires
 record-at-requires c κs = let k = known _ (c .before .pre .0) in omega arith

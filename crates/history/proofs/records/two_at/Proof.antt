@@ -5,7 +5,6 @@ use borrow.Author.Needs.{needs}
 use Rattle.history.specs.Layout.{twoAt}
 use Rattle.history.proofs.records.two_at.Statement.{statement}
 use Rattle.history.proofs.records.two_at.Tie as tie
-use Rattle.history.proofs.records.wide.Reads as wide-reads
 
 shared-slice-read-wide : tie.Need-shared-slice-read-wide
 shared-slice-read-wide c = search needs
