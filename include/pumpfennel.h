@@ -13,8 +13,8 @@
  * - No other thread writes to what a call is given, or reads what it writes, until it returns.
  *
  * The library keeps nothing between calls, and neither allocates nor reads or writes any file: calls on different
- * buffers may run in several threads. Tables lie on the stack. rank, remaining and draw take up to 160 KiB of it and
- * the others up to 16 KiB; with 256 KiB free every call is safe.
+ * buffers may run in several threads. Tables lie on the stack. rank, remaining and draw take up to 100 KiB of it and
+ * the others up to 16 KiB; with 160 KiB free every call is safe.
  */
 #ifndef PUMPFENNEL_H
 #define PUMPFENNEL_H

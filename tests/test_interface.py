@@ -23,7 +23,7 @@ HEADER = ROOT / 'include' / 'pumpfennel.h'
 ARCHIVE = ROOT / 'target' / 'staticlib' / 'libpumpfennel.a'
 STRICT = ['-Wall', '-Wextra', '-Werror']
 MOST = oracle.MOST
-LITTLE, LARGE = 16 * 1024, 160 * 1024  # the header's figures for the stack
+LITTLE, LARGE = 16 * 1024, 100 * 1024  # the header's figures for the stack
 CALLS = ['check_grammar', 'check_history', 'count', 'unrank', 'rank', 'remaining', 'draw', 'append']
 
 
@@ -207,7 +207,7 @@ class Calls(unittest.TestCase):
         for call, most in used.items():
             self.assertLess(most, LARGE if call in ('rank', 'remaining', 'draw') else LITTLE, call)
         self.assertGreater(used['draw'], LARGE // 2)
-        self.assertIn('up to 160 KiB', HEADER.read_text())
+        self.assertIn('up to 100 KiB', HEADER.read_text())
         self.assertIn('up to 16 KiB', HEADER.read_text())
 
 

@@ -8,7 +8,7 @@
 //! The work is done by a proved archive, written by `rt staticlib pumpfennel` in the project's folder. This crate
 //! links it and gives each of its functions a safe face; it checks nothing itself and allocates nothing. No call
 //! requires anything of the bytes it is handed: what is wrong with them is a [`Refusal`]. After a refusal every
-//! lent buffer is as it was. Nothing is kept between calls. A call takes less than 192 KiB of stack.
+//! lent buffer is as it was. Nothing is kept between calls. A call takes less than 128 KiB of stack.
 //!
 //! # The house matrix grammar
 //!

@@ -9,12 +9,12 @@ use lib.ListN.{length, length-map}
 use Rattle.lists.specs.Joined.{sumOver, combine}
 use Rattle.lists.specs.Ordered.{Exactly}
 use Rattle.lists.proofs.Sums.{sum-ext, sum-one, sum-map, sum-append, sum-concat, sum-combine}
-use Rattle.grammar.specs.Chains.{Rule}
+use Rattle.grammar.specs.Chains.{Rule, wordsOf, pairsOf}
 use Rattle.grammar.specs.Trees.{sentence, Derives}
 use Rattle.grammar.specs.FullList.{trees}
 use Rattle.grammar.proofs.Order.{how-many}
 use Rattle.counting.specs.Totals.{splitSum, total, T}
-use Rattle.counting.specs.Sentences.{sentences, weight, wordsOf, pairsOf, splitList}
+use Rattle.counting.specs.Sentences.{sentences, weight, splitList}
 use Rattle.counting.proofs.Totals.{pairTotal, split-ext, total-none, total-one, total-more}
 use Rattle.counting.proofs.Sentences.{sentences-none, sentences-one, sentences-more, sentence-length}
 

@@ -16,18 +16,18 @@ use lib.Seq.{drop-cons, drop-length, getD-set-same, getD-set-other}
 use Rattle.lists.specs.Joined.{sumOver}
 use Rattle.lists.proofs.Tests.{below-clear, below-some, to-clear, to-some}
 use Rattle.grammar.specs.Layout.{nonterminals}
-use Rattle.grammar.specs.Chains.{chain}
+use Rattle.grammar.specs.Chains.{chain, pairsOf}
 use Rattle.grammar.specs.Refusals.{Accepted}
+use Rattle.grammar.specs.Index.{wordFrom, pairFrom, Indexed}
 use Rattle.grammar.proofs.Acceptance.{known}
 use Rattle.counting.specs.Totals.{T}
-use Rattle.counting.specs.Sentences.{pairsOf}
-use Rattle.counting.specs.Tables.{wordFrom, pairFrom, Indexed, cell, most, tooLarge}
+use Rattle.counting.specs.Tables.{cell, most, tooLarge}
 use Rattle.counting.specs.Prepared.{Filled}
 use Rattle.counting.specs.Filling.{Says, partSum, Halves, RowTo, Deriving, longer, stored, rowTooLarge, RowFilled, RowFilling}
 use Rattle.counting.specs.declared.plain.Tally.{Tally}
 use Rattle.counting.specs.declared.plain.Tally.the-variants.{Fits, Over}
 use Rattle.counting.proofs.Totals.{T-one}
-use Rattle.counting.proofs.Indexing.{pair-there, pair-here, pair-inside}
+use Rattle.grammar.proofs.Indexing.{pair-there, pair-here, pair-inside}
 use Rattle.counting.proofs.PairSums.{part-le, part-none, part-end, part-ext, pairSum, T-pairs}
 
 -- ---- the loop over a pair rule's left lengths

@@ -2,7 +2,6 @@
 pub mod Totals
 pub mod Sentences
 pub mod Counts
-pub mod Indexing
 pub mod OneLength
 pub mod PairSums
 pub mod Filling

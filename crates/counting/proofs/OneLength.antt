@@ -7,9 +7,8 @@ use Prim.Native.Nat.{ℕ, zero, suc, _+_, _*_, _-_, _≤_, _<_}
 use native.Mathlib.Omega.{arith}
 use native.Mathlib.Decide.{ℕ-discrete}
 use lib.ListN.{length}
-use Rattle.grammar.specs.Chains.{Rule}
+use Rattle.grammar.specs.Chains.{Rule, wordsOf, pairsOf}
 use Rattle.counting.specs.Totals.{splitSum, T}
-use Rattle.counting.specs.Sentences.{wordsOf, pairsOf}
 use Rattle.counting.proofs.Totals.{split-step, split-skip, split-dead, T-one, T-more, total-none}
 
 -- n derivations of A, each with b words

@@ -9,9 +9,8 @@ use native.Mathlib.Nat.{mul-le-mul, le-div-iff-mul-le, div-lt-iff-lt-mul}
 use native.Mathlib.Numerals.{add-one}
 use Rattle.lists.specs.Joined.{sumOver}
 use Rattle.lists.proofs.Sums.{sum-ext}
-use Rattle.grammar.specs.Chains.{Rule}
+use Rattle.grammar.specs.Chains.{Rule, pairsOf}
 use Rattle.counting.specs.Totals.{splitSum, T}
-use Rattle.counting.specs.Sentences.{pairsOf}
 use Rattle.counting.specs.Tables.{most}
 use Rattle.counting.specs.Filling.{partSum}
 use Rattle.counting.proofs.Totals.{pairTotal, T-more, split-step, split-end, split-dead, split-skip}

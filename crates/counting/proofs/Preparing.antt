@@ -19,9 +19,10 @@ use Rattle.grammar.specs.declared.checks.GrammarRefusal.{GrammarRefusal}
 use Rattle.grammar.specs.declared.checks.GrammarRefusal.the-variants.{TooShort, OutOfRange, WrongSize, BadRule, BadLink, MetTwice, OnNoChain, Repeated}
 use Rattle.grammar.specs.declared.checks.GrammarAnswer.{GrammarAnswer}
 use Rattle.grammar.specs.declared.checks.GrammarAnswer.the-variants as checked
+use Rattle.grammar.specs.Index.{Indexed}
 use Rattle.grammar.proofs.Acceptance.{known}
 use Rattle.counting.specs.Totals.{T}
-use Rattle.counting.specs.Tables.{Indexed, cell, tooLarge}
+use Rattle.counting.specs.Tables.{cell, tooLarge}
 use Rattle.counting.specs.Prepared.{preparedRows, countNumber, Prepares, Filled}
 use Rattle.counting.specs.Answers as answers
 use Rattle.counting.specs.declared.prepare.CountRefusal.{CountRefusal}

@@ -8,11 +8,11 @@ use native.Mathlib.Omega.{arith}
 use lib.ListN.{length, length-append}
 use Rattle.lists.specs.Joined.{_∈_, concatMap, combine}
 use Rattle.lists.proofs.Sums.{map-concat, map-combine, concat-append}
-use Rattle.grammar.specs.Chains.{Rule, word, pair}
+use Rattle.grammar.specs.Chains.{Rule, word, pair, wordsOf, pairsOf}
 use Rattle.grammar.specs.Trees.{Tree, leaf, node, size, sentence}
 use Rattle.grammar.specs.FullList.{Choice, one, two, splits, choicesFrom, expand, choices, trees}
 use Rattle.grammar.proofs.Enumeration.{trees-eq, sound, derives-size}
-use Rattle.counting.specs.Sentences.{sentences, wordsOf, pairsOf, splitList}
+use Rattle.counting.specs.Sentences.{sentences, splitList}
 
 -- what the derivations that begin with a choice say
 said : (list : ℕ → ℕ → List (List ℕ)) → Choice → List (List ℕ)

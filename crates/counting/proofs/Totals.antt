@@ -13,9 +13,8 @@ use lib.Dec.{eqb}
 use Rattle.lists.specs.Joined.{sumOver}
 use Rattle.lists.proofs.Sums.{sum-ext, sum-le, sum-one}
 use lib.ListN.{length}
-use Rattle.grammar.specs.Chains.{Rule, word, pair}
+use Rattle.grammar.specs.Chains.{Rule, word, pair, wordsOf, pairsOf}
 use Rattle.counting.specs.Totals.{splitSum, ruleTotal, totalTo, total, T}
-use Rattle.counting.specs.Sentences.{wordsOf, pairsOf}
 
 -- ---- a pair rule's products
 

@@ -11,8 +11,9 @@ use Rattle.lists.specs.Searched.{someBelow}
 use Rattle.grammar.specs.Layout.{nonterminals}
 use Rattle.grammar.specs.Chains.{chain}
 use Rattle.grammar.specs.Refusals.{Accepted}
+use Rattle.grammar.specs.Index.{Indexed}
 use Rattle.counting.specs.Totals.{T}
-use Rattle.counting.specs.Tables.{Indexed, cell, most}
+use Rattle.counting.specs.Tables.{cell, most}
 use Rattle.counting.specs.declared.plain.Tally.{Tally}
 use Rattle.counting.specs.declared.plain.Tally.the-variants.{Fits, Over}
 

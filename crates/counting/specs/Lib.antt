@@ -1,7 +1,6 @@
 pub mod Totals
 pub mod Sentences
 pub mod Tables
-pub mod Indexing
 pub mod Prepared
 pub mod Answers
 pub mod Filling

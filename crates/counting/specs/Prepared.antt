@@ -9,7 +9,8 @@ use Rattle.answers.specs.Length.{badLength}
 use Rattle.grammar.specs.Layout.{nonterminals}
 use Rattle.grammar.specs.Refusals.{grammarRows, Accepted}
 use Rattle.grammar.specs.Answers.{refusalNumber}
-use Rattle.counting.specs.Tables.{Indexed, Rows, tooLarge}
+use Rattle.grammar.specs.Index.{Indexed}
+use Rattle.counting.specs.Tables.{Rows, tooLarge}
 use Rattle.counting.specs.declared.prepare.Prepared.{Prepared}
 use Rattle.counting.specs.declared.prepare.Prepared.the-variants.{Ready, Refused}
 use Rattle.counting.specs.declared.prepare.CountRefusal.{CountRefusal}

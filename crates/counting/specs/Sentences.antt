@@ -3,7 +3,7 @@
 use mathlib.Core.List.{List, [], _∷_, _++_, map}
 use Prim.Native.Nat.{ℕ, zero, suc, _*_}
 use Rattle.lists.specs.Joined.{combine}
-use Rattle.grammar.specs.Chains.{Rule, word, pair}
+use Rattle.grammar.specs.Chains.{Rule}
 use Rattle.grammar.specs.Trees.{sentence}
 use Rattle.grammar.specs.FullList.{trees}
 
@@ -15,17 +15,6 @@ sentences chain A m = map sentence (trees chain A m)
 abbrev pub weight : (v : ℕ → ℕ → ℕ) (p : ℕ) → List ℕ → ℕ
 weight v p [] = 1
 weight v p (w ∷ u) = v p w * weight v (suc p) u
-
--- the words of the word rules and the nonterminals of the pair rules, in chain order
-abbrev pub wordsOf : List Rule → List ℕ
-wordsOf [] = []
-wordsOf (word w ∷ rs) = w ∷ wordsOf rs
-wordsOf (pair B C ∷ rs) = wordsOf rs
-
-abbrev pub pairsOf : List Rule → List (ℕ × ℕ)
-pairsOf [] = []
-pairsOf (word w ∷ rs) = pairsOf rs
-pairsOf (pair B C ∷ rs) = (B, C) ∷ pairsOf rs
 
 -- the sentences of a pair rule, for the left lengths k, k + 1, .. and the right lengths j, j - 1, .. 1; `list` gives those of the halves
 abbrev pub splitList : (list : ℕ → ℕ → List (List ℕ)) → (B C k j : ℕ) → List (List ℕ)

@@ -2,7 +2,6 @@
 ghost use mathlib.Core.Path.{_≡_};
 ghost use lib.ListN.{length};
 ghost use Rattle.counting.specs.Prepared.{countNumber, Prepares};
-use crate::index;
 use crate::plain;
 use grammar::checks;
 use grammar::checks::GrammarAnswer;
@@ -34,7 +33,7 @@ pub fn prepare(g: &[u8], n: u64, index: &mut [u8; 1024], plain: &mut [u64; 544])
     requires { ⌜ (length (now index) ≡ 1024) × (length (now plain) ≡ 544) ⌝ }
     ensures { λ r. ⌜ Prepares (now (g .entry)) n (now (index .exit)) (now (plain .exit)) r ⌝ }
 {
-    let checked = checks::check(g);
+    let checked = checks::read(g, index);
     match checked {
         GrammarAnswer::Refused(r) => return Prepared::Refused(CountRefusal::Grammar(r)),
         GrammarAnswer::Accepted {
@@ -48,7 +47,6 @@ pub fn prepare(g: &[u8], n: u64, index: &mut [u8; 1024], plain: &mut [u64; 544])
     if 16 < n {
         return Prepared::Refused(CountRefusal::Length);
     }
-    index::build(g, index);
     if plain::fill(g, index, n as usize, plain) {
         return Prepared::Ready;
     }

@@ -2,7 +2,8 @@
 ghost use mathlib.Core.Path.{_≡_};
 ghost use Prim.Native.Nat.{_+_, _*_, _≤_, _<_};
 ghost use lib.ListN.{getD};
-ghost use Rattle.counting.specs.Tables.{wordFrom, pairFrom, cell};
+ghost use Rattle.grammar.specs.Index.{wordFrom, pairFrom};
+ghost use Rattle.counting.specs.Tables.{cell};
 
 pub fn wide(x: u8) -> usize
     ensures { λ r. ⌜ (r ≡ x) × (r < 256) ⌝ }

@@ -14,7 +14,8 @@ use Rattle.lists.proofs.Tests.{within-facts, within-low, within-high, within-bo
 use Rattle.answers.proofs.Refusals.{row-clear}
 use Rattle.grammar.specs.Layout.{nonterminals, words, rules, start, headOf, kindOf, aOf, bOf, nextOf, sizeOf}
 use Rattle.grammar.specs.Chains.{met}
-use Rattle.grammar.specs.Refusals.{tooShort, outOfRange, wrongSize, fits, misfit, badRule, headAbove, nextAbove, badLink, metTwice, onNoChain, Accepted}
+use Rattle.grammar.specs.Refusals.{tooShort, outOfRange, wrongSize, fits, misfit, badRule, headAbove, nextAbove, badLink, metTwice, onNoChain, repeated, Accepted}
+use Rattle.grammar.specs.Checks.{Readable}
 
 -- ---- 2: the ranges
 
@@ -100,6 +101,11 @@ fits-cases N W (suc zero) a b e =
     inr (refl, ltb-true a N (and-left (ltb a N) (ltb b N) e), ltb-true b N (and-right (ltb a N) (ltb b N) e))
 fits-cases N W (suc (suc kind)) a b e = absurd (false≢true e)
 
+pub rule-fits : (g : List ℕ) → badRule g ≡ false → (r : ℕ) → 1 ≤ r → r ≤ rules g
+    → fits (nonterminals g) (words g) (kindOf g r) (aOf g r) (bOf g r) ≡ true
+unfolding badRule
+rule-fits g e r h k = not-false _ (to-at (misfit g) (rules g) r e h k)
+
 one-left : (x : ℕ) → x < 2 → (x ≡ 0 → ⊥) → x ≡ 1
 one-left zero h n = absurd (n refl)
 one-left (suc x) h n = omega arith
@@ -109,13 +115,14 @@ one-left (suc x) h n = omega arith
 pub record Known (g : List ℕ) : Type 0 where
   pub ranges : Ranges g
   pub size : length g ≡ sizeOf g
-  pub fit : (r : ℕ) → 1 ≤ r → r ≤ rules g → fits (nonterminals g) (words g) (kindOf g r) (aOf g r) (bOf g r) ≡ true
+  pub fit : badRule g ≡ false
   pub heads : (A : ℕ) → A < nonterminals g → headOf g A ≤ rules g
   pub nexts : (r : ℕ) → 1 ≤ r → r ≤ rules g → nextOf g r ≤ rules g
   pub once : (r : ℕ) → 1 ≤ r → r ≤ rules g → times r (met g) ≡ 1
+  pub apart : repeated g ≡ false
 
 pub known : (g : List ℕ) → Accepted g → Known g
-unfolding wrongSize badRule badLink metTwice onNoChain
+unfolding wrongSize badLink metTwice onNoChain
 known g ok =
     let c₁ = row-clear 1 _ (tooShort g) (lit< tt) ok in
     let c₂ = row-clear 2 _ (outOfRange g) (lit< tt) (c₁ .1) in
@@ -124,16 +131,27 @@ known g ok =
     let c₅ = row-clear 5 _ (badLink g) (lit< tt) (c₄ .1) in
     let c₆ = row-clear 6 _ (metTwice g) (lit< tt) (c₅ .1) in
     let c₇ = row-clear 7 _ (onNoChain g) (lit< tt) (c₆ .1) in
+    let c₈ = row-clear 8 _ (repeated g) (lit< tt) (c₇ .1) in
     let hs = someBelow (headAbove g) (nonterminals g) in
     let ns = someTo (nextAbove g) (rules g) in
     record {
       ranges = range-facts g (c₂ .0);
       size = eqb-true (length g) (sizeOf g) (not-false _ (c₃ .0));
-      fit = λ r h k. not-false _ (to-at (misfit g) (rules g) r (c₄ .0) h k);
+      fit = c₄ .0;
       heads = λ A h. ltb-false (rules g) (headOf g A) (below-at (headAbove g) (nonterminals g) A (or-left hs ns (c₅ .0)) h);
       nexts = λ r h k. ltb-false (rules g) (nextOf g r) (to-at (nextAbove g) (rules g) r (or-right hs ns (c₅ .0)) h k);
       once = λ r h k.
           let twice = leb-false 2 (times r (met g)) (to-at (λ q. leb 2 (times q (met g))) (rules g) r (c₆ .0) h k) in
           let none = eqb-false (times r (met g)) 0 (to-at (λ q. eqb (times q (met g)) 0) (rules g) r (c₇ .0) h k) in
           one-left (times r (met g)) twice none;
+      apart = c₈ .0;
+    }
+
+-- its walks can read every rule
+pub readable : (g : List ℕ) → Known g → Readable g
+readable g ok =
+    record {
+      sized = record { heads = refl; bodies = refl; few = ok .ranges .few-nonterminals; numbered = ok .ranges .few-rules; size = ok .size };
+      spoken = ok .ranges .few-words;
+      fit = ok .fit;
     }

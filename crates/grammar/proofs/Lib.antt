@@ -4,6 +4,6 @@ pub mod Enumeration
 pub mod Order
 pub mod Acceptance
 pub mod Walks
-pub mod Marks
+pub mod Indexing
 pub mod Twins
 pub mod Outcome

@@ -1,34 +1,45 @@
 -- What *Check bank* answers, as its tests are made one after another: the refusal is the first of the lines not yet passed.
 -- Assumes nothing.
-use mathlib.Core.Path.{_≡_, refl, sym, ap, _∙_}
+use mathlib.Core.Path.{_≡_, refl, sym, ap}
 use mathlib.Core.Bool.{Bool, true, false, not}
 use mathlib.Core.List.{List, [], _∷_}
-use Prim.Native.Nat.{ℕ, zero, suc, _+_, _*_, _≤_, _<_}
+use Prim.Native.Nat.{ℕ, _+_, _≤_, _<_}
 use native.Mathlib.Omega.{arith}
-use borrow.Author.Tests.{lt-ltb, le-ltb, le-leb, eq-eqb, ne-eqb}
-use lib.ListN.{length, getD, drop}
-use lib.Dec.{ltb, leb, eqb}
-use Rattle.lists.specs.Searched.{within, someBelow, someTo, times}
-use Rattle.lists.proofs.Tests.{within-high, within-both, or-true, below-ext, to-ext}
+use borrow.Author.Tests.{leb-false, lt-ltb, le-ltb, eqb-false, eq-eqb, ne-eqb}
+use lib.ListN.{length, drop}
+use lib.Dec.{leb, eqb}
+use Rattle.lists.specs.Joined.{_∈_, upFrom}
+use Rattle.lists.specs.Searched.{someBelow, someTo, times}
+use Rattle.lists.proofs.Members.{upFrom-∈, ∈-upFrom}
+use Rattle.lists.proofs.Searches.{times-few, times-many, times-full}
+use Rattle.lists.proofs.Tests.{or-true, to-at, to-clear}
 use Rattle.answers.specs.Answer.{firstThatApplies}
 use Rattle.answers.proofs.Refusals.{answer-accepted, answer-refused}
-use Rattle.grammar.specs.Layout.{byteAt, nonterminals, words, rules, sizeOf}
+use Rattle.grammar.specs.Layout.{nonterminals, words, rules, sizeOf}
 use Rattle.grammar.specs.Chains.{met}
 use Rattle.grammar.specs.Refusals.{tooShort, wrongSize, headAbove, nextAbove, badLink, metTwice, onNoChain, grammarRows, grammarRefusal}
-use Rattle.grammar.specs.Checks.{Sized, someAbove, Counted}
-use Rattle.grammar.specs.Answers.{checkGrammar}
+use Rattle.grammar.specs.Index.{Indexed}
+use Rattle.grammar.specs.Answers.{refusalNumber, checkGrammar, Reads}
+use Rattle.grammar.specs.declared.checks.GrammarRefusal.{GrammarRefusal}
+use Rattle.grammar.specs.declared.checks.GrammarAnswer.the-variants.{Accepted, Refused}
+use Rattle.grammar.proofs.Indexing.{below-inside}
 
 -- the first k lines don't apply
 abbrev pub Passed : List ℕ → ℕ → Type 0
 Passed g k = grammarRefusal g ≡ firstThatApplies (drop k (grammarRows g))
 
-pub refused : (g : List ℕ) (n : ℕ) → grammarRefusal g ≡ n → 0 < n → record { refusal = n; figures = 0 ∷ 0 ∷ []; buffer = [] } ≡ checkGrammar g
-unfolding checkGrammar
-refused g n e h = rw e (sym (answer-refused n (nonterminals g ∷ words g ∷ []) [] [] h))
+module _ (g index : List ℕ) where
+  pub refused : (r : GrammarRefusal) → grammarRefusal g ≡ refusalNumber r → 0 < refusalNumber r → Reads g index (Refused r)
+  unfolding checkGrammar
+  refused r e h =
+      record {
+        says = rw e (sym (answer-refused (refusalNumber r) (nonterminals g ∷ words g ∷ []) [] [] h));
+        indexed = λ z. absurd (omega arith);
+      }
 
-pub accepted : (g : List ℕ) → Passed g 8 → record { refusal = 0; figures = nonterminals g ∷ words g ∷ []; buffer = [] } ≡ checkGrammar g
-unfolding checkGrammar firstThatApplies
-accepted g e = sym (answer-accepted (nonterminals g ∷ words g ∷ []) [] [] e)
+  pub accepted : Passed g 8 → Indexed g index (nonterminals g) → Reads g index (Accepted (nonterminals g) (words g))
+  unfolding checkGrammar firstThatApplies
+  accepted e i = record { says = sym (answer-accepted (nonterminals g ∷ words g ∷ []) [] [] e); indexed = λ z. i }
 
 -- ---- each line's test, from what the code has tested
 
@@ -49,51 +60,51 @@ module _ (g : List ℕ) where
   unfolding wrongSize
   size-right e = ap not (eq-eqb (length g) (sizeOf g) e)
 
-module _ {g : List ℕ} {n r : ℕ} (s : Sized g n r) where
-  -- the heads stand one after another from 4 on, the nexts four bytes apart from N + 7 on
-  heads-above : someAbove g r 4 1 n ≡ someBelow (headAbove g) (nonterminals g)
-  heads-above =
-      rw (s .bodies, s .heads)
-      (below-ext (λ i. ltb (rules g) (byteAt g (4 + 1 * i))) (headAbove g) (nonterminals g)
-      (λ A. let e : 4 + 1 * A ≡ 4 + A = omega arith in rw e))
-
-  nexts-above : someAbove g r (n + 7) 4 r ≡ someTo (nextAbove g) (rules g)
-  nexts-above =
-      rw (s .bodies, s .heads)
-      (below-ext (λ i. ltb (rules g) (byteAt g (nonterminals g + 7 + 4 * i))) (λ i. nextAbove g (suc i)) (rules g)
-      (λ i. let e : nonterminals g + 7 + 4 * i ≡ nonterminals g + 4 * suc i + 3 = omega arith in rw e))
-
-  pub link-head : {b : Bool} → b ≡ someAbove g r 4 1 n → b ≡ true → badLink g ≡ true
+  pub link-next : someTo (nextAbove g) (rules g) ≡ true → badLink g ≡ true
   unfolding badLink
-  link-head e t = let h = sym heads-above ∙ sym e ∙ t in rw h
+  link-next e = or-true (someBelow (headAbove g) (nonterminals g)) (someTo (nextAbove g) (rules g)) e
 
-  pub link-next : {b : Bool} → b ≡ someAbove g r (n + 7) 4 r → b ≡ true → badLink g ≡ true
+  pub link-head : someBelow (headAbove g) (nonterminals g) ≡ true → badLink g ≡ true
   unfolding badLink
-  link-next e t = or-true (someBelow (headAbove g) (nonterminals g)) (someTo (nextAbove g) (rules g)) (sym nexts-above ∙ sym e ∙ t)
+  link-head e = rw e
 
-  pub links-right : {a b : Bool} → a ≡ someAbove g r 4 1 n → a ≡ false → b ≡ someAbove g r (n + 7) 4 r → b ≡ false → badLink g ≡ false
+  pub links-right : someTo (nextAbove g) (rules g) ≡ false → someBelow (headAbove g) (nonterminals g) ≡ false → badLink g ≡ false
   unfolding badLink
-  links-right e t f u = let h = sym heads-above ∙ sym e ∙ t in let k = sym nexts-above ∙ sym f ∙ u in rw (h, k)
+  links-right e h = rw (h, e)
 
--- two or more, and none, as marks outside 0 to 1, and outside 1 to 65,535
-twice-outside : (x : ℕ) → not (within 0 1 x) ≡ leb 2 x
-twice-outside zero = refl
-twice-outside (suc zero) = refl
-twice-outside (suc (suc x)) = within-high 0 1 (suc (suc x)) (omega arith) ∙ sym (le-leb 2 (suc (suc x)) (omega arith))
+-- ---- 7: no rule is met twice, so every rule is met where as many are met as there are
 
-none-outside : (x : ℕ) → x ≤ 65535 → not (within 1 65535 x) ≡ eqb x 0
-none-outside zero h = refl
-none-outside (suc x) h = within-both 1 65535 (suc x) (omega arith) h ∙ sym (ne-eqb (suc x) 0 (λ e. omega arith))
-
-module _ (g marks : List ℕ) (c : Counted g marks) where
-  pub twice : {r : ℕ} {b : Bool} → r ≡ rules g → b ≡ someTo (λ q. not (within 0 1 (getD marks q 0))) r → metTwice g ≡ b
+module _ (g : List ℕ) (once : metTwice g ≡ false) where
+  times-once : (r : ℕ) → r ∈ upFrom 1 (rules g) → times r (met g) ≤ 1
   unfolding metTwice
-  twice e f =
-      sym (f ∙ rw e (to-ext (λ q. not (within 0 1 (getD marks q 0))) (λ q. leb 2 (times q (met g))) (rules g)
-      (λ q. twice-outside (getD marks q 0) ∙ ap (leb 2) (c .exact q))))
+  times-once r m =
+      let q = upFrom-∈ 1 (rules g) m in
+      omega (arith, leb-false 2 (times r (met g)) (to-at (λ s. leb 2 (times s (met g))) (rules g) r once (omega arith) (omega arith)))
 
-  pub missed : {r : ℕ} {b : Bool} → r ≡ rules g → b ≡ someTo (λ q. not (within 1 65535 (getD marks q 0))) r → onNoChain g ≡ b
+  met-numbers : (x : ℕ) → x ∈ met g → (1 ≤ x) × (x < 1 + rules g)
+  met-numbers x m = let q = below-inside g (nonterminals g) m in omega arith
+
+  pub missed : length (met g) < rules g → onNoChain g ≡ true
   unfolding onNoChain
-  missed e f =
-      sym (f ∙ rw e (to-ext (λ q. not (within 1 65535 (getD marks q 0))) (λ q. eqb (times q (met g)) 0) (rules g)
-      (λ q. none-outside (getD marks q 0) (omega (arith, c .low q)) ∙ ap (λ (x : ℕ). eqb x 0) (c .exact q))))
+  missed h = go (onNoChain g) refl
+    where
+      go : (b : Bool) → onNoChain g ≡ b → b ≡ true
+      go true e = refl
+      go false e =
+          absurd (omega (
+            arith,
+            times-many 1 (rules g) (met g) met-numbers
+                (λ r m.
+                let q = upFrom-∈ 1 (rules g) m in
+                let n = eqb-false (times r (met g)) 0 (to-at (λ s. eqb (times s (met g)) 0) (rules g) r e (omega arith) (omega arith)) in
+                omega arith),
+          ))
+
+  pub all-met : rules g ≤ length (met g) → onNoChain g ≡ false
+  unfolding onNoChain
+  all-met h =
+      let long : length (met g) ≡ rules g = omega (arith, times-few 1 (rules g) (met g) met-numbers times-once) in
+      to-clear (λ r. eqb (times r (met g)) 0) (rules g)
+      (λ r a b.
+      let one = times-full 1 (rules g) (met g) met-numbers times-once long r (∈-upFrom r 1 (rules g) a (omega arith)) in
+      ne-eqb (times r (met g)) 0 (λ z. omega arith))

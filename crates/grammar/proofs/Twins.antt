@@ -1,215 +1,300 @@
--- Two rules on one chain that are alike. Each body that fits has a slot of its own, so two rules are alike where their slots are the
--- same, and a walk that stamps the slot of each rule that it meets finds a stamp at the second of two. What the walk keeps is `Walking`:
--- the answer is what it would find on the rest of the chain.
+-- Two rules on one chain that are alike: then two entries of one kind are the same. Each entry is a number below 1,024, and a scan that
+-- stamps the number of each entry finds a stamp at the second of two. What the scan keeps is `Scanning`: the answer is what it would find
+-- among the entries ahead.
 -- Assumes nothing.
-use mathlib.Core.Path.{_≡_, refl, sym, _∙_}
-use mathlib.Core.Logic.{_⊎_, inl, inr, ⊎-elim}
-use mathlib.Core.Bool.{Bool, true, false, _&&_, _||_, or-assoc}
-use mathlib.Core.List.{List, []}
-use Prim.Native.Nat.{ℕ, zero, suc, _+_, _*_, _-_, _≤_, _<_}
+use mathlib.Core.Path.{_≡_, refl, sym, ap, _∙_}
+use mathlib.Core.Logic.{inl, inr}
+use mathlib.Core.Bool.{Bool, true, false, _&&_, _||_, and-true, or-assoc}
+use mathlib.Core.List.{List, [], _∷_, map, map-id, List·Memᴰ·head, List·Memᴰ·tail, Memᴰ·map, Memᴰ·of-map}
+use Prim.Native.Nat.{ℕ, _+_, _*_, _-_, _≤_, _<_}
 use native.Mathlib.Omega.{arith}
-use borrow.Author.Tests.{eqb-true, not-false, eq-eqb, ne-eqb}
+use native.Mathlib.Decide.{ℕ-discrete}
+use borrow.Author.Tests.{eqb-true, eq-eqb, ne-eqb}
 use lib.Dec.{eqb}
 use lib.ListN.{length, getD, set, replicate, length-set}
 use Rattle.lists.specs.Joined.{_∈_}
-use Rattle.lists.specs.Searched.{someOf, someBelow}
-use Rattle.lists.proofs.Places.{getD-same, set-le}
-use Rattle.lists.proofs.Tests.{and-left, and-right, both-ways, some-ext, some-never, some-stamped, below-hit, below-miss, below-none, to-at}
-use Rattle.lists.proofs.Linked.{met-step, met-inside}
-use Rattle.grammar.specs.Layout.{byteAt, nonterminals, words, rules, headOf, kindOf, aOf, bOf, nextOf}
-use Rattle.grammar.specs.Chains.{numbersFrom, chainNumbers}
-use Rattle.grammar.specs.Refusals.{fits, misfit, badRule, alike, twins, repeated}
-use Rattle.grammar.specs.Checks.{Sized, slotOf, slotAt, Stamping, Stamped}
-use Rattle.grammar.proofs.Acceptance.{fits-cases}
+use Rattle.lists.specs.Searched.{someOf, someBelow, times, repeats}
+use Rattle.lists.proofs.Members.{∈-upFrom}
+use Rattle.lists.proofs.Places.{getD-same, map-upFrom, upFrom-step, set-le}
+use Rattle.lists.proofs.Tests.{and-left, and-right, or-true, or-left, or-right, both-ways, some-never, some-stamped, below-at, below-hit, below-miss, below-none}
+use Rattle.lists.proofs.Linked.{met-inside}
+use Rattle.grammar.specs.Layout.{nonterminals, words, rules, headOf, aOf, bOf, nextOf}
+use Rattle.grammar.specs.Chains.{Rule, word, pair, ruleOf, chainNumbers, rest, chain, wordsOf, pairsOf}
+use Rattle.grammar.specs.Refusals.{alike, twins, repeated, Accepted}
+use Rattle.grammar.specs.Checks.{Readable, pairNumber, entryAt, entriesFrom, entries, Stamping, Stamped}
+use Rattle.grammar.specs.Index.{wordFrom, pairFrom, beginsAt, Indexed}
+use Rattle.grammar.proofs.Acceptance.{known, readable}
+use Rattle.grammar.proofs.Walks.{rule-kind, rule-word, rule-pair, readable-inside}
+use Rattle.grammar.proofs.Indexing.{words-∈, pairs-∈}
 
--- ---- a body that fits, and its slot
+-- ---- rules that are alike, by kind
 
-pub slot-word : (kind a b : ℕ) → kind ≡ 0 → slotOf kind a b ≡ a
-unfolding slotOf
-slot-word zero a b e = refl
-slot-word (suc kind) a b e = absurd (omega arith)
+-- the nonterminals of a pair rule are below 32, so their number tells them
+same-pair : (a b a′ b′ : ℕ) → b < 32 → b′ < 32 → (eqb a a′ && eqb b b′) ≡ eqb (pairNumber (a, b)) (pairNumber (a′, b′))
+same-pair a b a′ b′ h h′ =
+    both-ways (eqb a a′ && eqb b b′) (eqb (pairNumber (a, b)) (pairNumber (a′, b′)))
+    (λ e.
+    let ea = eqb-true a a′ (and-left (eqb a a′) (eqb b b′) e) in
+    let eb = eqb-true b b′ (and-right (eqb a a′) (eqb b b′) e) in
+    eq-eqb (pairNumber (a, b)) (pairNumber (a′, b′)) (omega arith))
+    (λ e.
+    let q : 32 * a + b ≡ 32 * a′ + b′ = eqb-true (pairNumber (a, b)) (pairNumber (a′, b′)) e in
+    rw (eq-eqb a a′ (omega arith), eq-eqb b b′ (omega arith)))
 
-pub slot-pair : (kind a b : ℕ) → (kind ≡ 0 → ⊥) → slotOf kind a b ≡ 256 + 32 * a + b
-unfolding slotOf
-slot-pair zero a b h = absurd (h refl)
-slot-pair (suc kind) a b h = refl
+or-past : (a b c : Bool) → (a || (b || c)) ≡ (b || (a || c))
+or-past true b c = sym (or-true b true refl)
+or-past false b c = refl
 
-body : (N W k a b : ℕ) → fits N W k a b ≡ true
-    → ((k ≡ 0) × (a < W) × (b ≡ 0) × (slotOf k a b ≡ a)) ⊎ ((k ≡ 1) × (a < N) × (b < N) × (slotOf k a b ≡ 256 + 32 * a + b))
-body N W k a b f =
-    elim (fits-cases N W k a b f) [
-      | inl w ↦ inl (w .0, w .1, w .2, slot-word k a b (w .0))
-      | inr p ↦ inr (p .0, p .1, p .2, slot-pair k a b (λ e. omega arith))
-    ]
+-- two rules are the same, by their entries
+abbrev sameRule : Rule → Rule → Bool
+sameRule (word w) (word v) = eqb w v
+sameRule (word w) (pair B C) = false
+sameRule (pair B C) (word v) = false
+sameRule (pair B C) (pair B′ C′) = eqb (pairNumber (B, C)) (pairNumber (B′, C′))
 
-module _ (N W : ℕ) (few : N ≤ 32) (low : W ≤ 255) where
-  slot-low : (k a b : ℕ) → fits N W k a b ≡ true → slotOf k a b < 1280
-  slot-low k a b f = ⊎-elim (λ w. omega arith) (λ p. omega arith) (body N W k a b f)
+some-words : (w : ℕ) (rs : List Rule) → someOf (sameRule (word w)) rs ≡ someOf (eqb w) (wordsOf rs)
+some-words w [] = refl
+some-words w (word v ∷ rs) = rw (some-words w rs)
+some-words w (pair B C ∷ rs) = some-words w rs
 
-  -- bodies with the same slot are the same
-  slot-apart : (k a b k′ a′ b′ : ℕ) → fits N W k a b ≡ true → fits N W k′ a′ b′ ≡ true → slotOf k a b ≡ slotOf k′ a′ b′
-      → (k ≡ k′) × (a ≡ a′) × (b ≡ b′)
-  slot-apart k a b k′ a′ b′ f f′ e =
-      ⊎-elim
-      (λ w. ⊎-elim (λ w′. omega arith) (λ p′. absurd (omega arith)) (body N W k′ a′ b′ f′))
-      (λ p. ⊎-elim (λ w′. absurd (omega arith)) (λ p′. omega arith) (body N W k′ a′ b′ f′))
-      (body N W k a b f)
+some-pairs : (B C : ℕ) (rs : List Rule) → someOf (sameRule (pair B C)) rs ≡ someOf (eqb (pairNumber (B, C))) (map pairNumber (pairsOf rs))
+some-pairs B C [] = refl
+some-pairs B C (word v ∷ rs) = some-pairs B C rs
+some-pairs B C (pair B′ C′ ∷ rs) = rw (some-pairs B C rs)
 
-  slot-alike : (k a b k′ a′ b′ : ℕ) → fits N W k a b ≡ true → fits N W k′ a′ b′ ≡ true
-      → (eqb k k′ && (eqb a a′ && eqb b b′)) ≡ eqb (slotOf k a b) (slotOf k′ a′ b′)
-  slot-alike k a b k′ a′ b′ f f′ =
-      both-ways (eqb k k′ && (eqb a a′ && eqb b b′)) (eqb (slotOf k a b) (slotOf k′ a′ b′))
-      (λ e.
-      let e′ = and-right (eqb k k′) (eqb a a′ && eqb b b′) e in
-      let ek = eqb-true k k′ (and-left (eqb k k′) (eqb a a′ && eqb b b′) e) in
-      let ea = eqb-true a a′ (and-left (eqb a a′) (eqb b b′) e′) in
-      let eb = eqb-true b b′ (and-right (eqb a a′) (eqb b b′) e′) in
-      eq-eqb (slotOf k a b) (slotOf k′ a′ b′) (rw (ek, ea, eb)))
-      (λ e.
-      let q = slot-apart k a b k′ a′ b′ f f′ (eqb-true (slotOf k a b) (slotOf k′ a′ b′) e) in
-      rw (eq-eqb k k′ (q .0), eq-eqb a a′ (q .1), eq-eqb b b′ (q .2)))
+-- the entries of one kind
+abbrev kindOnly : (pairs : Bool) → List Rule → List ℕ
+kindOnly false rs = wordsOf rs
+kindOnly true rs = map pairNumber (pairsOf rs)
 
--- ---- the rules of a grammar whose rules fit
+-- two of one kind are the same
+abbrev repeatsByKind : List Rule → Bool
+repeatsByKind rs = repeats (kindOnly false rs) || repeats (kindOnly true rs)
 
-module _ (g : List ℕ) (n r : ℕ) (sized : Sized g n r) (fit : badRule g ≡ false) (low : words g ≤ 255) where
-  rule-fits : (x : ℕ) → 1 ≤ x → x ≤ rules g → fits (nonterminals g) (words g) (kindOf g x) (aOf g x) (bOf g x) ≡ true
-  unfolding badRule
-  rule-fits x h h′ =
-      not-false (fits (nonterminals g) (words g) (kindOf g x) (aOf g x) (bOf g x)) (to-at (misfit g) (rules g) x fit h h′)
+kind-repeats : (pairs : Bool) (rs : List Rule) → repeats (kindOnly pairs rs) ≡ true → repeatsByKind rs ≡ true
+kind-repeats false rs e = rw e
+kind-repeats true rs e = or-true (repeats (wordsOf rs)) (repeats (map pairNumber (pairsOf rs))) e
 
-  few : nonterminals g ≤ 32
-  few = omega arith
+kind-more : (x : Rule) (rs : List Rule) → (someOf (sameRule x) rs || repeatsByKind rs) ≡ repeatsByKind (x ∷ rs)
+kind-more (word w) rs = rw (some-words w rs) (sym (or-assoc (someOf (eqb w) (wordsOf rs)) (repeats (wordsOf rs)) (repeats (map pairNumber (pairsOf rs)))))
+kind-more (pair B C) rs =
+    rw (some-pairs B C rs)
+    (or-past (someOf (eqb (pairNumber (B, C))) (map pairNumber (pairsOf rs))) (repeats (wordsOf rs)) (repeats (map pairNumber (pairsOf rs))))
 
-  rule-slot : (x : ℕ) → 1 ≤ x → x ≤ rules g → slotAt g x < 1280
-  rule-slot x h h′ = slot-low (nonterminals g) (words g) few low (kindOf g x) (aOf g x) (bOf g x) (rule-fits x h h′)
+module _ (g : List ℕ) (ok : Readable g) where
+  -- each of the numbers listed is a rule's
+  abbrev Numbers : List ℕ → Type 0
+  Numbers l = (x : ℕ) → x ∈ l → (1 ≤ x) × (x ≤ rules g)
 
-  rule-alike : (x y : ℕ) → 1 ≤ x → x ≤ rules g → 1 ≤ y → y ≤ rules g → alike g x y ≡ eqb (slotAt g x) (slotAt g y)
-  rule-alike x y h h′ k k′ =
-      slot-alike (nonterminals g) (words g) few low (kindOf g x) (aOf g x) (bOf g x) (kindOf g y) (aOf g y) (bOf g y)
-      (rule-fits x h h′) (rule-fits y k k′)
+  alike-same : (r s : ℕ) → (1 ≤ r) × (r ≤ rules g) → (1 ≤ s) × (s ≤ rules g) → alike g r s ≡ sameRule (ruleOf g r) (ruleOf g s)
+  alike-same r s h k =
+      let few = ok .sized .few in
+      elim (rule-kind g ok r (h .0) (h .1)) [
+        | inl q ↦
+            elim (rule-kind g ok s (k .0) (k .1)) [
+              | inl t ↦ rw (rule-word g r (q .0), rule-word g s (t .0), q .0, t .0, q .2, t .2) (and-true (eqb (aOf g r) (aOf g s)))
+              | inr t ↦ rw (rule-word g r (q .0), rule-pair g s (t .0), q .0, t .0)
+            ]
+        | inr q ↦
+            elim (rule-kind g ok s (k .0) (k .1)) [
+              | inl t ↦ rw (rule-pair g r (q .0), rule-word g s (t .0), q .0, t .0)
+              | inr t ↦
+                  rw (rule-pair g r (q .0), rule-pair g s (t .0), q .0, t .0)
+                  (same-pair (aOf g r) (bOf g r) (aOf g s) (bOf g s) (omega arith) (omega arith))
+            ]
+      ]
 
--- ---- a walk that stamps
+  alike-rules : (r : ℕ) → (1 ≤ r) × (r ≤ rules g) → (l : List ℕ) → Numbers l → someOf (alike g r) l ≡ someOf (sameRule (ruleOf g r)) (map (ruleOf g) l)
+  alike-rules r h [] k = refl
+  alike-rules r h (s ∷ l) k =
+      rw (alike-same r s h (k s (List·Memᴰ·head refl)), alike-rules r h l (λ x m. k x (List·Memᴰ·tail m)))
 
--- the slot of the rule x has the stamp
-abbrev stamped : (g stamps : List ℕ) (stamp x : ℕ) → Bool
-stamped g stamps stamp x = eqb (getD stamps (slotAt g x) 0) stamp
-
--- At the number `at`, with `left` steps to go: two rules of the chain are alike where a rule ahead finds its slot stamped, or two of
--- the rules ahead are alike.
-pub record Walking (g : List ℕ) (a stamp : ℕ) (stamps : List ℕ) (at left : ℕ) : Type 0 where
-  pub long : length stamps ≡ 1280
-  pub used : (q : ℕ) → getD stamps q 0 ≤ stamp
-  pub found : twins g (chainNumbers g a) ≡ (someOf (stamped g stamps stamp) (numbersFrom g left at) || twins g (numbersFrom g left at))
-
--- the walk has met the rule `at`, and s is its slot
-pub record Meeting (g : List ℕ) (n r a stamp : ℕ) (stamps : List ℕ) (at left s : ℕ) : Type 0 where
-  pub sized : Sized g n r
-  pub fit : badRule g ≡ false
-  pub low : words g ≤ 255
-  pub walking : Walking g a stamp stamps at left
-  pub more : 0 < left
-  pub some : 1 ≤ at
-  pub inside : at ≤ r
-  pub slot : s ≡ slotOf (byteAt g (n + 4 * at)) (byteAt g (n + 4 * at + 1)) (byteAt g (n + 4 * at + 2))
-
--- the numbers that the walk meets after `at`
-abbrev ahead : (g : List ℕ) (at left : ℕ) → List ℕ
-ahead g at left = numbersFrom g (left - 1) (nextOf g at)
-
-pub walk-starts : {g : List ℕ} {n r a stamp : ℕ} {stamps : List ℕ} {at left : ℕ} → Stamping g n r a stamp stamps → at ≡ headOf g a → left ≡ r + 1
-    → Walking g a stamp stamps at left
-walk-starts {g} {a = a} {stamp} {stamps} {left = left} ready ea el =
-    let e : left ≡ rules g + 1 = omega arith in
-    let new : (x : ℕ) → stamped g stamps stamp x ≡ false
-    = λ x. ne-eqb (getD stamps (slotAt g x) 0) stamp (λ z. omega (arith, ready .fresh (slotAt g x))) in
-    record {
-      long = ready .long;
-      used = λ q. omega (arith, ready .fresh q);
-      found = rw (ea, e, some-never (stamped g stamps stamp) (chainNumbers g a) new);
-    }
-
-pub walk-ends : {g : List ℕ} {a stamp : ℕ} {stamps : List ℕ} {at left : ℕ} → Walking g a stamp stamps at left → numbersFrom g left at ≡ [] → Stamped g a stamp stamps false
-unfolding twins
-walk-ends w e = record { alike = sym (w .found ∙ rw e); long = w .long; used = w .used }
-
-module _ {g : List ℕ} {n r a stamp : ℕ} {stamps : List ℕ} {at left s : ℕ} (m : Meeting g n r a stamp stamps at left s) where
-  slot-here : s ≡ slotAt g at
-  slot-here = rw (m .sized .heads) at (m .slot)
-
-  pub meet-low : s < 1280
-  meet-low = rw slot-here (rule-slot g n r (m .sized) (m .fit) (m .low) at (m .some) (omega arith))
-
-  -- what the walk finds at the rule, and then at those ahead once the rule's slot is stamped
-  meet-on : twins g (chainNumbers g a)
-      ≡ (eqb (getD stamps s 0) stamp || (someOf (stamped g (set stamps s stamp) stamp) (ahead g at left) || twins g (ahead g at left)))
+  twins-by-kind : (l : List ℕ) → Numbers l → twins g l ≡ repeatsByKind (map (ruleOf g) l)
   unfolding twins
-  meet-on =
-      let h : at ≤ rules g = omega arith in
-      let inside : s < length stamps = omega (arith, meet-low, m .walking .long) in
-      let same : (x : ℕ) → x ∈ ahead g at left → alike g at x ≡ eqb s (slotAt g x)
-      = λ x i. let q = met-inside (nextOf g) (rules g) (left - 1) (nextOf g at) i in
-      rw slot-here (rule-alike g n r (m .sized) (m .fit) (m .low) at x (m .some) h (q .0) (q .1)) in
-      m .walking .found
-      ∙ rw (
-        met-step (nextOf g) (rules g) left at (m .more) (m .some) h,
-        some-stamped (slotAt g) stamps s stamp (ahead g at left) inside,
-        some-ext (alike g at) (λ x. eqb s (slotAt g x)) (ahead g at left) same,
-        ← slot-here,
-      ) (simp or-assoc)
+  twins-by-kind [] h = refl
+  twins-by-kind (r ∷ l) h =
+      let more : Numbers l = λ x m. h x (List·Memᴰ·tail m) in
+      rw (alike-rules r (h r (List·Memᴰ·head refl)) l more, twins-by-kind l more) (kind-more (ruleOf g r) (map (ruleOf g) l))
 
-  pub meet-twin : getD stamps s 0 ≡ stamp → Stamped g a stamp stamps true
-  meet-twin e =
-      record { alike = sym (meet-on ∙ rw (eq-eqb (getD stamps s 0) stamp e)); long = m .walking .long; used = m .walking .used }
+-- ---- a scan that stamps
 
-  pub meet-next : {next : ℕ} → next ≡ byteAt g (n + 4 * at + 3) → (getD stamps s 0 ≡ stamp → ⊥)
-      → Walking g a stamp (set stamps s stamp) next (left - 1)
-  meet-next {next} e ne =
-      let e′ : next ≡ nextOf g at = rw (m .sized .heads) at e in
+-- the number x has the stamp
+abbrev stamped : (stamps : List ℕ) (stamp x : ℕ) → Bool
+stamped stamps stamp x = eqb (getD stamps x 0) stamp
+
+-- before the entry i: two of the entries are the same where one ahead finds its stamp, or two ahead are the same
+pub record Scanning (pairs : Bool) (index : List ℕ) (a stamp : ℕ) (stamps : List ℕ) (i : ℕ) : Type 0 where
+  pub reached : beginsAt pairs index a ≤ i
+  pub long : length stamps ≡ 1024
+  pub used : (q : ℕ) → getD stamps q 0 ≤ stamp
+  pub found : repeats (entries pairs index a)
+      ≡ (someOf (stamped stamps stamp) (entriesFrom pairs index a i) || repeats (entriesFrom pairs index a i))
+
+module _ {pairs : Bool} {index : List ℕ} {a stamp : ℕ} where
+  pub scan-start : {stamps : List ℕ} {i : ℕ} → Stamping pairs index a stamp stamps → i ≡ beginsAt pairs index a
+      → Scanning pairs index a stamp stamps i
+  scan-start {stamps} s e =
+      let new : (x : ℕ) → stamped stamps stamp x ≡ false = λ x. ne-eqb (getD stamps x 0) stamp (λ z. omega (arith, s .fresh x)) in
       record {
-        long = length-set stamps s stamp ∙ m .walking .long;
-        used = set-le stamps s stamp stamp (omega arith) (m .walking .used);
-        found = rw e′ (meet-on ∙ rw (ne-eqb (getD stamps s 0) stamp ne));
+        reached = omega arith;
+        long = s .long;
+        used = λ q. omega (arith, s .fresh q);
+        found = rw (e, some-never (stamped stamps stamp) (entries pairs index a) new);
       }
 
--- ---- all chains
+  module _ {stamps : List ℕ} {i to : ℕ} (v : Scanning pairs index a stamp stamps i) (last : to ≡ beginsAt pairs index (a + 1)) where
+    pub scan-end : to ≤ i → Stamped pairs index a stamp stamps false
+    scan-end h =
+        let e : beginsAt pairs index (a + 1) - i ≡ 0 = omega arith in
+        record { same = sym (v .found ∙ rw e); long = v .long; used = v .used }
+
+    module _ (h : i < to) {e : ℕ} (here : e ≡ entryAt pairs index i) where
+      pub scan-low : {stamps₀ : List ℕ} → Stamping pairs index a stamp stamps₀ → e < 1024
+      scan-low s =
+          let from = beginsAt pairs index a in
+          let count = beginsAt pairs index (a + 1) - from in
+          rw here (s .low (entryAt pairs index i) (Memᴰ·map (entryAt pairs index) (∈-upFrom i from count (v .reached) (omega (arith, v .reached)))))
+
+      module _ (low : e < 1024) where
+        -- what the scan finds at the entry, and then ahead once its number is stamped
+        scan-on : repeats (entries pairs index a)
+            ≡ (eqb (getD stamps e 0) stamp
+            || (someOf (stamped (set stamps e stamp) stamp) (entriesFrom pairs index a (i + 1)) || repeats (entriesFrom pairs index a (i + 1))))
+        scan-on =
+            let next : entriesFrom pairs index a i ≡ e ∷ entriesFrom pairs index a (i + 1)
+            = ap (map (entryAt pairs index)) (upFrom-step i (beginsAt pairs index (a + 1)) (omega arith)) ∙ rw here in
+            v .found
+            ∙ rw (next, some-stamped (λ x. x) stamps e stamp (entriesFrom pairs index a (i + 1)) (omega (arith, v .long))) (simp or-assoc)
+
+        pub scan-hit : getD stamps e 0 ≡ stamp → Stamped pairs index a stamp stamps true
+        scan-hit z = record { same = sym (scan-on ∙ rw (eq-eqb (getD stamps e 0) stamp z)); long = v .long; used = v .used }
+
+        pub scan-next : (getD stamps e 0 ≡ stamp → ⊥) → Scanning pairs index a stamp (set stamps e stamp) (i + 1)
+        scan-next n =
+            record {
+              reached = omega (arith, v .reached);
+              long = length-set stamps e stamp ∙ v .long;
+              used = set-le stamps e stamp stamp (omega arith) (v .used);
+              found = scan-on ∙ rw (ne-eqb (getD stamps e 0) stamp n);
+            }
+
+-- ---- the entries of one chain
 
 -- two rules on the chain of A are alike
 abbrev twinned : List ℕ → ℕ → Bool
 twinned g A = twins g (chainNumbers g A)
 
--- the chains below a are left, and no slot has the stamp of the next
-pub record Rounds (g : List ℕ) (n : ℕ) (stamps : List ℕ) (stamp a : ℕ) : Type 0 where
-  pub turn : stamp + a ≡ n + 1
-  pub long : length stamps ≡ 1280
+module _ {g index : List ℕ} {a : ℕ} (ok : Readable g) (x : Indexed g index (nonterminals g)) (inside : a < nonterminals g) where
+  chain-twins : twinned g a ≡ repeatsByKind (chain g a)
+  unfolding rest
+  chain-twins = twins-by-kind g ok (chainNumbers g a) (λ y m. met-inside (nextOf g) (rules g) (rules g + 1) (headOf g a) m)
+
+  chain-entries : (pairs : Bool) → entries pairs index a ≡ kindOnly pairs (chain g a)
+  chain-entries false =
+      let e : wordFrom index (a + 1) - wordFrom index a ≡ length (wordsOf (chain g a)) = omega (arith, x .word-count a inside) in
+      rw e
+      (map-upFrom (entryAt false index) (λ w. w) (wordFrom index a) (wordsOf (chain g a)) 0 (λ i h. x .words a i inside h)
+      ∙ map-id (wordsOf (chain g a)))
+  chain-entries true =
+      let e : pairFrom index (a + 1) - pairFrom index a ≡ length (pairsOf (chain g a)) = omega (arith, x .pair-count a inside) in
+      rw e
+      (map-upFrom (entryAt true index) pairNumber (pairFrom index a) (pairsOf (chain g a)) (0, 0)
+      (λ i h.
+      let el : 256 + (pairFrom index a + i) ≡ 256 + pairFrom index a + i = omega arith in
+      let er : 512 + (pairFrom index a + i) ≡ 512 + pairFrom index a + i = omega arith in
+      rw (el, er, x .lefts a i inside h, x .rights a i inside h)))
+
+  kind-low : (pairs : Bool) (y : ℕ) → y ∈ kindOnly pairs (chain g a) → y < 1024
+  kind-low false y m = omega (arith, ok .spoken, readable-inside g ok (headOf g a) (words-∈ (chain g a) m))
+  kind-low true y m =
+      let z = Memᴰ·of-map pairNumber (pairsOf (chain g a)) m in
+      let q = readable-inside g ok (headOf g a) (pairs-∈ (chain g a) (z .1)) in
+      omega (arith, ok .sized .few, q .0, q .1, z .2)
+
+  pub chain-ready : (pairs : Bool) {stamp : ℕ} {stamps : List ℕ} → length stamps ≡ 1024 → ((q : ℕ) → getD stamps q 0 < stamp)
+      → Stamping pairs index a stamp stamps
+  chain-ready pairs long fresh =
+      record {
+        inside = omega (arith, ok .sized .few);
+        low = λ y m. kind-low pairs y (rw (chain-entries pairs) at m);
+        long = long;
+        fresh = fresh;
+      }
+
+  chain-said : {pairs : Bool} {stamp : ℕ} {stamps : List ℕ} {found b : Bool} → Stamped pairs index a stamp stamps found → found ≡ b
+      → repeats (kindOnly pairs (chain g a)) ≡ b
+  chain-said {pairs} s e = sym (ap repeats (chain-entries pairs)) ∙ sym (s .same) ∙ e
+
+-- ---- all chains
+
+-- the chains below a are left, and no number has the stamp of the next
+pub record Rounds (g stamps : List ℕ) (stamp a : ℕ) : Type 0 where
+  pub turn : stamp + 2 * a ≡ 2 * nonterminals g + 1
+  pub long : length stamps ≡ 1024
   pub fresh : (q : ℕ) → getD stamps q 0 < stamp
   pub found : repeated g ≡ someBelow (twinned g) a
 
-pub rounds-start : (g : List ℕ) (n : ℕ) → n ≡ nonterminals g → Rounds g n (replicate 1280 0) 1 n
+pub rounds-start : (g : List ℕ) {n : ℕ} → n ≡ nonterminals g → Rounds g (replicate 1024 0) 1 n
 unfolding repeated
-rounds-start g n e =
+rounds-start g e =
     record {
       turn = omega arith;
       long = refl;
-      fresh = λ q. omega (arith, getD-same {X = ℕ} 1280 q 0);
+      fresh = λ q. omega (arith, getD-same {X = ℕ} 1024 q 0);
       found = rw (← e);
     }
 
-module _ {g : List ℕ} {n stamp a : ℕ} {stamps : List ℕ} (w : Rounds g n stamps stamp a) where
-  pub rounds-end : a ≤ 0 → false ≡ repeated g
-  rounds-end h = sym (w .found ∙ below-none (twinned g) a h)
+pub rounds-end : {g stamps : List ℕ} {stamp a : ℕ} → a ≤ 0 → Rounds g stamps stamp a → false ≡ repeated g
+rounds-end {g} {a = a} h w = sym (w .found ∙ below-none (twinned g) a h)
 
-  pub rounds-ready : (r : ℕ) → Sized g n r → badRule g ≡ false → 0 < a → Stamping g n r (a - 1) stamp stamps
-  rounds-ready r sized fit h = record { sized = sized; fit = fit; inside = omega (arith, w .fresh 0); long = w .long; fresh = w .fresh }
+module _ {g index stamps : List ℕ} {stamp a : ℕ} (ok : Readable g) (x : Indexed g index (nonterminals g)) (w : Rounds g stamps stamp a) (some : 0 < a) where
+  inside : a - 1 < nonterminals g
+  inside = omega (arith, w .turn, w .fresh 0)
 
-  module _ {after : List ℕ} {found : Bool} (s : Stamped g (a - 1) stamp after found) (h : 0 < a) where
-    pub rounds-hit : found ≡ true → true ≡ repeated g
-    rounds-hit e = sym (w .found ∙ below-hit (twinned g) a h (sym (s .alike) ∙ e))
+  -- before the words, and before the pair rules
+  pub round-words : Stamping false index (a - 1) stamp stamps
+  round-words = chain-ready ok x inside false (w .long) (w .fresh)
 
-    pub rounds-next : found ≡ false → Rounds g n after (stamp + 1) (a - 1)
-    rounds-next e =
-        record {
-          turn = omega arith;
-          long = s .long;
-          fresh = λ q. omega (arith, s .used q);
-          found = w .found ∙ below-miss (twinned g) a h (sym (s .alike) ∙ e);
-        }
+  pub round-pairs : {mid : List ℕ} {found : Bool} → Stamped false index (a - 1) stamp mid found → Stamping true index (a - 1) (stamp + 1) mid
+  round-pairs s = chain-ready ok x inside true (s .long) (λ q. omega (arith, s .used q))
+
+  pub round-hit : {pairs : Bool} {t : ℕ} {after : List ℕ} {found : Bool} → Stamped pairs index (a - 1) t after found → found ≡ true → true ≡ repeated g
+  round-hit {pairs} s e =
+      let hit = kind-repeats pairs (chain g (a - 1)) (chain-said ok x inside s e) in
+      sym (w .found ∙ below-hit (twinned g) a some (chain-twins ok x inside ∙ hit))
+
+  pub round-next : {mid after : List ℕ} {found found′ : Bool} → Stamped false index (a - 1) stamp mid found → found ≡ false
+      → Stamped true index (a - 1) (stamp + 1) after found′ → found′ ≡ false → Rounds g after (stamp + 2) (a - 1)
+  round-next s e t e′ =
+      record {
+        turn = omega (arith, w .turn);
+        long = t .long;
+        fresh = λ q. omega (arith, t .used q);
+        found =
+            w .found
+            ∙ below-miss (twinned g) a some (chain-twins ok x inside ∙ rw (chain-said ok x inside s e) (chain-said ok x inside t e′));
+      }
+
+-- ---- an accepted grammar has no word twice on one chain
+
+none-times : (x : ℕ) (l : List ℕ) → someOf (eqb x) l ≡ false → times x l ≡ 0
+none-times x [] e = refl
+none-times x (y ∷ l) e = rw (or-left (eqb x y) (someOf (eqb x) l) e) (omega (arith, none-times x l (or-right (eqb x y) (someOf (eqb x) l) e)))
+
+repeats-once : (x : ℕ) (l : List ℕ) → repeats l ≡ false → times x l ≤ 1
+repeats-once x [] e = omega arith
+repeats-once x (y ∷ l) e =
+    let ahead = repeats-once x l (or-right (someOf (eqb y) l) (repeats l) e) in
+    elim (ℕ-discrete x y) [
+      | yes z ↦ rw (eq-eqb x y z) (omega (arith, rw (← z) at (none-times y l (or-left (someOf (eqb y) l) (repeats l) e))))
+      | no z ↦ rw (ne-eqb x y z) (omega (arith, ahead))
+    ]
+
+pub words-once : (g : List ℕ) → Accepted g → (a : ℕ) → a < nonterminals g → (x : ℕ) → times x (wordsOf (chain g a)) ≤ 1
+unfolding repeated rest
+words-once g ok a inside x =
+    let k = known g ok in
+    let none = below-at (twinned g) (nonterminals g) a (k .apart) inside in
+    let kinds = twins-by-kind g (readable g k) (chainNumbers g a) (λ y m. met-inside (nextOf g) (rules g) (rules g + 1) (headOf g a) m) in
+    repeats-once x (wordsOf (chain g a))
+    (or-left (repeats (wordsOf (chain g a))) (repeats (kindOnly true (chain g a))) (sym kinds ∙ none))

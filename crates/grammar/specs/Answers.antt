@@ -1,5 +1,6 @@
--- What *Check bank* answers, and the paper's number and figures of each case of the answer.
+-- What *Check bank* answers, and the paper's number and figures of each case of the answer; what reading a grammar leaves in the index.
 -- Assumes nothing: these are definitions.
+use mathlib.Core.Path.{_≡_}
 use mathlib.Core.List.{List, [], _∷_}
 use Prim.Native.Nat.{ℕ}
 use Rattle.answers.specs.Answer.{Answer, answer}
@@ -8,7 +9,8 @@ use Rattle.grammar.specs.declared.checks.GrammarRefusal.the-variants.{To
 use Rattle.grammar.specs.declared.checks.GrammarAnswer.{GrammarAnswer}
 use Rattle.grammar.specs.declared.checks.GrammarAnswer.the-variants.{Accepted, Refused}
 use Rattle.grammar.specs.Layout.{nonterminals, words}
-use Rattle.grammar.specs.Refusals.{grammarRows}
+use Rattle.grammar.specs.Refusals.{grammarRows, grammarRefusal}
+use Rattle.grammar.specs.Index.{Indexed}
 
 abbrev pub refusalNumber : GrammarRefusal → ℕ
 refusalNumber TooShort = 1
@@ -28,3 +30,8 @@ said (Refused r) = record { refusal = refusalNumber r; figures = 0 ∷ 0 ∷ [];
 -- "*Check bank* gives N and W."
 unfoldable pub checkGrammar : List ℕ → Answer
 checkGrammar g = answer (grammarRows g) (nonterminals g ∷ words g ∷ []) [] []
+
+-- what reading a grammar answers, and leaves in the index if it is accepted
+pub record Reads (g index : List ℕ) (r : GrammarAnswer) : Type 0 where
+  pub says : said r ≡ checkGrammar g
+  pub indexed : grammarRefusal g ≡ 0 → Indexed g index (nonterminals g)

@@ -1,7 +1,7 @@
 -- The rules of each nonterminal in chain order, read off the bytes (document 01, section 'Bank bytes').
 -- Assumes nothing: these are definitions.
 use mathlib.Core.Bool.{cond}
-use mathlib.Core.List.{List, map}
+use mathlib.Core.List.{List, [], _∷_, map}
 use Prim.Native.Nat.{ℕ, _+_}
 use lib.Dec.{eqb}
 use Rattle.lists.specs.Joined.{concatMap, upFrom}
@@ -38,3 +38,14 @@ rest g r = map (ruleOf g) (numbersFrom g (rules g + 1) r)
 -- the rules of the nonterminal A in chain order
 abbrev pub chain : List ℕ → ℕ → List Rule
 chain g A = rest g (headOf g A)
+
+-- the words of the word rules and the nonterminals of the pair rules, in chain order
+abbrev pub wordsOf : List Rule → List ℕ
+wordsOf [] = []
+wordsOf (word w ∷ rs) = w ∷ wordsOf rs
+wordsOf (pair B C ∷ rs) = wordsOf rs
+
+abbrev pub pairsOf : List Rule → List (ℕ × ℕ)
+pairsOf [] = []
+pairsOf (word w ∷ rs) = pairsOf rs
+pairsOf (pair B C ∷ rs) = (B, C) ∷ pairsOf rs

@@ -1,15 +1,15 @@
 -- What the checks ask of each other and promise, by name. Nothing of this is needed to read what *Check bank* answers.
 -- Assumes nothing: these are definitions.
 use mathlib.Core.Path.{_≡_}
-use mathlib.Core.Bool.{Bool, false}
-use mathlib.Core.List.{List}
-use Prim.Native.Nat.{ℕ, zero, suc, _+_, _*_, _≤_, _<_}
+use mathlib.Core.Bool.{Bool, true, false}
+use mathlib.Core.List.{List, map}
+use Prim.Native.Nat.{ℕ, _+_, _*_, _-_, _≤_, _<_}
 use lib.ListN.{length, getD}
-use lib.Dec.{ltb}
-use Rattle.lists.specs.Searched.{someBelow, times}
-use Rattle.grammar.specs.Layout.{byteAt, nonterminals, rules, kindOf, aOf, bOf}
-use Rattle.grammar.specs.Chains.{chainNumbers, met}
-use Rattle.grammar.specs.Refusals.{badRule, twins}
+use Rattle.lists.specs.Joined.{_∈_, upFrom}
+use Rattle.lists.specs.Searched.{someTo, repeats}
+use Rattle.grammar.specs.Layout.{nonterminals, words, rules}
+use Rattle.grammar.specs.Refusals.{badRule, nextAbove}
+use Rattle.grammar.specs.Index.{beginsAt}
 
 -- the bytes have n nonterminals and r rules, as few as is allowed, and the size that is right for them
 pub record Sized (g : List ℕ) (n r : ℕ) : Type 0 where
@@ -19,56 +19,46 @@ pub record Sized (g : List ℕ) (n r : ℕ) : Type 0 where
   pub numbered : r ≤ 255
   pub size : length g ≡ 4 + n + 4 * r
 
--- ---- 5: links
+-- 1 to 4 are passed: so far that the walks of the chains can read every rule
+pub record Readable (g : List ℕ) : Type 0 where
+  pub sized : Sized g (nonterminals g) (rules g)
+  pub spoken : words g ≤ 255
+  pub fit : badRule g ≡ false
 
--- the bytes at `at`, `at + step`, .., so many of them, are there
-abbrev pub Inside : (g : List ℕ) (at step count : ℕ) → Type 0
-Inside g at step count = (i : ℕ) → i < count → at + step * i < length g
+-- ---- 4, and 5 of the nexts
 
--- one of them is above r
-abbrev pub someAbove : (g : List ℕ) (r at step count : ℕ) → Bool
-someAbove g r at step count = someBelow (λ i. ltb r (byteAt g (at + step * i))) count
-
--- ---- 6 and 7: how often each rule is met
-
--- before the chain of a is walked, there are 256 marks, none above 256 for each chain below
-pub record Marking (g : List ℕ) (n r a : ℕ) (marks : List ℕ) : Type 0 where
-  pub sized : Sized g n r
-  pub inside : a < n
-  pub long : length marks ≡ 256
-  pub low : (q : ℕ) → getD marks q 0 ≤ 256 * a
-
--- walking the chain of a adds a mark each time that a rule is met
-pub record Marked (g : List ℕ) (a : ℕ) (before after : List ℕ) : Type 0 where
-  pub long : length after ≡ 256
-  pub more : (q : ℕ) → getD after q 0 ≡ getD before q 0 + times q (chainNumbers g a)
-
--- the marks say how often each rule is met on all chains
-pub record Counted (g marks : List ℕ) : Type 0 where
-  pub exact : (q : ℕ) → getD marks q 0 ≡ times q (met g)
-  pub low : (q : ℕ) → getD marks q 0 ≤ 8192
+-- whether some rule does not fit, and if all fit, whether some next is above R
+pub record Finds (g : List ℕ) (rule link : Bool) : Type 0 where
+  pub bad : rule ≡ badRule g
+  pub far : rule ≡ false → link ≡ someTo (nextAbove g) (rules g)
 
 -- ---- 8: rules that are alike
 
--- a slot of its own for each body that fits: a word rule's by its word, and behind those a pair rule's by its nonterminals
-unfoldable pub slotOf : (kind a b : ℕ) → ℕ
-slotOf zero a b = a
-slotOf (suc kind) a b = 256 + 32 * a + b
+-- the two nonterminals of a pair rule as one number
+abbrev pub pairNumber : ℕ × ℕ → ℕ
+pairNumber q = 32 * q .0 + q .1
 
--- the slot of the rule with number r
-abbrev pub slotAt : List ℕ → ℕ → ℕ
-slotAt g r = slotOf (kindOf g r) (aOf g r) (bOf g r)
+-- the entry at i of the index, as one number below 1,024: a word, or the two nonterminals of a pair rule
+abbrev pub entryAt : (pairs : Bool) (index : List ℕ) (i : ℕ) → ℕ
+entryAt false index i = getD index i 0
+entryAt true index i = pairNumber (getD index (256 + i) 0, getD index (512 + i) 0)
 
--- before the chain of a is walked: the rules fit, each slot is there, and none has its stamp
-pub record Stamping (g : List ℕ) (n r a stamp : ℕ) (stamps : List ℕ) : Type 0 where
-  pub sized : Sized g n r
-  pub fit : badRule g ≡ false
-  pub inside : a < n
-  pub long : length stamps ≡ 1280
+-- the entries of the nonterminal a, from the one at i on
+abbrev pub entriesFrom : (pairs : Bool) (index : List ℕ) (a i : ℕ) → List ℕ
+entriesFrom pairs index a i = map (entryAt pairs index) (upFrom i (beginsAt pairs index (a + 1) - i))
+
+abbrev pub entries : (pairs : Bool) (index : List ℕ) (a : ℕ) → List ℕ
+entries pairs index a = entriesFrom pairs index a (beginsAt pairs index a)
+
+-- before the entries of a are looked at: none has its stamp
+pub record Stamping (pairs : Bool) (index : List ℕ) (a stamp : ℕ) (stamps : List ℕ) : Type 0 where
+  pub inside : a < 32
+  pub low : (x : ℕ) → x ∈ entries pairs index a → x < 1024
+  pub long : length stamps ≡ 1024
   pub fresh : (q : ℕ) → getD stamps q 0 < stamp
 
--- after it: whether two of its rules are alike, and each slot is there still, with no later stamp
-pub record Stamped (g : List ℕ) (a stamp : ℕ) (stamps : List ℕ) (found : Bool) : Type 0 where
-  pub alike : found ≡ twins g (chainNumbers g a)
-  pub long : length stamps ≡ 1280
+-- after it: whether two of them are the same, and there is no later stamp
+pub record Stamped (pairs : Bool) (index : List ℕ) (a stamp : ℕ) (stamps : List ℕ) (found : Bool) : Type 0 where
+  pub same : found ≡ repeats (entries pairs index a)
+  pub long : length stamps ≡ 1024
   pub used : (q : ℕ) → getD stamps q 0 ≤ stamp

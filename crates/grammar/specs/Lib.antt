@@ -4,5 +4,7 @@ pub mod Refusals
 pub mod Checks
 pub mod Answers
 pub mod Steps
+pub mod Index
+pub mod Indexing
 pub mod Trees
 pub mod FullList

@@ -1,12 +1,15 @@
 // *Check bank*: the refusals 1 to 8, each a test of its own, in the order of document 01's list.
 ghost use mathlib.Core.Path.{_≡_};
-ghost use mathlib.Core.Bool.{false, not};
-ghost use Prim.Native.Nat.{_≤_};
-ghost use lib.ListN.{length, getD};
-ghost use Rattle.lists.specs.Searched.{within, someTo};
-ghost use Rattle.grammar.specs.Refusals.{outOfRange, fits, badRule, repeated};
-ghost use Rattle.grammar.specs.Checks.{Sized, Inside, someAbove, Marking, Marked, Counted, slotOf, Stamping, Stamped};
-ghost use Rattle.grammar.specs.Answers.{refusalNumber, said, checkGrammar};
+ghost use Prim.Native.Nat.{_≤_, _<_};
+ghost use lib.ListN.{length};
+ghost use Rattle.lists.specs.Searched.{someBelow};
+ghost use Rattle.grammar.specs.Layout.{nonterminals};
+ghost use Rattle.grammar.specs.Refusals.{outOfRange, fits, headAbove, repeated};
+ghost use Rattle.grammar.specs.Checks.{Sized, Readable, Finds, entryAt, Stamping, Stamped};
+ghost use Rattle.grammar.specs.Index.{Indexed};
+ghost use Rattle.grammar.specs.Answers.{refusalNumber, said, checkGrammar, Reads};
+use crate::index;
+use crate::index::wide;
 
 pub enum GrammarRefusal {
     TooShort,
@@ -38,12 +41,6 @@ pub fn refusal_number(r: GrammarRefusal) -> u8
         GrammarRefusal::OnNoChain => 7,
         GrammarRefusal::Repeated => 8,
     }
-}
-
-fn wide(x: u8) -> usize
-    ensures { λ r. ⌜ r ≡ x ⌝ }
-{
-    x as usize
 }
 
 // 2.
@@ -91,144 +88,102 @@ fn rule_fits(n: u8, w: u8, kind: u8, a: u8, b: u8) -> bool
     }
 }
 
-// 4.
-fn bad_rule(g: &[u8], n: usize, r: usize) -> bool
+// What is wrong with the rules: some rule does not fit; if all fit, some next is above R.
+pub struct Faults {
+    pub rule: bool,
+    pub link: bool,
+}
+
+// 4, and 5 of the nexts.
+fn faults_in(g: &[u8], n: usize, r: usize) -> Faults
     requires { ⌜ Sized (now g) n r ⌝ }
-    ensures { λ b. ⌜ b ≡ badRule (now (g .entry)) ⌝ }
+    ensures { λ f. ⌜ Finds (now (g .entry)) (f .rule) (f .link) ⌝ }
 {
+    let mut link = false;
     let mut i = r;
     while 0 < i {
         let at = n + 4 * i;
         if !rule_fits(g[0], g[1], g[at], g[at + 1], g[at + 2]) {
-            return true;
+            return Faults {
+                rule: true,
+                link: false,
+            };
         }
+        link = link | (r < wide(g[at + 3]));
         i -= 1;
     }
-    false
+    Faults { rule: false, link }
 }
 
-// Whether one of `count` bytes, the first at `at` and each `step` after the one before, is above r.
-fn some_above(g: &[u8], r: usize, at: usize, step: usize, count: usize) -> bool
-    requires { ⌜ Inside (now g) at step count ⌝ }
-    ensures { λ b. ⌜ b ≡ someAbove (now (g .entry)) r at step count ⌝ }
-{
-    let mut i = count;
-    while 0 < i {
-        i -= 1;
-        if r < wide(g[at + step * i]) {
-            return true;
-        }
-    }
-    false
-}
-
-// One mark more for each time that a rule is met along the chain of a, of which r + 1 steps are walked at the most.
-fn mark_chain(g: &[u8], n: usize, r: usize, a: usize, marks: &mut [u16; 256])
-    requires { ⌜ Marking (now g) n r a (now marks) ⌝ }
-    ensures { λ _. ⌜ Marked (now (g .entry)) a (now (marks .entry)) (now (marks .exit)) ⌝ }
-{
-    let mut at = wide(g[4 + a]);
-    let mut left = r + 1;
-    while 0 < left {
-        if at == 0 {
-            return;
-        }
-        if r < at {
-            return;
-        }
-        marks[at] += 1;
-        at = wide(g[n + 4 * at + 3]);
-        left -= 1;
-    }
-}
-
-// How often each rule is met, walking the chains from nonterminal 0 up.
-fn count_met(g: &[u8], n: usize, r: usize) -> [u16; 256]
+// 5 of the heads.
+fn head_above(g: &[u8], n: usize, r: usize) -> bool
     requires { ⌜ Sized (now g) n r ⌝ }
-    ensures { λ m. ⌜ Counted (now (g .entry)) m ⌝ }
+    ensures { λ b. ⌜ b ≡ someBelow (headAbove (now (g .entry))) (nonterminals (now (g .entry))) ⌝ }
 {
-    let mut marks = [0u16; 256];
-    let mut a = 0;
-    while a < n {
-        mark_chain(g, n, r, a, &mut marks);
-        a += 1;
-    }
-    marks
-}
-
-// Whether some rule's mark is not from lo to hi.
-fn some_outside(marks: &[u16; 256], r: usize, lo: u16, hi: u16) -> bool
-    requires { ⌜ r ≤ 255 ⌝ }
-    ensures { λ b. ⌜ b ≡ someTo (λ q. not (within lo hi (getD (now (marks .entry)) q 0))) r ⌝ }
-{
-    let mut i = r;
+    let mut i = n;
     while 0 < i {
-        if marks[i] < lo {
-            return true;
-        }
-        if hi < marks[i] {
-            return true;
-        }
         i -= 1;
+        if r < wide(g[4 + i]) {
+            return true;
+        }
     }
     false
 }
 
-fn slot(kind: u8, a: u8, b: u8) -> usize
-    ensures { λ r. ⌜ r ≡ slotOf kind a b ⌝ }
+// The entry at i of the index, as one number.
+fn entry(index: &[u8; 1024], pairs: bool, i: usize) -> usize
+    requires { ⌜ i < 256 ⌝ }
+    ensures { λ r. ⌜ r ≡ entryAt pairs (now (index .entry)) i ⌝ }
 {
-    if kind == 0 {
-        return wide(a);
+    if pairs {
+        return 32 * wide(index[256 + i]) + wide(index[512 + i]);
     }
-    256 + 32 * wide(a) + wide(b)
+    wide(index[i])
 }
 
-// Whether two rules on the chain of a are alike: then the second finds the slot of the first stamped.
-fn twins_on(g: &[u8], n: usize, r: usize, a: usize, stamp: u8, stamps: &mut [u8; 1280]) -> bool
-    requires { ⌜ Stamping (now g) n r a stamp (now stamps) ⌝ }
-    ensures { λ b. ⌜ Stamped (now (g .entry)) a stamp (now (stamps .exit)) b ⌝ }
+// Whether two of the words of a are the same, or two of its pair rules: then the second finds the stamp of the first.
+fn some_same(index: &[u8; 1024], pairs: bool, a: usize, stamp: u8, stamps: &mut [u8; 1024]) -> bool
+    requires { ⌜ Stamping pairs (now index) a stamp (now stamps) ⌝ }
+    ensures { λ b. ⌜ Stamped pairs (now (index .entry)) a stamp (now (stamps .exit)) b ⌝ }
 {
-    let mut at = wide(g[4 + a]);
-    let mut left = r + 1;
-    while 0 < left {
-        if at == 0 {
-            return false;
-        }
-        if r < at {
-            return false;
-        }
-        let base = n + 4 * at;
-        let s = slot(g[base], g[base + 1], g[base + 2]);
-        if stamps[s] == stamp {
+    let to = index::begins(index, pairs, a + 1);
+    let mut i = index::begins(index, pairs, a);
+    while i < to {
+        let e = entry(index, pairs, i);
+        if stamps[e] == stamp {
             return true;
         }
-        stamps[s] = stamp;
-        at = wide(g[base + 3]);
-        left -= 1;
+        stamps[e] = stamp;
+        i += 1;
     }
     false
 }
 
 // 8.
-fn some_twins(g: &[u8], n: usize, r: usize) -> bool
-    requires { ⌜ Sized (now g) n r × (badRule (now g) ≡ false) ⌝ }
+fn some_twins(g: &[u8], index: &[u8; 1024]) -> bool
+    requires { ⌜ Readable (now g) × Indexed (now g) (now index) (nonterminals (now g)) ⌝ }
     ensures { λ b. ⌜ b ≡ repeated (now (g .entry)) ⌝ }
 {
-    let mut stamps = [0u8; 1280];
+    let mut stamps = [0u8; 1024];
     let mut stamp = 1;
-    let mut a = n;
+    let mut a = wide(g[0]);
     while 0 < a {
-        if twins_on(g, n, r, a - 1, stamp, &mut stamps) {
+        a -= 1;
+        if some_same(index, false, a, stamp, &mut stamps) {
             return true;
         }
-        stamp += 1;
-        a -= 1;
+        if some_same(index, true, a, stamp + 1, &mut stamps) {
+            return true;
+        }
+        stamp += 2;
     }
     false
 }
 
-pub fn check(g: &[u8]) -> GrammarAnswer
-    ensures { λ r. ⌜ said r ≡ checkGrammar (now (g .entry)) ⌝ }
+// The refusals in their order. Past the last of them the index is there, in a table that may hold anything before.
+pub fn read(g: &[u8], index: &mut [u8; 1024]) -> GrammarAnswer
+    requires { ⌜ length (now index) ≡ 1024 ⌝ }
+    ensures { λ r. ⌜ Reads (now (g .entry)) (now (index .exit)) r ⌝ }
 {
     if g.len() < 4 {
         return GrammarAnswer::Refused(GrammarRefusal::TooShort);
@@ -241,27 +196,35 @@ pub fn check(g: &[u8]) -> GrammarAnswer
     if g.len() != 4 + n + 4 * r {
         return GrammarAnswer::Refused(GrammarRefusal::WrongSize);
     }
-    if bad_rule(g, n, r) {
+    let faults = faults_in(g, n, r);
+    if faults.rule {
         return GrammarAnswer::Refused(GrammarRefusal::BadRule);
     }
-    if some_above(g, r, 4, 1, n) {
+    if faults.link {
         return GrammarAnswer::Refused(GrammarRefusal::BadLink);
     }
-    if some_above(g, r, n + 7, 4, r) {
+    if head_above(g, n, r) {
         return GrammarAnswer::Refused(GrammarRefusal::BadLink);
     }
-    let marks = count_met(g, n, r);
-    if some_outside(&marks, r, 0, 1) {
+    if index::build(g, index) {
         return GrammarAnswer::Refused(GrammarRefusal::MetTwice);
     }
-    if some_outside(&marks, r, 1, 65535) {
+    // fewer rules are met than there are
+    if index::begins(index, false, n) + index::begins(index, true, n) < r {
         return GrammarAnswer::Refused(GrammarRefusal::OnNoChain);
     }
-    if some_twins(g, n, r) {
+    if some_twins(g, index) {
         return GrammarAnswer::Refused(GrammarRefusal::Repeated);
     }
     GrammarAnswer::Accepted {
         nonterminals: g[0],
         words: g[1],
     }
+}
+
+pub fn check(g: &[u8]) -> GrammarAnswer
+    ensures { λ r. ⌜ said r ≡ checkGrammar (now (g .entry)) ⌝ }
+{
+    let mut index = [0u8; 1024];
+    read(g, &mut index)
 }

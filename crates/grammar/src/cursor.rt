@@ -1,10 +1,9 @@
 // The walk along a nonterminal's chain: each step hands on the walk after it.
 ghost use mathlib.Core.Path.{_≡_};
 ghost use Prim.Native.Nat.{_<_};
-ghost use Rattle.grammar.specs.Layout.{nonterminals};
-ghost use Rattle.grammar.specs.Chains.{rest, chain};
-ghost use Rattle.grammar.specs.Refusals.{Accepted};
-ghost use Rattle.grammar.specs.Steps.{yielded};
+ghost use Rattle.grammar.specs.Layout.{nonterminals, headOf};
+ghost use Rattle.grammar.specs.Checks.{Readable};
+ghost use Rattle.grammar.specs.Steps.{stepAt};
 
 // A place on a chain: the number of the rule that comes next, 0 at the end.
 pub struct ChainCursor {
@@ -21,18 +20,18 @@ pub enum Step {
 impl ChainCursor {
     // Before the first rule of the chain of a.
     pub fn new(g: &[u8], a: u8) -> Self
-        requires { ⌜ Accepted (now g) × (a < nonterminals (now g)) ⌝ }
-        ensures { λ c. ⌜ rest (now (g .entry)) (c .at) ≡ chain (now (g .entry)) a ⌝ }
+        requires { ⌜ Readable (now g) × (a < nonterminals (now g)) ⌝ }
+        ensures { λ c. ⌜ c .at ≡ headOf (now (g .entry)) a ⌝ }
     {
         ChainCursor {
             at: g[4 + (a as usize)],
         }
     }
 
-    // The next rule with the walk after it, or the end.
-    pub fn step(self, g: &[u8]) -> Step
-        requires { ⌜ Accepted (now g) ⌝ }
-        ensures { λ s. ⌜ rest (now (g .entry)) (self .at) ≡ yielded (rest (now (g .entry))) s ⌝ }
+    // The next rule with the walk after it, or the end; n is N, behind which the rules stand.
+    pub fn step(self, g: &[u8], n: usize) -> Step
+        requires { ⌜ Readable (now g) × (n ≡ nonterminals (now g)) ⌝ }
+        ensures { λ s. ⌜ s ≡ stepAt (now (g .entry)) (self .at) ⌝ }
     {
         let at = self.at;
         if at == 0 {
@@ -41,7 +40,7 @@ impl ChainCursor {
         if g[2] < at {
             return Step::End;
         }
-        let base = (g[0] as usize) + 4 * (at as usize);
+        let base = n + 4 * (at as usize);
         let kind = g[base];
         let a = g[base + 1];
         let b = g[base + 2];

@@ -1,6 +1,6 @@
 -- What each test of *Check diary* says of the bytes, and what an accepted history is known to have.
 -- Assumes nothing.
-use mathlib.Core.Path.{_≡_}
+use mathlib.Core.Path.{_≡_, sym, _∙_}
 use mathlib.Core.Bool.{false, true, not, _||_}
 use mathlib.Core.List.{List}
 use Prim.Native.Nat.{ℕ, _+_, _-_, _*_, _≤_, _<_}
@@ -10,7 +10,7 @@ use lib.ListN.{length, getD, drop, length-drop}
 use lib.Seq.{length-take-le}
 use lib.Dec.{ltb, eqb, lit<}
 use Rattle.lists.specs.Searched.{someTo, times}
-use Rattle.lists.proofs.Tests.{within-facts, within-low, within-high, within-both, or-left, or-right, to-at}
+use Rattle.lists.proofs.Tests.{within-facts, within-low, within-high, within-both, or-left, or-right, below-none, to-at}
 use Rattle.answers.specs.Answer.{firstThatApplies}
 use Rattle.answers.specs.Length.{badLength}
 use Rattle.answers.proofs.Refusals.{row-clear}
@@ -83,11 +83,11 @@ module _ (h : List ℕ) (at : ℕ) where
   unfolding misfit badLength
   misfit-beyond l m e = rw (within-both 1 16 (getD h (at + 2) 0) l m, eq-eqb (getD h (at + 3) 0) 0 e)
 
--- ---- 13 and 14
+  -- nothing lies beyond sixteen words
+  pub misfit-full : getD h (at + 2) 0 ≡ 16 → getD h (at + 3) 0 ≡ 0 → false ≡ misfit h at
+  misfit-full n e = sym (below-none _ _ (omega arith)) ∙ misfit-beyond (omega arith) (omega arith) e
 
-pub head-above : (h : List ℕ) → recordsOf h < headOf h → true ≡ badLink h
-unfolding badLink
-head-above h l = rw (lt-ltb (recordsOf h) (headOf h) l)
+-- ---- 13 and 14
 
 pub head-below : (h : List ℕ) → headOf h ≤ recordsOf h → badLink h ≡ someTo (nextAbove h) (recordsOf h)
 unfolding badLink

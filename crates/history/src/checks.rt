@@ -1,10 +1,10 @@
-// *Check diary*: the refusals 11 to 14, each a test of its own, in the order of document 01's list.
+// *Check diary*: the refusals 11 to 14, in the order of document 01's list; 12 and 13 are one pass over the records.
 ghost use mathlib.Core.Path.{_≡_};
 ghost use mathlib.Core.Bool.{false};
-ghost use Prim.Native.Nat.{_+_, _≤_};
+ghost use Prim.Native.Nat.{_+_, _-_, _≤_};
 ghost use lib.ListN.{length};
-ghost use Rattle.history.specs.Refusals.{badSize, someNonzero, misfit, badRecord, badLink, badChain};
-ghost use Rattle.history.specs.Checks.{Sized};
+ghost use Rattle.history.specs.Refusals.{badSize, someNonzero, misfit, badLink, badChain};
+ghost use Rattle.history.specs.Checks.{Sized, Tested};
 ghost use Rattle.history.specs.Answers.{refusalNumber, said, checkHistory};
 use crate::records;
 
@@ -46,19 +46,20 @@ fn bad_size(h: &[u8]) -> bool
     h.len() < 4 + 20 * k
 }
 
-// Whether one of `count` bytes, the first at `at`, is not 0.
-fn some_nonzero(h: &[u8], at: usize, count: usize) -> bool
-    requires { ⌜ at + count ≤ length (now h) ⌝ }
-    ensures { λ b. ⌜ b ≡ someNonzero (now (h .entry)) at count ⌝ }
+// Whether, of the sixteen bytes at `at`, one from the place n on is not 0. All are looked at: a loop that no byte ends can be unrolled.
+fn some_nonzero(h: &[u8], at: usize, n: usize) -> bool
+    requires { ⌜ at + 16 ≤ length (now h) ⌝ }
+    ensures { λ b. ⌜ b ≡ someNonzero (now (h .entry)) (at + n) (16 - n) ⌝ }
 {
-    let mut i = count;
-    while 0 < i {
-        i -= 1;
-        if h[at + i] != 0 {
-            return true;
+    let mut bits: u8 = 0;
+    let mut i: usize = 0;
+    while i < 16 {
+        if n <= i {
+            bits = bits | h[at + i];
         }
+        i += 1;
     }
-    false
+    bits != 0
 }
 
 // Whether a record, which stands at `at`, breaks its layout.
@@ -76,40 +77,37 @@ fn misfit(h: &[u8], at: usize) -> bool
     if h[at + 3] != 0 {
         return true;
     }
-    some_nonzero(h, at + 4 + n, 16 - n)
+    // nothing lies beyond sixteen words
+    if n == 16 {
+        return false;
+    }
+    some_nonzero(h, at + 4, n)
 }
 
-// 12.
-fn bad_record(h: &[u8], k: usize) -> bool
-    requires { ⌜ Sized (now h) k ⌝ }
-    ensures { λ b. ⌜ b ≡ badRecord (now (h .entry)) ⌝ }
-{
-    let mut r = k;
-    while 0 < r {
-        if misfit(h, records::record_at(r)) {
-            return true;
-        }
-        r -= 1;
-    }
-    false
+// What one pass over the records shows: whether a record is bad (12), and if none is, whether a link is far (13).
+struct RecordTests {
+    bad: bool,
+    far: bool,
 }
 
-// 13.
-fn bad_link(h: &[u8], k: usize) -> bool
+// 12 and 13. A bad record ends the pass; a far link doesn't, since a bad record may follow.
+fn test_records(h: &[u8], k: usize) -> RecordTests
     requires { ⌜ Sized (now h) k ⌝ }
-    ensures { λ b. ⌜ b ≡ badLink (now (h .entry)) ⌝ }
+    ensures { λ t. ⌜ Tested (now (h .entry)) (t .bad) (t .far) ⌝ }
 {
-    if k < records::two_at(h, 2) {
-        return true;
-    }
-    let mut r = k;
-    while 0 < r {
-        if k < records::two_at(h, records::record_at(r)) {
-            return true;
+    let mut far = k < records::two_at(h, 2);
+    let mut r: usize = 0;
+    while r < k {
+        r += 1;
+        let at = records::record_at(r);
+        if misfit(h, at) {
+            return RecordTests { bad: true, far };
         }
-        r -= 1;
+        if k < records::two_at(h, at) {
+            far = true;
+        }
     }
-    false
+    RecordTests { bad: false, far }
 }
 
 // 14: a chain of links up to k that ends meets no record twice. So it meets each once exactly if it meets k of them and ends.
@@ -136,10 +134,11 @@ pub fn check(h: &[u8]) -> HistoryAnswer
         return HistoryAnswer::Refused(HistoryRefusal::BadSize);
     }
     let k = records::two_at(h, 0);
-    if bad_record(h, k) {
+    let t = test_records(h, k);
+    if t.bad {
         return HistoryAnswer::Refused(HistoryRefusal::BadRecord);
     }
-    if bad_link(h, k) {
+    if t.far {
         return HistoryAnswer::Refused(HistoryRefusal::BadLink);
     }
     if bad_chain(h, k) {

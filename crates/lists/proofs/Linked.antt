@@ -2,33 +2,48 @@
 -- the same under every larger bound, goes on to its end from every number that it meets, and meets none twice.
 -- Assumes nothing.
 use mathlib.Core.Path.{_≡_, refl, sym, ap, _∙_}
-use mathlib.Core.Bool.{false}
+use mathlib.Core.Bool.{true, false}
 use mathlib.Core.List.{List, [], _∷_, List·Memᴰ·head, List·Memᴰ·tail, List·Memᴰ·not-nil}
 use Prim.Native.Nat.{ℕ, zero, suc, _-_, _≤_, _<_}
 use native.Mathlib.Omega.{arith}
 use native.Mathlib.Decide.{decLe}
-use borrow.Author.Tests.{le-leb, lt-leb}
+use borrow.Author.Tests.{leb-true, le-leb, lt-leb}
 use lib.Dec.{leb}
 use lib.ListN.{length}
 use Rattle.lists.specs.Joined.{_∈_}
 use Rattle.lists.specs.Ordered.{Distinct, none, more}
 use Rattle.lists.specs.Linked.{isNumber, metFrom, Walk, ends, goes}
-use Rattle.lists.proofs.Tests.{and-false}
+use Rattle.lists.proofs.Tests.{and-left, and-right, and-false}
+
+-- ---- the numbers of things
+
+module _ (last r : ℕ) where
+  pub zero-none : r ≡ 0 → isNumber last r ≡ false
+  zero-none e = rw (lt-leb 1 r (omega arith))
+
+  pub above-none : last < r → isNumber last r ≡ false
+  above-none h = and-false (leb 1 r) (leb r last) (lt-leb r last h)
+
+  pub inside-one : 1 ≤ r → r ≤ last → isNumber last r ≡ true
+  inside-one h k = rw (le-leb 1 r h, le-leb r last k)
+
+  pub one-inside : isNumber last r ≡ true → (1 ≤ r) × (r ≤ last)
+  one-inside e = (leb-true 1 r (and-left (leb 1 r) (leb r last) e), leb-true r last (and-right (leb 1 r) (leb r last) e))
 
 module _ (next : ℕ → ℕ) (last : ℕ) where
   -- ---- step by step
 
-  met-none : (n r : ℕ) → isNumber last r ≡ false → metFrom next last n r ≡ []
+  -- a walk ends at a number that no thing has: at 0, or above the last; and at its bound
+  pub met-none : (n r : ℕ) → isNumber last r ≡ false → metFrom next last n r ≡ []
   unfolding metFrom
   met-none zero r e = refl
   met-none (suc n) r e = rw e
 
-  -- a walk ends at 0, at a number above the last, and at its bound
   pub met-zero : (n r : ℕ) → r ≡ 0 → metFrom next last n r ≡ []
-  met-zero n r e = met-none n r (rw (lt-leb 1 r (omega arith)))
+  met-zero n r e = met-none n r (zero-none last r e)
 
   pub met-above : (n r : ℕ) → last < r → metFrom next last n r ≡ []
-  met-above n r h = met-none n r (and-false (leb 1 r) (leb r last) (lt-leb r last h))
+  met-above n r h = met-none n r (above-none last r h)
 
   pub met-out : (n r : ℕ) → n ≤ 0 → metFrom next last n r ≡ []
   unfolding metFrom
@@ -38,7 +53,7 @@ module _ (next : ℕ → ℕ) (last : ℕ) where
   -- at a thing it goes on with its next
   pub met-more : (n r : ℕ) → 1 ≤ r → r ≤ last → metFrom next last (suc n) r ≡ r ∷ metFrom next last n (next r)
   unfolding metFrom
-  met-more n r h k = rw (le-leb 1 r h, le-leb r last k)
+  met-more n r h k = rw (inside-one last r h k)
 
   -- the same, as a loop that counts down meets it
   pub met-step : (n r : ℕ) → 0 < n → 1 ≤ r → r ≤ last → metFrom next last n r ≡ r ∷ metFrom next last (n - 1) (next r)

@@ -196,6 +196,11 @@ pub times-few : (k n : ℕ) (l : List ℕ) → ((x : ℕ) → x ∈ l → (k ≤
 times-few k n l h f =
     omega (arith, times-sum k n l h, sum-le (λ r. times r l) (λ r. 1) (upFrom k n) f, sum-const 1 (upFrom k n), length-upFrom k n)
 
+-- n values, each of them there, make a list of at least n
+pub times-many : (k n : ℕ) (l : List ℕ) → ((x : ℕ) → x ∈ l → (k ≤ x) × (x < k + n)) → ((r : ℕ) → r ∈ upFrom k n → 1 ≤ times r l) → n ≤ length l
+times-many k n l h f =
+    omega (arith, times-sum k n l h, sum-le (λ r. 1) (λ r. times r l) (upFrom k n) f, sum-const 1 (upFrom k n), length-upFrom k n)
+
 -- a sum of n numbers, none above 1, is at most n; where it is n, each of them is 1
 sum-most : (f : ℕ → ℕ) (l : List ℕ) → ((x : ℕ) → x ∈ l → f x ≤ 1) → sumOver f l ≤ length l
 sum-most f l h = omega (arith, sum-le f (λ x. 1) l h, sum-const 1 l)

@@ -39,6 +39,11 @@ module _ {X : Type 0} where
 abbrev pub times : ℕ → List ℕ → ℕ
 times r l = howMany (eqb r) l
 
+-- some number stands in it twice
+abbrev pub repeats : List ℕ → Bool
+repeats [] = false
+repeats (x ∷ l) = someOf (eqb x) l || repeats l
+
 -- some number below n passes
 unfoldable pub someBelow : (ℕ → Bool) → ℕ → Bool
 someBelow f zero = false

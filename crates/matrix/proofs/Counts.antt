@@ -6,9 +6,8 @@ use Prim.Native.Nat.{ℕ}
 use lib.ListN.{length}
 use Rattle.lists.specs.Linked.{metFrom}
 use Rattle.grammar.specs.Layout.{start}
-use Rattle.grammar.specs.Chains.{rest, chain}
+use Rattle.grammar.specs.Chains.{rest, chain, wordsOf, pairsOf}
 use Rattle.counting.specs.Totals.{T}
-use Rattle.counting.specs.Sentences.{wordsOf, pairsOf}
 use Rattle.counting.proofs.OneLength.{OneLength, words-alone, pair-alone}
 use Rattle.matrix.specs.Table.{table}
 

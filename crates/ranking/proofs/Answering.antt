@@ -3,45 +3,33 @@
 use mathlib.Core.Path.{_≡_, refl, sym, _∙_}
 use mathlib.Core.Bool.{false}
 use mathlib.Core.List.{List, [], _∷_, _++_}
-use Prim.Native.Nat.{ℕ, zero, suc, _≤_, _<_}
+use Prim.Native.Nat.{ℕ, _≤_, _<_}
 use native.Mathlib.Omega.{arith}
 use lib.ListN.{length, drop}
 use lib.Dec.{ltb, leb, eqb, lit<}
-use borrow.Author.Tests.{ltb-false, le-leb, lt-leb, lt-ltb, le-ltb, eq-eqb, ne-eqb}
-use Rattle.lists.specs.Searched.{someBelow}
-use Rattle.lists.proofs.Tests.{within-both, below-at}
+use borrow.Author.Tests.{le-leb, lt-leb, lt-ltb, le-ltb, eq-eqb, ne-eqb}
+use Rattle.lists.proofs.Tests.{within-both}
 use Rattle.answers.specs.Answer.{Row, firstThatApplies}
 use Rattle.answers.specs.Length.{badLength}
 use Rattle.answers.proofs.Refusals.{row-applies, row-passed, rows-stop, rows-pass, answer-accepted, answer-refused}
 use Rattle.grammar.specs.Layout.{nonterminals, start}
-use Rattle.grammar.specs.Chains.{chain}
 use Rattle.grammar.specs.Refusals.{grammarRows}
 use Rattle.grammar.proofs.Acceptance.{known}
-use Rattle.counting.specs.Totals.{T}
 use Rattle.counting.specs.Tables.{most, tooLarge}
 use Rattle.counting.specs.Prepared.{preparedRows, countNumber, Tabled, Prepares}
 use Rattle.counting.specs.declared.prepare.CountRefusal.{CountRefusal}
 use Rattle.counting.specs.declared.prepare.Prepared.the-variants.{Refused}
-use Rattle.counting.proofs.Totals.{total-none}
 use Rattle.counting.proofs.Preparing.{count-number}
-use Rattle.readings.specs.Pattern.{fitting}
-use Rattle.readings.specs.Memo.{Remembers, Ready}
+use Rattle.readings.specs.Rows.{Known}
+use Rattle.readings.proofs.Runs.{counts-fit}
+use Rattle.ranking.specs.Located.{Hand}
 use Rattle.ranking.specs.Answers.{totalOf, entryOf, unrankRows, unrankOf, readingsOf, numberOf, rankRows, rankOf}
 
 -- ---- the tables serve the walk
 
 module _ {g index plain : List ℕ} {n : ℕ} (t : Tabled g n index plain) where
-  counts-fit : (A k : ℕ) → A < nonterminals g → k ≤ n → T (chain g) A k ≤ most
-  unfolding tooLarge
-  counts-fit A zero h l = omega (arith, total-none (chain g) (λ p w. 1) 0 A)
-  counts-fit A (suc k) h l =
-      ltb-false most (T (chain g) A (suc k))
-      (below-at (λ B. ltb most (T (chain g) B (suc k))) (nonterminals g) A
-      (below-at (λ i. someBelow (λ B. ltb most (T (chain g) B (suc i))) (nonterminals g)) n k (t .fits) l) h)
-
-  pub tabled-ready : {pattern : List ℕ} {u : ℕ} {memo : List ℕ} → length pattern ≤ 16 → Remembers (chain g) (fitting pattern) (length pattern) u memo
-      → Ready g index plain pattern u memo n
-  tabled-ready l r = record { accepted = t .accepted; indexed = t .indexed; rows = t .rows; fits = counts-fit; short = l; remembers = r }
+  abbrev pub tabled-hand : {pattern cells : List ℕ} → Known g pattern cells → Hand g index plain pattern cells n
+  tabled-hand k = record { accepted = t .accepted; indexed = t .indexed; rows = t .rows; fits = counts-fit t; known = k }
 
   pub start-inside : start g < nonterminals g
   start-inside = known g (t .accepted) .ranges .start-inside
@@ -51,7 +39,7 @@ module _ {g index plain : List ℕ} {n : ℕ} (t : Tabled g n index plain) where
 
   -- T is of 64 bits
   pub total-fits : totalOf g n ≤ most
-  total-fits = counts-fit (start g) n start-inside (omega arith)
+  total-fits = counts-fit t (start g) n start-inside (omega arith)
 
   -- ---- none of 1 to 10 applies
 

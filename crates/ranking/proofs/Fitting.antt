@@ -3,7 +3,7 @@
 use mathlib.Core.Path.{_≡_, refl, sym, _∙_}
 use mathlib.Core.Bool.{Bool, true, false, _&&_}
 use mathlib.Core.List.{List, [], _∷_, _++_}
-use Prim.Native.Nat.{ℕ, suc, _+_, _*_, _-_, _≤_, _<_}
+use Prim.Native.Nat.{ℕ, zero, suc, _+_, _*_, _-_, _≤_, _<_}
 use native.Mathlib.Omega.{arith}
 use native.Mathlib.Numerals.{add-one}
 use lib.ListN.{length}
@@ -62,5 +62,32 @@ module _ (rules : ℕ → List Rule) where
       ≡ combine _++_ (sentences rules B k) (sentences rules C (m - k)) ++ splitList (sentences rules) B C (k + 1) (m - (k + 1))
   list-step B C k m h = let e : m - k ≡ suc (m - (k + 1)) = omega arith in rw (e, add-one k)
 
-  pub list-end : (B C k m : ℕ) → m ≤ k → splitList (sentences rules) B C k (m - k) ≡ []
-  list-end B C k m h = let e : m - k ≡ 0 = omega arith in rw e
+  -- left lengths at which the left half has no derivation have no sentences, and so have those at which the right half has none
+  none-of : (A m : ℕ) → T rules A m ≡ 0 → sentences rules A m ≡ []
+  none-of A m e = nil (sentences rules A m) (sym (T-sentences rules A m) ∙ e)
+    where
+      nil : (l : List (List ℕ)) → length l ≡ 0 → l ≡ []
+      nil [] e = refl
+      nil (x ∷ l) e = absurd (omega arith)
+
+  combine-nil : (l : List (List ℕ)) → combine _++_ l [] ≡ []
+  combine-nil [] = refl
+  combine-nil (x ∷ l) = combine-nil l
+
+  dead-by : (B C k j : ℕ) → ((i : ℕ) → k ≤ i → i < k + j → T rules B i ≡ 0) → splitList (sentences rules) B C k j ≡ []
+  dead-by B C k zero h = refl
+  dead-by B C k (suc j) h = rw (none-of B k (h k (omega arith) (omega arith))) (dead-by B C (suc k) j (λ i l u. h i (omega arith) (omega arith)))
+
+  pub list-dead : (B C k m : ℕ) → ((i : ℕ) → k ≤ i → i < m → T rules B i ≡ 0) → splitList (sentences rules) B C k (m - k) ≡ []
+  list-dead B C k m h = dead-by B C k (m - k) (λ i l u. h i l (omega arith))
+
+  pub list-skip : (B C m d : ℕ) → d + 1 ≤ m → ((i : ℕ) → 1 ≤ i → i < d + 1 → T rules C (m - i) ≡ 0)
+      → splitList (sentences rules) B C 1 (m - 1) ≡ splitList (sentences rules) B C (d + 1) (m - (d + 1))
+  list-skip B C m zero h e = refl
+  list-skip B C m (suc d) h e =
+      let q : suc d + 1 ≡ d + 1 + 1 = omega arith in
+      let none = none-of C (m - (d + 1)) (e (d + 1) (omega arith) (omega arith)) in
+      rw q
+      (list-skip B C m d (omega arith) (λ i l u. e i l (omega arith))
+      ∙ list-step B C (d + 1) m (omega arith)
+      ∙ rw (none, combine-nil (sentences rules B (d + 1))))

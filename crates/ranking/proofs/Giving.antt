@@ -1,7 +1,7 @@
 -- What *Give* and *Number* ask of the walk, and what its answer means: under the empty pattern entry d itself, under the sentence as
 -- pattern its place.
 -- Assumes nothing.
-use mathlib.Core.Path.{_≡_, ap, _∙_}
+use mathlib.Core.Path.{_≡_, refl, ap, _∙_}
 use mathlib.Core.Bool.{false}
 use mathlib.Core.List.{List, [], _∷_}
 use Prim.Native.Nat.{ℕ, _*_, _-_, _≤_, _<_}
@@ -14,18 +14,18 @@ use Rattle.lists.specs.Searched.{someOf}
 use Rattle.grammar.specs.Layout.{words, start}
 use Rattle.grammar.specs.Chains.{chain}
 use Rattle.grammar.proofs.Acceptance.{known}
-use Rattle.counting.specs.Totals.{total}
 use Rattle.counting.specs.Sentences.{sentences}
 use Rattle.counting.specs.Tables.{cell}
 use Rattle.counting.specs.Prepared.{Tabled}
-use Rattle.readings.specs.Pattern.{fitting}
-use Rattle.readings.specs.Memo.{room, Remembers, Ready, Asked, Counted}
-use Rattle.readings.proofs.Memo.{remembers-zeros}
-use Rattle.ranking.specs.Located.{Sought, Located}
+use Rattle.readings.specs.Plan.{Ready}
+use Rattle.readings.specs.Rows.{reading, room, Filled, Read}
+use Rattle.readings.proofs.Known.{filled-known, whole-known, nothing-known}
+use Rattle.ranking.specs.Located.{Run, Sought, Located}
 use Rattle.ranking.specs.Giving.{Summed}
 use Rattle.ranking.specs.Answers.{totalOf, entryOf, readingsOf, numberOf}
+use Rattle.ranking.proofs.Walking.{run-read}
 use Rattle.ranking.proofs.Same.{readings-are, number-is, blank-total, blank-place, entry-is}
-use Rattle.ranking.proofs.Answering.{tabled-ready, start-inside}
+use Rattle.ranking.proofs.Answering.{tabled-hand, start-inside}
 
 -- T from the table
 pub total-is : {g plain : List ℕ} {n : ℕ} → Summed g n plain → {s : ℕ} → s ≡ start g → (x : ℕ) → x ≡ cell plain s n → x ≡ totalOf g n
@@ -37,49 +37,63 @@ pub rest-kept : (n : ℕ) (out : List ℕ) → postOf 0 (n - 0) out ≡ drop n o
 rest-kept n out = rw sub-zero
 
 module _ {g index plain : List ℕ} {n : ℕ} (t : Tabled g n index plain) {s : ℕ} (e : s ≡ start g) where
-  pub give-sought : (m d : ℕ) → m ≡ n → d < totalOf g n → Sought g index plain [] 1 (0 ∷ []) 1 s 0 m d
+  pub give-sought : (m d : ℕ) → m ≡ n → d < totalOf g n → Sought g index plain [] (0 ∷ []) 1 s 0 m d
   give-sought m d f h =
       rw (e, f)
       (record {
-        ready = tabled-ready t (omega arith) (remembers-zeros 1 (omega arith));
-        asked = record { inside = start-inside t; some = t .some; short = omega (arith, t .short); run = λ l. absurd (omega arith) };
+        run =
+            record {
+              hand = tabled-hand t (nothing-known refl);
+              short = omega (arith, t .short);
+              inside = λ l. absurd (omega arith);
+              row = λ l. absurd (omega arith);
+            };
+        a-inside = start-inside t;
+        some = t .some;
         inside = rw (blank-total (chain g) 0 (start g) n) h;
       })
 
-  pub give-located : (m d : ℕ) {memo words : List ℕ} {r : ℕ} → m ≡ n → d < totalOf g n → Located g [] 1 memo s 0 m d r words → words ≡ entryOf g n d
+  pub give-located : (m d : ℕ) {words : List ℕ} {r : ℕ} → m ≡ n → d < totalOf g n → Located g [] s 0 m d r words → words ≡ entryOf g n d
   give-located m d f h l =
       let l′ = rw (e, f) at l in
       l′ .sentence ∙ ap (λ (i : ℕ). getD (sentences (chain g) (start g) n) i []) (l′ .number ∙ blank-place (chain g) 0 (start g) n d h) ∙ entry-is g n d h
 
 -- ---- *Number*
 
--- the tables for a sentence without foreign words
-module _ {g index plain s : List ℕ} (tabled : Tabled g (length s) index plain) (native : someOf (leb (words g)) s ≡ false) {a : ℕ} (e : a ≡ start g) where
-  pub rank-asks : {t : ℕ} {memo : List ℕ} → Remembers (chain g) (fitting s) (length s) t memo → Ready g index plain s t memo (length s) × Asked g s 1 a 0 (length s)
-  rank-asks r =
-      rw e
-      (tabled-ready tabled (tabled .short) r, record { inside = start-inside tabled; some = tabled .some; short = omega (arith, tabled .short); run = λ l. omega arith })
+-- the tables for a sentence without foreign words, and its rows
+module _ {g index plain plan s cells : List ℕ} (r : Ready g index plain (length s) plan) (f : Filled g s plan cells (length s)) (native : someOf (leb (words g)) s ≡ false) {a : ℕ} (e : a ≡ start g) where
+  -- the whole sentence is a run with its row
+  whole : Run g index plain s cells 0 (length s)
+  whole =
+      record {
+        hand = tabled-hand (r .tabled) (filled-known r f);
+        short = omega (arith, r .tabled .short);
+        inside = λ l. omega arith;
+        row = λ l. whole-known r f;
+      }
 
-  pub count-is : {t : ℕ} {memo : List ℕ} {x : ℕ} → Counted g s t memo (total (chain g) (fitting s) 0 a (length s)) x → x ≡ readingsOf g s
-  count-is c = c .value ∙ ap (λ (b : ℕ). total (chain g) (fitting s) 0 b (length s)) e ∙ readings-are g s (tabled .accepted) native
+  pub rank-asks : Read g plain s cells a 0 (length s)
+  rank-asks = rw e (run-read whole (start-inside (r .tabled)) (r .tabled .some))
 
-  pub rank-sought : {t : ℕ} {memo : List ℕ} → Remembers (chain g) (fitting s) (length s) t memo → (m : ℕ) → m ≡ length s → 1 ≤ readingsOf g s
-      → Sought g index plain s t memo 1 a 0 m 0
-  rank-sought r m f h =
-      let q = rank-asks r in
-      rw f
+  pub count-is : {x : ℕ} → x ≡ reading g s 0 a (length s) → x ≡ readingsOf g s
+  count-is c = c ∙ ap (λ (b : ℕ). reading g s 0 b (length s)) e ∙ readings-are g s (r .tabled .accepted) native
+
+  pub rank-sought : (m : ℕ) → m ≡ length s → 1 ≤ readingsOf g s → Sought g index plain s cells 1 a 0 m 0
+  rank-sought m q h =
+      rw (q, e)
       (record {
-        ready = q .0;
-        asked = q .1;
-        inside = rw (e, readings-are g s (tabled .accepted) native) h;
+        run = whole;
+        a-inside = start-inside (r .tabled);
+        some = r .tabled .some;
+        inside = rw (readings-are g s (r .tabled .accepted) native) h;
       })
 
-  pub rank-located : (m : ℕ) {t : ℕ} {memo words : List ℕ} {r : ℕ} → m ≡ length s → Located g s t memo a 0 m 0 r words → r ≡ numberOf g s
-  rank-located m f l = (rw (e, f) at l) .number ∙ number-is g s (tabled .accepted) native
+  pub rank-located : (m : ℕ) {words : List ℕ} {n : ℕ} → m ≡ length s → Located g s a 0 m 0 n words → n ≡ numberOf g s
+  rank-located m q l = (rw (e, q) at l) .number ∙ number-is g s (r .tabled .accepted) native
 
--- a memo for five words, and one for sixteen
-pub room-short : (n : ℕ) → n ≤ 5 → room n ≤ 1280
-room-short n h = let l : n - 1 ≤ 4 = omega arith in let q : (n - 1) * n ≤ 4 * 5 = mul-le-mul l h in omega arith
+-- room for the rows of five words, and of sixteen
+pub room-short : (n : ℕ) → n ≤ 5 → room n ≤ 800
+room-short n h = let q : n * n ≤ 5 * 5 = mul-le-mul h h in omega arith
 
-pub room-long : (n : ℕ) → n ≤ 16 → room n ≤ 15360
-room-long n h = let l : n - 1 ≤ 15 = omega arith in let q : (n - 1) * n ≤ 15 * 16 = mul-le-mul l h in omega arith
+pub room-long : (n : ℕ) → n ≤ 16 → room n ≤ 8192
+room-long n h = let q : n * n ≤ 16 * 16 = mul-le-mul h h in omega arith

@@ -12,19 +12,20 @@ use Rattle.lists.proofs.Sums.{length-combine}
 use Rattle.lists.proofs.Places.{getD-map, getD-combine-at}
 use Rattle.lists.proofs.Searches.{place-lt, place-ext, place-map, place-combine}
 use Rattle.lists.proofs.Parts.{part-entry}
-use Rattle.grammar.specs.Chains.{chain}
-use Rattle.counting.specs.Totals.{total}
-use Rattle.counting.specs.Sentences.{sentences, wordsOf}
+use Rattle.grammar.specs.Chains.{chain, wordsOf}
+use Rattle.counting.specs.Totals.{total, T}
+use Rattle.counting.specs.Sentences.{sentences}
 use Rattle.counting.specs.Tables.{cell, most}
 use Rattle.counting.proofs.Totals.{total-one}
 use Rattle.counting.proofs.Sentences.{sentences-one}
 use Rattle.counting.proofs.Counts.{T-sentences}
 use Rattle.readings.specs.Pattern.{byteAt, suits, fitsFrom, fitting}
-use Rattle.readings.specs.Memo.{Remembers, Ready, Asked, Counted}
-use Rattle.readings.proofs.Given.{ready-within, few}
+use Rattle.readings.specs.Rows.{Read}
+use Rattle.readings.proofs.Patterns.{fitting-le}
+use Rattle.ranking.proofs.Walking.{left-run, right-run, run-read}
 use Rattle.ranking.specs.declared.locate.Picked.{Picked}
 use Rattle.ranking.specs.declared.locate.Chosen.{Chosen}
-use Rattle.ranking.specs.Located.{WordSought, PickedAs, halvesOf, Sought, ChosenAs, Located, HalvesSought, HalvesLocated}
+use Rattle.ranking.specs.Located.{WordSought, PickedAs, halvesOf, Sought, ChosenAs, Located, HalvesSought, HalvesLocated, Worded}
 use Rattle.ranking.proofs.Fitting.{many-fit, halves-fit, many-halves}
 
 -- ---- a single word
@@ -38,17 +39,23 @@ one-word [] w e = absurd (omega arith)
 one-word (x ∷ []) w e = refl
 one-word (x ∷ y ∷ out) w e = absurd (omega arith)
 
-module _ {g index plain pattern : List ℕ} {t : ℕ} {memo : List ℕ} {a p m d : ℕ} (s : Sought g index plain pattern t memo 1 a p m d) (e : m ≡ 1) {x : ℕ} (f : x ≡ byteAt pattern p) where
-  pub word-sought : WordSought g index x a d
+-- past the end all is blank
+in-pattern : (pattern : List ℕ) (p : ℕ) → (byteAt pattern p ≡ 255 → ⊥) → 1 ≤ length pattern
+in-pattern [] p n = absurd (n refl)
+in-pattern (x ∷ l) p n = omega arith
+
+module _ {g index plain pattern cells : List ℕ} {a p m d : ℕ} (s : Sought g index plain pattern cells 1 a p m d) (e : m ≡ 1) {plan : List ℕ} (v : Worded g index plain plan pattern) {x : ℕ} (f : x ≡ byteAt pattern p) where
+  pub word-sought : WordSought g index plain (length pattern) plan x a d
   word-sought =
       record {
-        indexed = s .ready .indexed;
-        few = few (s .ready);
-        inside = s .asked .inside;
+        accepted = s .run .hand .accepted;
+        indexed = s .run .hand .indexed;
+        inside = s .a-inside;
+        ready = λ n. v (in-pattern pattern p (λ z. n (f ∙ z)));
         some = rw f (rw (e, total-one (chain g) (fitting pattern) p a) at (s .inside));
       }
 
-  pub word-located : (r : Picked) → PickedAs g x a d r → (out : List ℕ) → length out ≡ m → Located g pattern t memo a p m d (r .before) (set out 0 (r .word))
+  pub word-located : (r : Picked) → PickedAs g x a d r → (out : List ℕ) → length out ≡ m → Located g pattern a p m d (r .before) (set out 0 (r .word))
   word-located r q out l =
       let n : r .before < length (wordsOf (chain g a)) = rw (q .number) (place-lt (suits x) (wordsOf (chain g a)) d (word-sought .some)) in
       rw e
@@ -63,17 +70,23 @@ module _ {g index plain pattern : List ℕ} {t : ℕ} {memo : List ℕ} {a p m d
             ∙ ap (λ (w : ℕ). w ∷ []) (q .word)
             ∙ sym (ap (λ (l : List (List ℕ)). getD l (r .before) []) (sentences-one (chain g) a)
             ∙ getD-map (λ w. w ∷ []) (wordsOf (chain g a)) (r .before) 0 [] n);
-        remembers = s .ready .remembers;
       })
 
 -- ---- a pair rule
 
-pub sought-more : {g index plain pattern : List ℕ} {t : ℕ} {memo : List ℕ} {a p m d : ℕ} → Sought g index plain pattern t memo 1 a p m d → (m ≡ 1 → ⊥)
-    → Sought g index plain pattern t memo 2 a p m d
+-- a product is above 0 where both factors are
+pos-both : (a b : ℕ) → 0 < a * b → (0 < a) × (0 < b)
+pos-both zero b h = absurd (omega arith)
+pos-both (suc a) zero h = absurd (omega arith)
+pos-both (suc a) (suc b) h = (omega arith, omega arith)
+
+pub sought-more : {g index plain pattern cells : List ℕ} {a p m d : ℕ} → Sought g index plain pattern cells 1 a p m d → (m ≡ 1 → ⊥)
+    → Sought g index plain pattern cells 2 a p m d
 sought-more {m = m} s n =
     record {
-      ready = s .ready;
-      asked = record { inside = s .asked .inside; some = two m (s .asked .some) n; short = s .asked .short; run = s .asked .run };
+      run = s .run;
+      a-inside = s .a-inside;
+      some = two m (s .some) n;
       inside = s .inside;
     }
   where
@@ -82,36 +95,47 @@ sought-more {m = m} s n =
     two (suc zero) h n = absurd (n refl)
     two (suc (suc m)) h n = omega arith
 
-module _ {g index plain pattern : List ℕ} {t : ℕ} {memo : List ℕ} {a p m d : ℕ} (s : Sought g index plain pattern t memo 1 a p m d) {memo′ : List ℕ} {r : Chosen} (q : ChosenAs g pattern t memo′ a p m d r) where
-  pub halves-sought : HalvesSought g index plain pattern t memo′ r p m
+module _ {g index plain pattern cells : List ℕ} {a p m d : ℕ} (s : Sought g index plain pattern cells 1 a p m d) {r : Chosen} (q : ChosenAs g pattern a p m d r) where
+  -- some derivation has them, so both halves have derivations
+  some-both : (1 ≤ T (chain g) (r .b) (r .k)) × (1 ≤ T (chain g) (r .c) (m - r .k))
+  some-both =
+      let e = many-halves (chain g) pattern p (r .b) (r .c) (r .k) (m - r .k) in
+      let h : 0 < total (chain g) (fitting pattern) p (r .b) (r .k) * total (chain g) (fitting pattern) (p + r .k) (r .c) (m - r .k)
+      = omega (arith, rw e at (q .part .inside)) in
+      let z = pos-both (total (chain g) (fitting pattern) p (r .b) (r .k)) (total (chain g) (fitting pattern) (p + r .k) (r .c) (m - r .k)) h in
+      (omega (arith, z .0, fitting-le (chain g) pattern p (r .b) (r .k)), omega (arith, z .1, fitting-le (chain g) pattern (p + r .k) (r .c) (m - r .k)))
+
+  pub halves-sought : HalvesSought g index plain pattern cells r p m
   halves-sought =
       record {
-        ready = ready-within (s .ready) (omega arith) (q .remembers);
         left-inside = q .left-inside;
         right-inside = q .right-inside;
         some = q .some;
         short = q .short;
-        small = s .asked .short;
-        run = s .asked .run;
+        left-run = left-run (s .run) (s .a-inside) (q .rule) (r .k) (q .some) (q .short) (some-both .0) (some-both .1);
+        right-run = right-run (s .run) (s .a-inside) (q .rule) (r .k) (q .some) (q .short) (some-both .0) (some-both .1);
         inside = q .part .inside;
-        fits = omega (arith, q .part .size, T-sentences (chain g) a m, s .ready .fits a m (s .asked .inside) (omega arith));
+        fits = omega (arith, q .part .size, T-sentences (chain g) a m, s .run .hand .fits a m (s .a-inside) (omega arith));
       }
 
-  pub halves-located : {memo″ : List ℕ} {n : ℕ} {words : List ℕ} → HalvesLocated g pattern t memo″ r p m n words → Located g pattern t memo″ a p m d n words
+  pub halves-located : {n : ℕ} {words : List ℕ} → HalvesLocated g pattern r p m n words → Located g pattern a p m d n words
   halves-located {n = n} h =
       let e : n ≡ placeOf (fitsFrom pattern p) (sentences (chain g) a m) d = h .number ∙ sym (q .part .place) in
       record {
         number = e;
         sentence = h .sentence ∙ sym (ap (λ (i : ℕ). getD (sentences (chain g) a m) i []) e ∙ part-entry (q .part));
-        remembers = h .remembers;
       }
 
 -- ---- its halves
 
+-- the same by other names of the length and of what is passed
+pub located-as : {g pattern : List ℕ} {a p m m′ d d′ n : ℕ} {words : List ℕ} → m ≡ m′ → d ≡ d′ → Located g pattern a p m d n words → Located g pattern a p m′ d′ n words
+located-as e f l = rw (e, f) at l
+
 place-below : (l n a b : ℕ) → l < a → n < b → l * b + n < a * b
 place-below l n a b h k = let q : suc l * b ≤ a * b = mul-le-mul h (omega arith) in omega arith
 
-module _ {g index plain pattern : List ℕ} {t : ℕ} {memo : List ℕ} {r : Chosen} {p m : ℕ} (s : HalvesSought g index plain pattern t memo r p m) where
+module _ {g index plain pattern cells : List ℕ} {r : Chosen} {p m : ℕ} (s : HalvesSought g index plain pattern cells r p m) where
   -- the sentences of the halves
   abbrev lefts : List (List ℕ)
   lefts = sentences (chain g) (r .b) (r .k)
@@ -119,22 +143,18 @@ module _ {g index plain pattern : List ℕ} {t : ℕ} {memo : List ℕ} {r : Cho
   abbrev rights : List (List ℕ)
   rights = sentences (chain g) (r .c) (m - r .k)
 
-  pub right-asked : Asked g pattern 1 (r .c) (p + r .k) (m - r .k)
-  right-asked =
-      record { inside = s .right-inside; some = omega (arith, s .short); short = omega (arith, s .small); run = λ l. omega (arith, s .run (omega arith), s .short) }
+  pub right-asked : Read g plain pattern cells (r .c) (p + r .k) (m - r .k)
+  right-asked = run-read (s .right-run) (s .right-inside) (omega (arith, s .short))
 
-  pub right-ready : Ready g index plain pattern t memo (m - r .k)
-  right-ready = ready-within (s .ready) (omega arith) (s .ready .remembers)
-
-  module _ {memo₁ : List ℕ} (y : ℕ) (q : Counted g pattern t memo₁ (total (chain g) (fitting pattern) (p + r .k) (r .c) (m - r .k)) y) where
+  module _ (y : ℕ) (q : y ≡ total (chain g) (fitting pattern) (p + r .k) (r .c) (m - r .k)) where
     rights-many : howMany (fitsFrom pattern (p + r .k)) rights ≡ y
-    rights-many = many-fit (chain g) pattern (p + r .k) (r .c) (m - r .k) ∙ sym (q .value)
+    rights-many = many-fit (chain g) pattern (p + r .k) (r .c) (m - r .k) ∙ sym q
 
     lefts-many : howMany (fitsFrom pattern p) lefts ≡ total (chain g) (fitting pattern) p (r .b) (r .k)
     lefts-many = many-fit (chain g) pattern p (r .b) (r .k)
 
     inside-both : r .left < howMany (fitsFrom pattern p) lefts * y
-    inside-both = rw (lefts-many, q .value, ← many-halves (chain g) pattern p (r .b) (r .c) (r .k) (m - r .k)) (s .inside)
+    inside-both = rw (lefts-many, q, ← many-halves (chain g) pattern p (r .b) (r .c) (r .k) (m - r .k)) (s .inside)
 
     pos-right : (a b : ℕ) → r .left < a * b → 0 < b
     pos-right a zero h = absurd (omega arith)
@@ -149,28 +169,30 @@ module _ {g index plain pattern : List ℕ} {t : ℕ} {memo : List ℕ} {r : Cho
     remainder-inside : r .left % y < howMany (fitsFrom pattern (p + r .k)) rights
     remainder-inside = rw rights-many (mod-lt (r .left) some-right)
 
-    pub left-sought : {memo₂ : List ℕ} → Remembers (chain g) (fitting pattern) (length pattern) t memo₂ → (k : ℕ) → k ≡ r .k
-        → Sought g index plain pattern t memo₂ 1 (r .b) p k (r .left / y)
-    left-sought u k e =
+    pub left-sought : (k : ℕ) → k ≡ r .k
+        → Sought g index plain pattern cells 1 (r .b) p k (r .left / y)
+    left-sought k e =
         rw e
         (record {
-          ready = ready-within (s .ready) (omega (arith, s .short)) u;
-          asked = record { inside = s .left-inside; some = s .some; short = omega (arith, s .short, s .small); run = λ l. omega (arith, s .run l, s .short) };
+          run = s .left-run;
+          a-inside = s .left-inside;
+          some = s .some;
           inside = rw (← lefts-many) quotient-inside;
         })
 
-    pub right-sought : {memo₂ : List ℕ} → Remembers (chain g) (fitting pattern) (length pattern) t memo₂ → (j : ℕ) → j ≡ m - r .k
-        → Sought g index plain pattern t memo₂ 1 (r .c) (p + r .k) j (r .left % y)
-    right-sought u j e =
+    pub right-sought : (j : ℕ) → j ≡ m - r .k
+        → Sought g index plain pattern cells 1 (r .c) (p + r .k) j (r .left % y)
+    right-sought j e =
         rw e
         (record {
-          ready = ready-within (s .ready) (omega arith) u;
-          asked = right-asked;
+          run = s .right-run;
+          a-inside = s .right-inside;
+          some = omega (arith, s .short);
           inside = rw (← many-fit (chain g) pattern (p + r .k) (r .c) (m - r .k)) remainder-inside;
         })
 
-    module _ {memo₂ memo₃ left right : List ℕ} {l n : ℕ} (hl : Located g pattern t memo₂ (r .b) p (r .k) (r .left / y) l left)
-        (hr : Located g pattern t memo₃ (r .c) (p + r .k) (m - r .k) (r .left % y) n right) where
+    module _ {left right : List ℕ} {l n : ℕ} (hl : Located g pattern (r .b) p (r .k) (r .left / y) l left)
+        (hr : Located g pattern (r .c) (p + r .k) (m - r .k) (r .left % y) n right) where
       l-inside : l < length lefts
       l-inside = rw (hl .number) (place-lt (fitsFrom pattern p) lefts (r .left / y) quotient-inside)
 
@@ -185,7 +207,7 @@ module _ {g index plain pattern : List ℕ} {t : ℕ} {memo : List ℕ} {r : Cho
           ∙ rw (rights-many, ← hl .number, ← hr .number)
 
       right-total : (z : ℕ) → z ≡ cell plain (r .c) (m - r .k) → z ≡ length rights
-      right-total z e = e ∙ s .ready .rows .right (r .c) (m - r .k) (s .right-inside) (omega (arith, s .short)) (omega arith) ∙ T-sentences (chain g) (r .c) (m - r .k)
+      right-total z e = e ∙ s .right-run .hand .rows .right (r .c) (m - r .k) (s .right-inside) (omega (arith, s .short)) (omega arith) ∙ T-sentences (chain g) (r .c) (m - r .k)
 
       -- what is added up fits
       pub sums-fit : (z : ℕ) → z ≡ cell plain (r .c) (m - r .k) → r .before + l * z + n ≤ most
@@ -195,11 +217,10 @@ module _ {g index plain pattern : List ℕ} {t : ℕ} {memo : List ℕ} {r : Cho
           omega (arith, s .fits, length-combine _++_ lefts rights)
 
       pub both-located : (z : ℕ) → z ≡ cell plain (r .c) (m - r .k) → (words : List ℕ) → words ≡ left ++ right
-          → HalvesLocated g pattern t memo₃ r p m (r .before + l * z + n) words
+          → HalvesLocated g pattern r p m (r .before + l * z + n) words
       both-located z e words w =
           let k = right-total z e in
           record {
             number = rw k (omega (arith, place-is));
             sentence = w ∙ rw (hl .sentence, hr .sentence, place-is) (sym (getD-combine-at _++_ lefts rights l n [] [] [] l-inside n-inside));
-            remembers = hr .remembers;
           }

@@ -1,5 +1,6 @@
 -- The laws of ranking, for the crates above.
 pub mod Fitting
+pub mod Walking
 pub mod Choosing
 pub mod Halving
 pub mod Joined

@@ -1,15 +1,12 @@
 // The walk down from the whole sentence: the rule chooser and the halves writer call each other, the length falling (document 01: "choosing
 // a rule needs the two halves, and each half needs a rule chosen, on a smaller length").
 ghost use mathlib.Core.Path.{_≡_};
-ghost use Prim.Native.Nat.{_+_, _<_};
+ghost use Prim.Native.Nat.{ℕ, _-_, _/_, _%_, _≤_, _<_};
 ghost use lib.ListN.{length};
-ghost use Rattle.lists.specs.Searched.{bit};
-ghost use Rattle.readings.specs.Pattern.{suits};
-ghost use Rattle.ranking.specs.Located.{WordSought, PickedAs, SplitSought, SplitAs, Sought, ChosenAs, HalvesSought, HalvesLocated, Located};
+ghost use Rattle.ranking.specs.Located.{WordSought, PickedAs, SplitSought, SplitAs, Sought, ChosenAs, HalvesSought, HalvesLocated, Located, Worded};
 use counting::tables;
-use readings::byte_at;
-use readings::readings;
-use readings::split;
+use readings::plan;
+use readings::rows;
 
 // A word, and how many word rules stand before its own.
 pub struct Picked {
@@ -33,76 +30,76 @@ pub struct Chosen {
     pub left: u64,
 }
 
-// 1 where the word w fits a pattern's byte x, of which 255 is a blank, and 0 where not.
-fn fit(x: u8, w: u8) -> u64
-    ensures { λ r. ⌜ r ≡ bit (suits x w) ⌝ }
-{
-    if x == 255 {
-        return 1;
-    }
-    if x == w {
-        return 1;
-    }
-    0
-}
-
-// Of the word rules of a the one that fits the byte x after d others, one after another.
-fn find_word(g: &[u8], index: &[u8; 1024], x: u8, a: usize, d: u64) -> Picked
-    requires { ⌜ WordSought (now g) (now index) x a d ⌝ }
+// Of the word rules of a the one that fits the byte x after d others. Every word fits a blank; with another byte there is just one.
+fn pick_word(
+    g: &[u8],
+    index: &[u8; 1024],
+    plain: &[u64; 544],
+    plan: &[u8],
+    n: usize,
+    x: u8,
+    a: usize,
+    d: u64,
+) -> Picked
+    requires { ⌜ WordSought (now g) (now index) (now plain) n (now plan) x a d ⌝ }
     ensures { λ r. ⌜ PickedAs (now (g .entry)) x a d r ⌝ }
 {
-    let mut i = tables::word_from(index, a);
-    let mut before: u64 = 0;
-    let mut left = d;
-    loop {
-        let w = tables::word_at(index, i);
-        let h = fit(x, w);
-        if left < h {
-            return Picked { word: w, before };
-        }
-        left -= h;
-        before += 1;
-        i += 1;
-    }
-}
-
-// The same at once where every word fits.
-fn pick_word(g: &[u8], index: &[u8; 1024], x: u8, a: usize, d: u64) -> Picked
-    requires { ⌜ WordSought (now g) (now index) x a d ⌝ }
-    ensures { λ r. ⌜ PickedAs (now (g .entry)) x a d r ⌝ }
-{
+    let from = tables::word_from(index, a);
     if x == 255 {
-        let i = tables::word_from(index, a) + d as usize;
+        let i = from + d as usize;
         return Picked {
             word: tables::word_at(index, i),
             before: d,
         };
     }
-    find_word(g, index, x, a, d)
+    let i = plan::word_place(g, index, plain, n, plan, x, a);
+    Picked {
+        word: x,
+        before: (i - from) as u64,
+    }
 }
 
-// Of the left lengths of a pair rule (b, c) the one that holds the derivation that fits after d others.
+// The first left length that leaves the right half at most l positions.
+fn first(m: usize, l: u64) -> usize
+    requires { ⌜ 1 ≤ m ⌝ }
+    ensures { λ r. ⌜ (1 ≤ r) × (r ≤ m) × ((k : ℕ) → 1 ≤ k → k < r → l < m - k) ⌝ }
+{
+    let longest = l as usize;
+    if longest < m - 1 { m - longest } else { 1 }
+}
+
+// Past the last left length of at most l positions.
+fn past(m: usize, l: u64) -> usize
+    requires { ⌜ 1 ≤ m ⌝ }
+    ensures { λ r. ⌜ (r ≤ m) × ((k : ℕ) → r ≤ k → k < m → l < k) ⌝ }
+{
+    let longest = l as usize;
+    if longest < m - 1 { longest + 1 } else { m }
+}
+
+// Of the left lengths of a pair rule (b, c) the one that holds the derivation that fits after d others. Only those are looked at at which
+// neither half is longer than its longest derivation.
 fn choose_split(
     g: &[u8],
     index: &[u8; 1024],
     plain: &[u64; 544],
     pattern: &[u8],
-    t: u64,
     b: usize,
     c: usize,
     p: usize,
     m: usize,
     d: u64,
-    memo: &mut [u64],
+    cells: &[u64],
 ) -> Split
-    requires { ⌜ SplitSought (now g) (now index) (now plain) (now pattern) t (now memo) b c p m ⌝ }
-    ensures { λ r. ⌜ SplitAs (now (g .entry)) (now (pattern .entry)) t (now (memo .exit)) b c p m d r ⌝ }
+    requires { ⌜ SplitSought (now g) (now index) (now plain) (now pattern) (now cells) b c p m ⌝ }
+    ensures { λ r. ⌜ SplitAs (now (g .entry)) (now (pattern .entry)) b c p m d r ⌝ }
 {
+    let end = past(m, tables::plain_at(plain, b, 0));
     let mut before: u64 = 0;
     let mut left = d;
-    let mut k = 1;
-    while k < m {
-        let x = split(g, index, plain, pattern, t, b, c, p, k, m - k, memo);
+    let mut k = first(m, tables::plain_at(plain, c, 0));
+    while k < end {
+        let x = rows::split(g, plain, pattern, b, c, p, k, m - k, cells);
         if left < x {
             return Split { k, before, left };
         }
@@ -119,15 +116,14 @@ fn choose_rule(
     index: &[u8; 1024],
     plain: &[u64; 544],
     pattern: &[u8],
-    t: u64,
     a: usize,
     p: usize,
     m: usize,
     d: u64,
-    memo: &mut [u64],
+    cells: &[u64],
 ) -> Chosen
-    requires { ⌜ Sought (now g) (now index) (now plain) (now pattern) t (now memo) 2 a p m d ⌝ }
-    ensures { λ r. ⌜ ChosenAs (now (g .entry)) (now (pattern .entry)) t (now (memo .exit)) a p m d r ⌝ }
+    requires { ⌜ Sought (now g) (now index) (now plain) (now pattern) (now cells) 2 a p m d ⌝ }
+    ensures { λ r. ⌜ ChosenAs (now (g .entry)) (now (pattern .entry)) a p m d r ⌝ }
 {
     let mut i = tables::pair_from(index, a);
     let mut before: u64 = 0;
@@ -135,7 +131,7 @@ fn choose_rule(
     loop {
         let b = tables::left_at(index, i);
         let c = tables::right_at(index, i);
-        let s = choose_split(g, index, plain, pattern, t, b, c, p, m, left, memo);
+        let s = choose_split(g, index, plain, pattern, b, c, p, m, left, cells);
         before += s.before;
         left = s.left;
         let k = s.k;
@@ -152,31 +148,96 @@ fn choose_rule(
     }
 }
 
+// One position: the word rule of a that fits after d others, its word written, and how many stand before it.
+fn leaf(
+    g: &[u8],
+    index: &[u8; 1024],
+    plain: &[u64; 544],
+    plan: &[u8],
+    pattern: &[u8],
+    a: usize,
+    p: usize,
+    d: u64,
+    cells: &[u64],
+    out: &mut [u8],
+) -> u64
+    requires { ⌜ Sought (now g) (now index) (now plain) (now pattern) (now cells) 1 a p (length (now out)) d × Worded (now g) (now index) (now plain) (now plan) (now pattern) × (length (now out) ≡ 1) ⌝ }
+    ensures { λ r. ⌜ Located (now (g .entry)) (now (pattern .entry)) a p (length (now (out .entry))) d r (now (out .exit)) ⌝ }
+{
+    let w = pick_word(
+        g,
+        index,
+        plain,
+        plan,
+        pattern.len(),
+        rows::byte_at(pattern, p),
+        a,
+        d,
+    );
+    out[0] = w.word;
+    w.before
+}
+
 // Of the derivations of a over the positions from p on, as many as `out` has bytes, the one that fits the pattern after d others: its
 // place among all of them, its sentence written.
 pub fn choose(
     g: &[u8],
     index: &[u8; 1024],
     plain: &[u64; 544],
+    plan: &[u8],
     pattern: &[u8],
-    t: u64,
     a: usize,
     p: usize,
     d: u64,
-    memo: &mut [u64],
+    cells: &[u64],
     out: &mut [u8],
 ) -> u64
-    requires { ⌜ Sought (now g) (now index) (now plain) (now pattern) t (now memo) 1 a p (length (now out)) d ⌝ }
-    ensures { λ r. ⌜ Located (now (g .entry)) (now (pattern .entry)) t (now (memo .exit)) a p (length (now (out .entry))) d r (now (out .exit)) ⌝ }
+    requires { ⌜ Sought (now g) (now index) (now plain) (now pattern) (now cells) 1 a p (length (now out)) d × Worded (now g) (now index) (now plain) (now plan) (now pattern) ⌝ }
+    ensures { λ r. ⌜ Located (now (g .entry)) (now (pattern .entry)) a p (length (now (out .entry))) d r (now (out .exit)) ⌝ }
 {
     let m = out.len();
     if m == 1 {
-        let w = pick_word(g, index, byte_at(pattern, p), a, d);
-        out[0] = w.word;
-        return w.before;
+        return leaf(g, index, plain, plan, pattern, a, p, d, cells, out);
     }
-    let r = choose_rule(g, index, plain, pattern, t, a, p, m, d, memo);
-    write_halves(g, index, plain, pattern, t, r, p, memo, out)
+    let r = choose_rule(g, index, plain, pattern, a, p, m, d, cells);
+    write_halves(g, index, plain, plan, pattern, r, p, cells, out)
+}
+
+// The same of a left half, which most often is a single word: then there is no further call.
+fn choose_left(
+    g: &[u8],
+    index: &[u8; 1024],
+    plain: &[u64; 544],
+    plan: &[u8],
+    pattern: &[u8],
+    a: usize,
+    p: usize,
+    d: u64,
+    cells: &[u64],
+    out: &mut [u8],
+) -> u64
+    requires { ⌜ Sought (now g) (now index) (now plain) (now pattern) (now cells) 1 a p (length (now out)) d × Worded (now g) (now index) (now plain) (now plan) (now pattern) ⌝ }
+    ensures { λ r. ⌜ Located (now (g .entry)) (now (pattern .entry)) a p (length (now (out .entry))) d r (now (out .exit)) ⌝ }
+{
+    if out.len() == 1 {
+        return leaf(g, index, plain, plan, pattern, a, p, d, cells, out);
+    }
+    choose(g, index, plain, plan, pattern, a, p, d, cells, out)
+}
+
+// What is left to pass on the left, and on the right, where the right half has y that fit. A division takes long, and y most often is 1.
+fn quotient(x: u64, y: u64) -> u64
+    requires { ⌜ 0 < y ⌝ }
+    ensures { λ r. ⌜ r ≡ x / y ⌝ }
+{
+    if y == 1 { x } else { x / y }
+}
+
+fn remainder(x: u64, y: u64) -> u64
+    requires { ⌜ 0 < y ⌝ }
+    ensures { λ r. ⌜ r ≡ x % y ⌝ }
+{
+    if y == 1 { 0 } else { x % y }
 }
 
 // The two halves of the one chosen: the quotient chooses on the left, the remainder on the right.
@@ -184,43 +245,43 @@ fn write_halves(
     g: &[u8],
     index: &[u8; 1024],
     plain: &[u64; 544],
+    plan: &[u8],
     pattern: &[u8],
-    t: u64,
     r: Chosen,
     p: usize,
-    memo: &mut [u64],
+    cells: &[u64],
     out: &mut [u8],
 ) -> u64
-    requires { ⌜ HalvesSought (now g) (now index) (now plain) (now pattern) t (now memo) r p (length (now out)) ⌝ }
-    ensures { λ n. ⌜ HalvesLocated (now (g .entry)) (now (pattern .entry)) t (now (memo .exit)) r p (length (now (out .entry))) n (now (out .exit)) ⌝ }
+    requires { ⌜ HalvesSought (now g) (now index) (now plain) (now pattern) (now cells) r p (length (now out)) × Worded (now g) (now index) (now plain) (now plan) (now pattern) ⌝ }
+    ensures { λ n. ⌜ HalvesLocated (now (g .entry)) (now (pattern .entry)) r p (length (now (out .entry))) n (now (out .exit)) ⌝ }
 {
     let k = r.k;
     let b = r.b;
     let c = r.c;
     let j = out.len() - k;
-    let y = readings(g, index, plain, pattern, t, c, p + k, j, memo);
-    let left = choose(
+    let y = rows::read(g, plain, pattern, c, p + k, j, cells);
+    let left = choose_left(
         g,
         index,
         plain,
+        plan,
         pattern,
-        t,
         b,
         p,
-        r.left / y,
-        memo,
+        quotient(r.left, y),
+        cells,
         &mut out[0..k],
     );
     let right = choose(
         g,
         index,
         plain,
+        plan,
         pattern,
-        t,
         c,
         p + k,
-        r.left % y,
-        memo,
+        remainder(r.left, y),
+        cells,
         &mut out[k..],
     );
     r.before + left * tables::plain_at(plain, c, j) + right

@@ -7,6 +7,7 @@ ghost use Rattle.lists.specs.Searched.{someOf};
 ghost use lib.Dec.{leb};
 ghost use Rattle.grammar.specs.Layout.{words};
 ghost use Rattle.counting.specs.Prepared.{Tabled};
+ghost use Rattle.readings.specs.Plan.{Ready};
 ghost use Rattle.ranking.specs.Answers.{rankSaid, rankOf};
 ghost use Rattle.ranking.specs.Ranking.{FindSought, FoundAs};
 use crate::locate;
@@ -17,7 +18,8 @@ use counting::prepare::CountRefusal;
 use counting::prepare::Prepared;
 use counting::tables;
 use grammar::fields;
-use readings::readings;
+use readings::plan;
+use readings::rows;
 
 // The derivations of a sentence: none, one, by its number, or more.
 pub enum Found {
@@ -52,16 +54,17 @@ fn find_native(
     g: &[u8],
     index: &[u8; 1024],
     plain: &[u64; 544],
+    plan: &[u8],
     sentence: &[u8],
-    t: u64,
-    memo: &mut [u64],
+    cells: &mut [u64],
 ) -> Found
-    requires { ⌜ FindSought (now g) (now index) (now plain) (now sentence) t (now memo) × (someOf (leb (words (now g))) (now sentence) ≡ false) ⌝ }
-    ensures { λ f. ⌜ FoundAs (now (g .entry)) (now (sentence .entry)) t (now (memo .exit)) f ⌝ }
+    requires { ⌜ FindSought (now g) (now index) (now plain) (now plan) (now sentence) (now cells) × (someOf (leb (words (now g))) (now sentence) ≡ false) ⌝ }
+    ensures { λ f. ⌜ FoundAs (now (g .entry)) (now (sentence .entry)) f ⌝ }
 {
     let n = sentence.len();
     let s = tables::wide(fields::start(g));
-    let count = readings(g, index, plain, sentence, t, s, 0, n, memo);
+    rows::fill(g, index, plain, plan, sentence, cells);
+    let count = rows::read(g, plain, sentence, s, 0, n, cells);
     if count == 0 {
         return Found::None;
     }
@@ -73,47 +76,48 @@ fn find_native(
         g,
         index,
         plain,
+        plan,
         sentence,
-        t,
         s,
         0,
         0,
-        memo,
+        cells,
         &mut words[0..n],
     );
     Found::One(DerivationNumber(d))
 }
 
-// The derivations of a sentence, with the tables and a memo at hand.
+// The derivations of a sentence, with the tables, their plan and room for its rows at hand.
 pub fn find(
     g: &[u8],
     index: &[u8; 1024],
     plain: &[u64; 544],
+    plan: &[u8],
     sentence: &[u8],
-    t: u64,
-    memo: &mut [u64],
+    cells: &mut [u64],
 ) -> Found
-    requires { ⌜ FindSought (now g) (now index) (now plain) (now sentence) t (now memo) ⌝ }
-    ensures { λ f. ⌜ FoundAs (now (g .entry)) (now (sentence .entry)) t (now (memo .exit)) f ⌝ }
+    requires { ⌜ FindSought (now g) (now index) (now plain) (now plan) (now sentence) (now cells) ⌝ }
+    ensures { λ f. ⌜ FoundAs (now (g .entry)) (now (sentence .entry)) f ⌝ }
 {
     if some_foreign(sentence, fields::words(g)) {
         return Found::None;
     }
-    find_native(g, index, plain, sentence, t, memo)
+    find_native(g, index, plain, plan, sentence, cells)
 }
 
-// With the tables and a memo at hand.
+// With these at hand.
 fn number(
     g: &[u8],
     index: &[u8; 1024],
     plain: &[u64; 544],
+    plan: &[u8],
     sentence: &[u8],
-    memo: &mut [u64],
+    cells: &mut [u64],
 ) -> RankAnswer
-    requires { ⌜ FindSought (now g) (now index) (now plain) (now sentence) 1 (now memo) ⌝ }
+    requires { ⌜ FindSought (now g) (now index) (now plain) (now plan) (now sentence) (now cells) ⌝ }
     ensures { λ r. ⌜ rankSaid r ≡ rankOf (now (g .entry)) (now (sentence .entry)) ⌝ }
 {
-    let f = find(g, index, plain, sentence, 1, memo);
+    let f = find(g, index, plain, plan, sentence, cells);
     match f {
         Found::None => RankAnswer::Underivable,
         Found::Many => RankAnswer::Ambiguous,
@@ -121,21 +125,46 @@ fn number(
     }
 }
 
-// A memo for sentences of up to five words, and one for all: clearing it is much of the time that a short sentence takes.
-fn number_short(g: &[u8], index: &[u8; 1024], plain: &[u64; 544], sentence: &[u8]) -> RankAnswer
-    requires { ⌜ Tabled (now g) (length (now sentence)) (now index) (now plain) × (length (now sentence) ≤ 5) ⌝ }
+// Room for the rows of sentences of up to five words, and for all: clearing it is much of the time that a short sentence takes.
+fn number_short(
+    g: &[u8],
+    index: &[u8; 1024],
+    plain: &[u64; 544],
+    plan: &[u8],
+    sentence: &[u8],
+) -> RankAnswer
+    requires { ⌜ Ready (now g) (now index) (now plain) (length (now sentence)) (now plan) × (length (now sentence) ≤ 5) ⌝ }
     ensures { λ r. ⌜ rankSaid r ≡ rankOf (now (g .entry)) (now (sentence .entry)) ⌝ }
 {
-    let mut memo = [0u64; 1280];
-    number(g, index, plain, sentence, &mut memo)
+    let mut cells = [0u64; 800];
+    number(g, index, plain, plan, sentence, &mut cells)
 }
 
-fn number_long(g: &[u8], index: &[u8; 1024], plain: &[u64; 544], sentence: &[u8]) -> RankAnswer
+fn number_long(
+    g: &[u8],
+    index: &[u8; 1024],
+    plain: &[u64; 544],
+    plan: &[u8],
+    sentence: &[u8],
+) -> RankAnswer
+    requires { ⌜ Ready (now g) (now index) (now plain) (length (now sentence)) (now plan) ⌝ }
+    ensures { λ r. ⌜ rankSaid r ≡ rankOf (now (g .entry)) (now (sentence .entry)) ⌝ }
+{
+    let mut cells = [0u64; 8192];
+    number(g, index, plain, plan, sentence, &mut cells)
+}
+
+// With the tables at hand.
+fn number_by(g: &[u8], index: &[u8; 1024], plain: &[u64; 544], sentence: &[u8]) -> RankAnswer
     requires { ⌜ Tabled (now g) (length (now sentence)) (now index) (now plain) ⌝ }
     ensures { λ r. ⌜ rankSaid r ≡ rankOf (now (g .entry)) (now (sentence .entry)) ⌝ }
 {
-    let mut memo = [0u64; 15360];
-    number(g, index, plain, sentence, &mut memo)
+    let mut plan = [0u8; 1792];
+    plan::build(g, index, plain, sentence.len(), &mut plan);
+    if sentence.len() <= 5 {
+        return number_short(g, index, plain, &plan, sentence);
+    }
+    number_long(g, index, plain, &plan, sentence)
 }
 
 pub fn rank(g: &[u8], sentence: &[u8]) -> RankAnswer
@@ -146,11 +175,6 @@ pub fn rank(g: &[u8], sentence: &[u8]) -> RankAnswer
     let p = prepare::prepare(g, sentence.len() as u64, &mut index, &mut plain);
     match p {
         Prepared::Refused(r) => RankAnswer::NotRanked(r),
-        Prepared::Ready => {
-            if sentence.len() <= 5 {
-                return number_short(g, &index, &plain, sentence);
-            }
-            number_long(g, &index, &plain, sentence)
-        }
+        Prepared::Ready => number_by(g, &index, &plain, sentence),
     }
 }

@@ -44,18 +44,19 @@ pub fn write(
 {
     let d = number.0;
     let s = tables::wide(fields::start(g));
+    let plan = [0u8; 1];
     let blanks = [0u8; 1];
-    let mut memo = [0u64; 1];
+    let cells = [0u64; 1];
     locate::choose(
         g,
         index,
         plain,
+        &plan,
         &blanks[0..0],
-        1,
         s,
         0,
         d,
-        &mut memo,
+        &cells,
         &mut out[0..n],
     );
 }

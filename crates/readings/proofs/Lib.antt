@@ -1,7 +1,15 @@
--- The laws of the memo, of patterns and of what a reading is promised, for the crates above; and those of the loops.
-pub mod Memo
+-- The laws of patterns, of the plan and of the rows, for the crates above; and those of the loops.
 pub mod Patterns
-mod Words
-pub mod Given
-mod Scans
-mod Halves
+mod Linking
+mod Needing
+mod Planning
+pub mod Keyed
+pub mod Runs
+pub mod Adding
+mod Picks
+mod Placing
+mod Splits
+mod Leaves
+mod Reading
+mod Filling
+pub mod Known

@@ -9,9 +9,8 @@ use Rattle.lists.specs.Joined.{sumOver}
 use Rattle.lists.specs.Searched.{bit}
 use Rattle.lists.proofs.Places.{getD-within}
 use Rattle.lists.proofs.Tests.{bit-le}
-use Rattle.grammar.specs.Chains.{Rule}
+use Rattle.grammar.specs.Chains.{Rule, wordsOf}
 use Rattle.counting.specs.Totals.{total, T}
-use Rattle.counting.specs.Sentences.{wordsOf}
 use Rattle.counting.proofs.Totals.{total-one, total-le, total-ext, T-anywhere}
 use Rattle.readings.specs.Pattern.{byteAt, suits, fitting}
 

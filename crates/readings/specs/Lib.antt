@@ -1,2 +1,4 @@
 pub mod Pattern
-pub mod Memo
+pub mod Keyed
+pub mod Plan
+pub mod Rows

@@ -14,8 +14,8 @@ use lib.Dec.{leb, eqb}
 use Rattle.lists.specs.Joined.{concatMap}
 use Rattle.lists.specs.Searched.{someOf}
 use Rattle.lists.specs.Struck.{keep}
-use Rattle.counting.specs.Prepared.{Tabled}
-use Rattle.readings.proofs.Memo.{remembers-next}
+use Rattle.readings.specs.Plan.{Ready}
+use Rattle.readings.specs.Rows.{room}
 use Rattle.ranking.specs.Answers.{readingsOf, numberOf}
 use Rattle.ranking.specs.Ranking.{FindSought, FoundAs}
 use Rattle.ranking.specs.declared.rank.Found.the-variants.{None, One, Many}
@@ -29,7 +29,7 @@ use Rattle.history.proofs.Acceptance.{known}
 use Rattle.history.proofs.Chain.{chained}
 use Rattle.history.proofs.Reading.{read-end, read-record}
 use Rattle.sampling.specs.Unheard.{ambiguous}
-use Rattle.sampling.specs.Hearing.{numbersIn, manyIn, Clear, Tells, ToldAs, Collects, Holds, CollectedAs}
+use Rattle.sampling.specs.Hearing.{numbersIn, manyIn, Tells, ToldAs, Collects, Holds, CollectedAs}
 use Rattle.sampling.specs.declared.heard.Collected.{Collected}
 use Rattle.sampling.specs.declared.heard.Collected.the-variants.{Numbers, Ambiguous}
 
@@ -66,10 +66,6 @@ module _ (g : List ℕ) (n : ℕ) (s : List ℕ) where
 
 -- ---- one sentence
 
--- the memo serves every sentence again under the next stamp
-clear-next : (g : List ℕ) {n t : ℕ} {memo : List ℕ} → Clear g n t memo → Clear g n (t + 1) memo
-clear-next g {n} {t} {memo} c s = remembers-next (omega arith) (c s)
-
 -- a number more
 take-put : (l : List ℕ) (i x : ℕ) → i < length l → take (i + 1) (set l i x) ≡ take i l ++ (x ∷ [])
 take-put l i x h =
@@ -77,39 +73,28 @@ take-put l i x h =
     (take-suc (set l i x) i 0 (omega (arith, length-set l i x))
     ∙ rw (take-set-le i l i x (omega arith), getD-set-same l i x 0 h))
 
-module _ {g index plain s : List ℕ} {n t count : ℕ} {memo numbers : List ℕ} (w : Tells g index plain n t count memo numbers) where
+module _ {g index plain s : List ℕ} {n : ℕ} {plan : List ℕ} {count : ℕ} {cells numbers : List ℕ} (w : Tells g index plain n plan count cells numbers) where
   -- none
-  adds-nothing : (memo′ : List ℕ) → Clear g n (t + 1) memo′ → (manyIn g n s ≡ false) × (numbersIn g n s ≡ [])
-      → ToldAs g s n t count memo′ numbers numbers (Numbers count)
-  adds-nothing memo′ c q = record {
-    adds = (q .0, rw (q .1) (omega arith), rw (q .1) (sym (append-nil (take count numbers))));
-    clear = c;
-  }
+  adds-nothing : (manyIn g n s ≡ false) × (numbersIn g n s ≡ []) → ToldAs g s n count numbers numbers (Numbers count)
+  adds-nothing q = record { adds = (q .0, rw (q .1) (omega arith), rw (q .1) (sym (append-nil (take count numbers)))) }
 
-  pub told-other : (length s ≡ n → ⊥) → ToldAs g s n t count memo numbers numbers (Numbers count)
-  told-other f = adds-nothing memo (clear-next g (w .clear)) (other-none g n s f)
+  pub told-other : (length s ≡ n → ⊥) → ToldAs g s n count numbers numbers (Numbers count)
+  told-other f = adds-nothing (other-none g n s f)
 
   module _ (e : length s ≡ n) where
-    pub told-sought : FindSought g index plain s t memo
-    told-sought = record { tabled = rw e (w .tabled); clear = rw e (w .clear s) }
+    pub told-sought : FindSought g index plain plan s cells
+    told-sought = record { ready = rw e (w .ready); room = rw e (w .rows) }
 
-    again : {memo′ : List ℕ} {x : _} → FoundAs g s t memo′ x → Clear g n (t + 1) memo′
-    again q z = remembers-next (omega arith) (rw e at (q .remembers))
+    pub told-none : FoundAs g s None → ToldAs g s n count numbers numbers (Numbers count)
+    told-none q = adds-nothing (read-none g n s e (q .says))
 
-    pub told-none : {memo′ : List ℕ} → FoundAs g s t memo′ None → ToldAs g s n t count memo′ numbers numbers (Numbers count)
-    told-none {memo′} q = adds-nothing memo′ (again q) (read-none g n s e (q .says))
+    pub told-many : FoundAs g s Many → ToldAs g s n count numbers numbers Ambiguous
+    told-many q = record { adds = read-many g n s e (q .says) }
 
-    pub told-many : {memo′ : List ℕ} → FoundAs g s t memo′ Many → ToldAs g s n t count memo′ numbers numbers Ambiguous
-    told-many q = record { adds = read-many g n s e (q .says); clear = again q }
-
-    pub told-one : {memo′ : List ℕ} (d : DerivationNumber) → FoundAs g s t memo′ (One d)
-        → ToldAs g s n t count memo′ numbers (set numbers count (d .0)) (Numbers (count + 1))
+    pub told-one : (d : DerivationNumber) → FoundAs g s (One d) → ToldAs g s n count numbers (set numbers count (d .0)) (Numbers (count + 1))
     told-one d q =
         let a = read-one g n s e (q .says .0) in
-        record {
-          adds = (a .0, rw (a .1) (omega arith), rw (a .1) (take-put numbers count (d .0) (w .room) ∙ rw (q .says .1)));
-          clear = again q;
-        }
+        record { adds = (a .0, rw (a .1) (omega arith), rw (a .1) (take-put numbers count (d .0) (w .room) ∙ rw (q .says .1))) }
 
 -- ---- the whole chain
 
@@ -129,12 +114,10 @@ abbrev pub toCome : (h : List ℕ) (r : ℕ) → List (List ℕ)
 toCome h r = map (wordsOf h) (numbersFrom h r)
 
 -- before the record `at`, with the first `count` numbers found
-pub record Collecting (g h : List ℕ) (n : ℕ) (memo numbers : List ℕ) (at count t : ℕ) : Type 0 where
+pub record Collecting (g h : List ℕ) (n : ℕ) (numbers : List ℕ) (at count : ℕ) : Type 0 where
   pub due : take count numbers ++ concatMap (numbersIn g n) (toCome h at) ≡ concatMap (numbersIn g n) (sentences h)
   pub many : someOf (manyIn g n) (toCome h at) ≡ ambiguous g h n
   pub room : count + length (numbersFrom h at) ≤ 1000
-  pub stamps : t + length (numbersFrom h at) ≤ 1001
-  pub clear : Clear g n t memo
   pub long : 1000 ≤ length numbers
 
 -- s was read there, and it is not the end
@@ -143,8 +126,8 @@ pub record Read (h : List ℕ) (at : ℕ) (s : List ℕ) : Type 0 where
   pub same : s ≡ sentenceAt h at
   pub more : length s ≡ 0 → ⊥
 
-module _ {g index plain h : List ℕ} {n : ℕ} {memo numbers : List ℕ} (w : Collects g index plain h n memo numbers) where
-  pub collect-start : {at : ℕ} → at ≡ headOf h → Collecting g h n memo numbers at 0 1
+module _ {g index plain : List ℕ} {n : ℕ} {plan h cells numbers : List ℕ} (w : Collects g index plain n plan h cells numbers) where
+  pub collect-start : {at : ℕ} → at ≡ headOf h → Collecting g h n numbers at 0
   unfolding ambiguous
   collect-start e =
       let few = known h (w .diary) .sized .few in
@@ -154,12 +137,10 @@ module _ {g index plain h : List ℕ} {n : ℕ} {memo numbers : List ℕ} (w : C
         due = refl;
         many = many-ambiguous g n (sentences h);
         room = omega (arith, few, all);
-        stamps = omega (arith, few, all);
-        clear = w .clear;
         long = w .room;
       })
 
-module _ {g h : List ℕ} {n : ℕ} {memo numbers : List ℕ} {at count t : ℕ} (w : Collecting g h n memo numbers at count t) where
+module _ {g h : List ℕ} {n : ℕ} {numbers : List ℕ} {at count : ℕ} (w : Collecting g h n numbers at count) where
   -- at the end
   pub collect-end : {s : List ℕ} → Accepted h → s ≡ sentenceAt h at → length s ≡ 0 → CollectedAs g h n numbers (Numbers count)
   collect-end diary same z =
@@ -187,20 +168,16 @@ module _ {g h : List ℕ} {n : ℕ} {memo numbers : List ℕ} {at count t : ℕ}
     pub collect-less : {next : ℕ} → next ≡ nextAt h at → length (numbersFrom h next) < length (numbersFrom h at)
     collect-less e = rw e (omega (arith, fewer))
 
-    pub collect-asks : {index plain : List ℕ} → Tabled g n index plain → Tells g index plain n t count memo numbers
-    collect-asks tabled = record {
-      tabled = tabled;
-      clear = w .clear;
-      room = omega (arith, w .room, w .long, fewer);
-    }
+    pub collect-asks : {index plain plan cells : List ℕ} → Ready g index plain n plan → room n ≤ length cells → Tells g index plain n plan count cells numbers
+    collect-asks ready rows = record { ready = ready; rows = rows; room = omega (arith, w .room, w .long, fewer) }
 
-    pub collect-many : {memo′ after : List ℕ} {c : Collected} → ToldAs g s n t count memo′ numbers after c → c ≡ Ambiguous → CollectedAs g h n after Ambiguous
+    pub collect-many : {after : List ℕ} {c : Collected} → ToldAs g s n count numbers after c → c ≡ Ambiguous → CollectedAs g h n after Ambiguous
     collect-many told case = let q = rw case at told in record { holds = sym (w .many) ∙ rw (comes, q .adds) }
 
-    pub collect-more : {memo′ after : List ℕ} {c : Collected} {next k : ℕ} → next ≡ nextAt h at
-        → ToldAs g s n t count memo′ numbers after c → c ≡ Numbers k → length after ≡ length numbers
-        → Collecting g h n memo′ after next k (t + 1)
-    collect-more {memo′} {after} {c} {next} {k} e told case kept =
+    pub collect-more : {after : List ℕ} {c : Collected} {next k : ℕ} → next ≡ nextAt h at
+        → ToldAs g s n count numbers after c → c ≡ Numbers k → length after ≡ length numbers
+        → Collecting g h n after next k
+    collect-more {after} {c} {next} {k} e told case kept =
         let q = rw case at told in
         let few = few-in g n s in
         rw e
@@ -213,8 +190,6 @@ module _ {g h : List ℕ} {n : ℕ} {memo numbers : List ℕ} {at count t : ℕ}
               ∙ ap (someOf (manyIn g n)) (sym comes)
               ∙ w .many;
           room = omega (arith, q .adds .1, few, w .room, fewer);
-          stamps = omega (arith, w .stamps, fewer);
-          clear = q .clear;
           long = omega (arith, w .long);
         })
 

@@ -7,10 +7,8 @@ use Prim.Native.Nat.{ℕ, _+_, _≤_, _<_}
 use lib.ListN.{length, take}
 use lib.Dec.{leb, eqb}
 use Rattle.lists.specs.Joined.{concatMap}
-use Rattle.grammar.specs.Chains.{chain}
-use Rattle.counting.specs.Prepared.{Tabled}
-use Rattle.readings.specs.Pattern.{fitting}
-use Rattle.readings.specs.Memo.{Remembers}
+use Rattle.readings.specs.Plan.{Ready}
+use Rattle.readings.specs.Rows.{room}
 use Rattle.ranking.specs.Answers.{readingsOf, numberOf}
 use Rattle.history.specs.Refusals.{Accepted}
 use Rattle.history.specs.Heard.{sentences}
@@ -26,15 +24,12 @@ numbersIn g n s = cond (eqb (length s) n && eqb (readingsOf g s) 1) (numberOf g 
 abbrev pub manyIn : (g : List ℕ) (n : ℕ) (s : List ℕ) → Bool
 manyIn g n s = eqb (length s) n && leb 2 (readingsOf g s)
 
--- a memo that is right for every sentence of n words under the stamp t
-abbrev pub Clear : (g : List ℕ) (n t : ℕ) (memo : List ℕ) → Type 0
-Clear g n t memo = (s : List ℕ) → Remembers (chain g) (fitting s) n t memo
-
 -- ---- one sentence
 
-pub record Tells (g index plain : List ℕ) (n t count : ℕ) (memo numbers : List ℕ) : Type 0 where
-  pub tabled : Tabled g n index plain
-  pub clear : Clear g n t memo
+-- the tables, their plan, room for a sentence's rows and for a number
+pub record Tells (g index plain : List ℕ) (n : ℕ) (plan : List ℕ) (count : ℕ) (cells numbers : List ℕ) : Type 0 where
+  pub ready : Ready g index plain n plan
+  pub rows : room n ≤ length cells
   pub room : count < length numbers
 
 -- the numbers after the sentence s, or that it has two or more derivations
@@ -43,16 +38,15 @@ Adds g n s count before after (Numbers k) =
     (manyIn g n s ≡ false) × (k ≡ count + length (numbersIn g n s)) × (take k after ≡ take count before ++ numbersIn g n s)
 Adds g n s count before after Ambiguous = manyIn g n s ≡ true
 
-pub record ToldAs (g s : List ℕ) (n t count : ℕ) (memo before after : List ℕ) (c : Collected) : Type 0 where
+pub record ToldAs (g s : List ℕ) (n count : ℕ) (before after : List ℕ) (c : Collected) : Type 0 where
   pub adds : Adds g n s count before after c
-  pub clear : Clear g n (t + 1) memo
 
 -- ---- all sentences
 
-pub record Collects (g index plain h : List ℕ) (n : ℕ) (memo numbers : List ℕ) : Type 0 where
-  pub tabled : Tabled g n index plain
+pub record Collects (g index plain : List ℕ) (n : ℕ) (plan h cells numbers : List ℕ) : Type 0 where
+  pub ready : Ready g index plain n plan
   pub diary : Accepted h
-  pub clear : Clear g n 1 memo
+  pub rows : room n ≤ length cells
   pub room : 1000 ≤ length numbers
 
 -- the numbers along the chain, or that a sentence has two or more derivations

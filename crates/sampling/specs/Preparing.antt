@@ -7,6 +7,7 @@ use Prim.Native.Nat.{ℕ, _≤_}
 use lib.ListN.{length, take}
 use Rattle.answers.specs.Answer.{firstThatApplies}
 use Rattle.counting.specs.Prepared.{Tabled}
+use Rattle.readings.specs.Plan as planned
 use Rattle.history.specs.Refusals.{Accepted}
 use Rattle.sampling.specs.Unheard.{barred, ambiguous}
 use Rattle.sampling.specs.Answers.{sampleNumber, remainingRows}
@@ -19,9 +20,9 @@ pub record Lent (index plain numbers : List ℕ) : Type 0 where
   pub plain-long : length plain ≡ 544
   pub room : 1000 ≤ length numbers
 
--- the tables, an accepted history and room for its numbers
-pub record Hears (g index plain h : List ℕ) (n : ℕ) (numbers : List ℕ) : Type 0 where
-  pub tabled : Tabled g n index plain
+-- the tables, their plan, an accepted history and room for its numbers
+pub record Hears (g index plain : List ℕ) (n : ℕ) (plan h numbers : List ℕ) : Type 0 where
+  pub ready : planned.Ready g index plain n plan
   pub diary : Accepted h
   pub room : 1000 ≤ length numbers
 

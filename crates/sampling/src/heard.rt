@@ -15,20 +15,20 @@ fn tell(
     g: &[u8],
     index: &[u8; 1024],
     plain: &[u64; 544],
+    plan: &[u8],
     s: &[u8],
     n: usize,
-    t: u64,
     count: usize,
-    memo: &mut [u64],
+    cells: &mut [u64],
     numbers: &mut [u64],
 ) -> Collected
-    requires { ⌜ Tells (now g) (now index) (now plain) n t count (now memo) (now numbers) ⌝ }
-    ensures { λ c. ⌜ ToldAs (now (g .entry)) (now (s .entry)) n t count (now (memo .exit)) (now (numbers .entry)) (now (numbers .exit)) c ⌝ }
+    requires { ⌜ Tells (now g) (now index) (now plain) n (now plan) count (now cells) (now numbers) ⌝ }
+    ensures { λ c. ⌜ ToldAs (now (g .entry)) (now (s .entry)) n count (now (numbers .entry)) (now (numbers .exit)) c ⌝ }
 {
     if s.len() != n {
         return Collected::Numbers(count);
     }
-    let f = rank::find(g, index, plain, s, t, memo);
+    let f = rank::find(g, index, plain, plan, s, cells);
     match f {
         Found::None => Collected::Numbers(count),
         Found::Many => Collected::Ambiguous,
@@ -44,23 +44,23 @@ pub fn collect(
     g: &[u8],
     index: &[u8; 1024],
     plain: &[u64; 544],
+    plan: &[u8],
     h: &[u8],
     n: usize,
-    memo: &mut [u64],
+    cells: &mut [u64],
     numbers: &mut [u64],
 ) -> Collected
-    requires { ⌜ Collects (now g) (now index) (now plain) (now h) n (now memo) (now numbers) ⌝ }
+    requires { ⌜ Collects (now g) (now index) (now plain) n (now plan) (now h) (now cells) (now numbers) ⌝ }
     ensures { λ c. ⌜ CollectedAs (now (g .entry)) (now (h .entry)) n (now (numbers .exit)) c ⌝ }
 {
     let mut at = reader::first(h);
     let mut count = 0;
-    let mut t = 1;
     loop {
         let s = reader::sentence(h, at);
         if s.len() == 0 {
             return Collected::Numbers(count);
         }
-        let c = tell(g, index, plain, s, n, t, count, memo, numbers);
+        let c = tell(g, index, plain, plan, s, n, count, cells, numbers);
         match c {
             Collected::Ambiguous => {
                 return Collected::Ambiguous;
@@ -68,7 +68,6 @@ pub fn collect(
             Collected::Numbers(k) => {
                 at = reader::after(h, at);
                 count = k;
-                t += 1;
             }
         }
     }

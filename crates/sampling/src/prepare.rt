@@ -1,6 +1,9 @@
 // What *Left* and every *Draw* need: the tables of the grammar and the heard derivation numbers, rising, each once.
 ghost use mathlib.Core.Path.{_≡_};
 ghost use Prim.Native.Nat.{_≤_};
+ghost use lib.ListN.{length};
+ghost use Rattle.counting.specs.Prepared.{Tabled};
+ghost use Rattle.history.specs.Refusals.{Accepted};
 ghost use Rattle.history.specs.Layout.{recordsOf};
 ghost use Rattle.sampling.specs.Answers.{sampleNumber};
 ghost use Rattle.sampling.specs.Hearing.{Collects};
@@ -13,6 +16,7 @@ use counting::prepare::Prepared;
 use history::checks;
 use history::checks::HistoryAnswer;
 use history::checks::HistoryRefusal;
+use readings::plan;
 
 pub enum SampleRefusal {
     Count(CountRefusal),
@@ -42,15 +46,16 @@ fn hear(
     g: &[u8],
     index: &[u8; 1024],
     plain: &[u64; 544],
+    plan: &[u8],
     h: &[u8],
     n: usize,
-    memo: &mut [u64],
+    cells: &mut [u64],
     numbers: &mut [u64],
 ) -> Sampled
-    requires { ⌜ Collects (now g) (now index) (now plain) (now h) n (now memo) (now numbers) ⌝ }
+    requires { ⌜ Collects (now g) (now index) (now plain) n (now plan) (now h) (now cells) (now numbers) ⌝ }
     ensures { λ s. ⌜ HeardAs (now (g .entry)) (now (h .entry)) n (now (numbers .exit)) s ⌝ }
 {
-    let c = heard::collect(g, index, plain, h, n, memo, numbers);
+    let c = heard::collect(g, index, plain, plan, h, n, cells, numbers);
     match c {
         Collected::Ambiguous => Sampled::Refused(SampleRefusal::Ambiguous),
         Collected::Numbers(k) => {
@@ -61,38 +66,40 @@ fn hear(
     }
 }
 
-// A memo for sentences of up to five words, and one for all.
+// Room for the rows of sentences of up to five words, and for all.
 fn hear_short(
     g: &[u8],
     index: &[u8; 1024],
     plain: &[u64; 544],
+    plan: &[u8],
     h: &[u8],
     n: usize,
     numbers: &mut [u64],
 ) -> Sampled
-    requires { ⌜ Hears (now g) (now index) (now plain) (now h) n (now numbers) × (n ≤ 5) ⌝ }
+    requires { ⌜ Hears (now g) (now index) (now plain) n (now plan) (now h) (now numbers) × (n ≤ 5) ⌝ }
     ensures { λ s. ⌜ HeardAs (now (g .entry)) (now (h .entry)) n (now (numbers .exit)) s ⌝ }
 {
-    let mut memo = [0u64; 1280];
-    hear(g, index, plain, h, n, &mut memo, numbers)
+    let mut cells = [0u64; 800];
+    hear(g, index, plain, plan, h, n, &mut cells, numbers)
 }
 
 fn hear_long(
     g: &[u8],
     index: &[u8; 1024],
     plain: &[u64; 544],
+    plan: &[u8],
     h: &[u8],
     n: usize,
     numbers: &mut [u64],
 ) -> Sampled
-    requires { ⌜ Hears (now g) (now index) (now plain) (now h) n (now numbers) ⌝ }
+    requires { ⌜ Hears (now g) (now index) (now plain) n (now plan) (now h) (now numbers) ⌝ }
     ensures { λ s. ⌜ HeardAs (now (g .entry)) (now (h .entry)) n (now (numbers .exit)) s ⌝ }
 {
-    let mut memo = [0u64; 15360];
-    hear(g, index, plain, h, n, &mut memo, numbers)
+    let mut cells = [0u64; 8192];
+    hear(g, index, plain, plan, h, n, &mut cells, numbers)
 }
 
-// The k records heard. No memo is made for a history without records.
+// The k records heard. No plan is made for a history without records.
 fn hear_all(
     g: &[u8],
     index: &[u8; 1024],
@@ -102,16 +109,18 @@ fn hear_all(
     n: usize,
     numbers: &mut [u64],
 ) -> Sampled
-    requires { ⌜ Hears (now g) (now index) (now plain) (now h) n (now numbers) × (k ≡ recordsOf (now h)) ⌝ }
+    requires { ⌜ Tabled (now g) n (now index) (now plain) × Accepted (now h) × (1000 ≤ length (now numbers)) × (k ≡ recordsOf (now h)) ⌝ }
     ensures { λ s. ⌜ HeardAs (now (g .entry)) (now (h .entry)) n (now (numbers .exit)) s ⌝ }
 {
     if k == 0 {
         return Sampled::Ready(0);
     }
+    let mut plan = [0u8; 1792];
+    plan::build(g, index, plain, n, &mut plan);
     if n <= 5 {
-        return hear_short(g, index, plain, h, n, numbers);
+        return hear_short(g, index, plain, &plan, h, n, numbers);
     }
-    hear_long(g, index, plain, h, n, numbers)
+    hear_long(g, index, plain, &plan, h, n, numbers)
 }
 
 pub fn prepare(

@@ -8,20 +8,30 @@ use Rattle.counting.proofs.Preparing.{check-accepted, by-grammar, by-le
 use Rattle.counting.proofs.prepare.prepare.Statement.{statement}
 use Rattle.counting.proofs.prepare.prepare.Tie as tie
 
+abbrev read : tie.After-enum-told → tie.After-read
+read c = c .before .before
+
 abbrev start : tie.After-enum-told → tie.Start
-start c = c .before .before .before .before
+start c = read c .before .before .before
 
 accepted : (c : tie.After-enum-told) → Accepted (now (start c .args .g))
-accepted c = check-accepted _ (c .enum-told .given .1) (c .before .before .check .ensures)
+accepted c = check-accepted _ (c .enum-told .given .1) (read c .read .ensures .says)
 
-check-requires : tie.Need-check-requires
-check-requires c κs = tt
+-- where the grammar was accepted, from where the table is to be filled, and from where it is
+abbrev told : tie.After-fill-arg → tie.After-enum-told
+told c = c .before .before .before
+
+abbrev filled : tie.After-fill → tie.After-enum-told
+filled c = told (c .before .before)
+
+read-requires : tie.Need-read-requires
+read-requires c κs = search needs
 
 enum-known-checked : tie.Need-enum-known-checked
 enum-known-checked c = search needs
 
 returns : tie.Need-returns
-returns c = by-grammar (c .before .checked .given .1) (c .before .before .before .check .ensures)
+returns c = by-grammar (c .before .checked .given .1) (c .before .before .before .read .ensures .says)
 
 enum-told : tie.Need-enum-told
 enum-told c = search needs
@@ -32,37 +42,29 @@ returns-2 c = by-length (accepted (c .before)) (too-short (c .if1 .taken))
 returns-3 : tie.Need-returns-3
 returns-3 c = by-length (accepted (c .before .before)) (too-long (c .if2 .taken))
 
-build-requires : tie.Need-build-requires
-build-requires c κs = let t = c .before .before .before in (accepted t, start t .pre .0)
-
 fill-requires : tie.Need-fill-requires
 fill-requires c κs =
-    let b = c .before .before in
-    let t = b .before .before .before .before in
-    (accepted t, b .build .ensures, omega arith, start t .pre .1)
+    let t = told (c .before) in
+    (accepted t, read t .read .ensures .indexed (accepted t), omega arith, start t .pre .1)
 
 returns-4 : tie.Need-returns-4
 returns-4 c =
-    let b = c .before .before .before .before in
-    let t = b .before .before .before .before in
-    prepared (accepted t) (omega arith) (omega arith) (c .before .fill .ensures) (c .if3 .taken) (b .build .ensures)
+    let t = filled (c .before) in
+    prepared (accepted t) (omega arith) (omega arith) (c .before .fill .ensures) (c .if3 .taken) (read t .read .ensures .indexed (accepted t))
 
 returns-5 : tie.Need-returns-5
-returns-5 c =
-    let t = c .before .before .before .before .before .before .before .before in
-    by-size (accepted t) (omega arith) (omega arith) (c .before .fill .ensures) (c .if3 .left)
+returns-5 c = by-size (accepted (filled (c .before))) (omega arith) (omega arith) (c .before .fill .ensures) (c .if3 .left)
 
 pub prepare-spec : {M : Type 1} → statement M
 prepare-spec =
     tie.close
     (tie.spec
-    check-requires
+    read-requires
     enum-known-checked
     returns
     enum-told
     returns-2
     returns-3
-    build-requires
     fill-requires
     returns-4
     returns-5)

@@ -1,45 +1,81 @@
--- `checks::some_twins` meets its contract. The chains are walked from the last down, each with a stamp of its own. The loop's invariant
--- is `Rounds`: the answer is that of the chains that are left, and no slot has the stamp of the next. The measure is what is left of them.
+-- `checks::some_twins` meets its contract. The chains are taken from the last down, each with two stamps of its own, for its words and
+-- its pair rules. The loop's invariant is `Rounds`: the answer is that of the chains that are left, and no number has the stamp of the
+-- next. The measure is what is left of them.
 -- Assumes nothing.
 use native.Mathlib.Omega.{arith}
-use Rattle.grammar.proofs.Twins.{Rounds, rounds-start, rounds-ready, rounds-hit, rounds-next, rounds-end}
+use borrow.Author.Needs.{needs}
+use Rattle.grammar.proofs.Twins.{Rounds, rounds-start, rounds-end, round-words, round-pairs, round-hit, round-next}
 use Rattle.grammar.proofs.checks.some_twins.Statement.{statement}
 use Rattle.grammar.proofs.checks.some_twins.Tie as tie
 
 abbrev Inv-loop : tie.InvT-loop
-Inv-loop g n r stamps₀ stamp₀ a₀ stamps stamp a = Rounds g n stamps stamp a
+Inv-loop g index stamps₀ stamp₀ a₀ stamps stamp a = Rounds g stamps stamp a
 
 abbrev μ-loop : tie.MeasureT-loop
-μ-loop g n r stamps₀ stamp₀ a₀ stamps stamp a = a
+μ-loop g index stamps₀ stamp₀ a₀ stamps stamp a = a
+
+-- the function's entry, from within the loop; within the loop, from where the words are scanned, and from where the pair rules are
+abbrev entry : tie.In-loop Inv-loop μ-loop → tie.Start Inv-loop μ-loop
+entry c = c .before .before .before .before .before
+
+abbrev first : tie.After-some-same Inv-loop μ-loop → tie.In-loop Inv-loop μ-loop
+first c = c .before .before
+
+abbrev second : tie.After-some-same2 Inv-loop μ-loop → tie.After-some-same Inv-loop μ-loop
+second c = c .before .before .before
+
+shared-slice-read-wide : tie.Need-shared-slice-read-wide Inv-loop μ-loop
+shared-slice-read-wide c = omega (arith, c .before .before .pre .0 .sized .size)
+
+wide-requires : tie.Need-wide-requires Inv-loop μ-loop
+wide-requires c κs = search needs
 
 loop-holds : tie.Need-loop-holds Inv-loop μ-loop
-loop-holds c = let start = c .before in rounds-start (start .args .g .now) (start .args .n) (start .pre .0 .heads)
-
-sub-twins-on : tie.Need-sub-twins-on Inv-loop μ-loop
-sub-twins-on c = omega arith
-
-twins-on-requires : tie.Need-twins-on-requires Inv-loop μ-loop
-twins-on-requires c κs =
-    let pre = c .before .before .before .before .pre in
-    rounds-ready (c .before .before .loop .inv) _ (pre .0) (pre .1) (c .before .loop-test .taken)
-
-returns : tie.Need-returns Inv-loop μ-loop
-returns c = let p = c .before .before .before .before in rounds-hit (p .loop .inv) (c .before .twins-on .ensures) (omega arith) (c .if1 .taken)
-
-add-stamp : tie.Need-add-stamp Inv-loop μ-loop
-add-stamp c = omega arith
+loop-holds c = rounds-start _ (c .wide .ensures .0)
 
 sub-a : tie.Need-sub-a Inv-loop μ-loop
 sub-a c = omega arith
+
+some-same-requires : tie.Need-some-same-requires Inv-loop μ-loop
+some-same-requires c κs =
+    let l = c .before in
+    round-words (entry l .pre .0) (entry l .pre .1) (l .before .loop .inv) (l .loop-test .taken)
+
+returns : tie.Need-returns Inv-loop μ-loop
+returns c =
+    let l = first (c .before) in
+    round-hit (entry l .pre .0) (entry l .pre .1) (l .before .loop .inv) (l .loop-test .taken) (c .before .some-same .ensures) (c .if1 .taken)
+
+add-some-same : tie.Need-add-some-same Inv-loop μ-loop
+add-some-same c = let l = first (c .before) in omega (arith, l .before .loop .inv .turn, entry l .pre .0 .sized .few)
+
+some-same-requires-2 : tie.Need-some-same-requires-2 Inv-loop μ-loop
+some-same-requires-2 c κs =
+    let s = c .before .before in
+    let l = first s in
+    round-pairs (entry l .pre .0) (entry l .pre .1) (l .before .loop .inv) (l .loop-test .taken) (s .some-same .ensures)
+
+returns-2 : tie.Need-returns-2 Inv-loop μ-loop
+returns-2 c =
+    let l = first (second (c .before)) in
+    round-hit (entry l .pre .0) (entry l .pre .1) (l .before .loop .inv) (l .loop-test .taken) (c .before .some-same2 .ensures) (c .if2 .taken)
+
+add-stamp : tie.Need-add-stamp Inv-loop μ-loop
+add-stamp c = let l = first (second (c .before)) in omega (arith, l .before .loop .inv .turn, entry l .pre .0 .sized .few)
 
 loop-less : tie.Need-loop-less Inv-loop μ-loop
 loop-less c = omega arith
 
 loop-again : tie.Need-loop-again Inv-loop μ-loop
-loop-again c = let p = c .before .before .before .before in rounds-next (p .loop .inv) (c .before .twins-on .ensures) (omega arith) (c .if1 .left)
+loop-again c =
+    let t = c .before in
+    let s = second t in
+    let l = first s in
+    round-next (entry l .pre .0) (entry l .pre .1) (l .before .loop .inv) (l .loop-test .taken) (s .some-same .ensures) (t .before .before .if1 .left)
+    (t .some-same2 .ensures) (c .if2 .left)
 
-returns-2 : tie.Need-returns-2 Inv-loop μ-loop
-returns-2 c = rounds-end (c .before .loop .inv) (c .loop-test .left)
+returns-3 : tie.Need-returns-3 Inv-loop μ-loop
+returns-3 c = rounds-end (c .loop-test .left) (c .before .loop .inv)
 
 pub some-twins-spec : {M : Type 1} → statement M
 some-twins-spec =
@@ -47,12 +83,16 @@ some-twins-spec =
     (tie.spec
     Inv-loop
     μ-loop
+    shared-slice-read-wide
+    wide-requires
     loop-holds
-    sub-twins-on
-    twins-on-requires
-    returns
-    add-stamp
     sub-a
+    some-same-requires
+    returns
+    add-some-same
+    some-same-requires-2
+    returns-2
+    add-stamp
     loop-less
     loop-again
-    returns-2)
+    returns-3)

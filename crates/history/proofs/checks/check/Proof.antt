@@ -26,7 +26,7 @@ abbrev e1 : tie.Else2 → tie.Else1
 e1 c = c .before .before .before
 
 abbrev e2 : tie.Else3 → tie.Else2
-e2 c = c .before .before
+e2 c = c .before
 
 abbrev e3 : tie.Else4 → tie.Else3
 e3 c = c .before .before
@@ -44,10 +44,14 @@ past1 : (c : tie.Else1) → Passed (bytes c) 1
 past1 c = row-passed 11 _ (fits c)
 
 past2 : (c : tie.Else2) → Passed (bytes (e1 c)) 2
-past2 c = past1 (e1 c) ∙ row-passed 12 _ (sym (c .before .bad-record .ensures) ∙ c .if2 .left)
+past2 c = past1 (e1 c) ∙ row-passed 12 _ (sym (c .before .test-records .ensures .records) ∙ c .if2 .left)
+
+-- `far` is the test of the links, as no record is bad
+links : (c : tie.Else2) → badLink (bytes (e1 c)) ≡ c .before .test-records .result .far
+links c = sym (c .before .test-records .ensures .links (c .if2 .left))
 
 linked : (c : tie.Else3) → badLink (bytes (e1 (e2 c))) ≡ false
-linked c = sym (c .before .bad-link .ensures) ∙ c .if3 .left
+linked c = links (e2 c) ∙ c .if3 .left
 
 past3 : (c : tie.Else3) → Passed (bytes (e1 (e2 c))) 3
 past3 c = past2 (e2 c) ∙ row-passed 13 _ (linked c)
@@ -61,17 +65,14 @@ returns c = refused _ 11 (row-applies 11 _ (sym (c .before .bad-size .ensures) �
 two-at-requires : tie.Need-two-at-requires
 two-at-requires c κs = let s = room c in omega arith
 
-bad-record-requires : tie.Need-bad-record-requires
-bad-record-requires c κs = sized c
+test-records-requires : tie.Need-test-records-requires
+test-records-requires c κs = sized c
 
 returns-2 : tie.Need-returns-2
-returns-2 c = refused _ 12 (past1 (c .before .before .before) ∙ row-applies 12 _ (sym (c .before .bad-record .ensures) ∙ c .if2 .taken)) (lit< tt)
-
-bad-link-requires : tie.Need-bad-link-requires
-bad-link-requires c κs = sized (c .before .before)
+returns-2 c = refused _ 12 (past1 (c .before .before .before) ∙ row-applies 12 _ (sym (c .before .test-records .ensures .records) ∙ c .if2 .taken)) (lit< tt)
 
 returns-3 : tie.Need-returns-3
-returns-3 c = refused _ 13 (past2 (c .before .before) ∙ row-applies 13 _ (sym (c .before .bad-link .ensures) ∙ c .if3 .taken)) (lit< tt)
+returns-3 c = refused _ 13 (past2 (c .before) ∙ row-applies 13 _ (links (c .before) ∙ c .if3 .taken)) (lit< tt)
 
 bad-chain-requires : tie.Need-bad-chain-requires
 bad-chain-requires c κs = (sized (e2 c .before .before), linked c)
@@ -93,9 +94,8 @@ check-spec =
     bad-size-requires
     returns
     two-at-requires
-    bad-record-requires
+    test-records-requires
     returns-2
-    bad-link-requires
     returns-3
     bad-chain-requires
     returns-4

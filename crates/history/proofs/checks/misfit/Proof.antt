@@ -5,7 +5,7 @@ use Prim.Native.Nat.{ℕ, _+_, _-_}
 use native.Mathlib.Omega.{arith}
 use denote.Ref.{now}
 use Rattle.history.specs.Refusals.{someNonzero}
-use Rattle.history.proofs.Acceptance.{misfit-low, misfit-high, misfit-fourth, misfit-beyond}
+use Rattle.history.proofs.Acceptance.{misfit-low, misfit-high, misfit-fourth, misfit-beyond, misfit-full}
 use borrow.Author.Needs.{needs}
 use Rattle.history.proofs.checks.misfit.Statement.{statement}
 use Rattle.history.proofs.checks.misfit.Tie as tie
@@ -34,22 +34,23 @@ shared-slice-read-if3 c = search needs
 returns-3 : tie.Need-returns-3
 returns-3 c = misfit-fourth _ _ (omega arith) (omega arith) (c .if3 .taken)
 
+returns-4 : tie.Need-returns-4
+returns-4 c = misfit-full _ _ (omega arith) (c .before .if3 .left)
+
 add-some-nonzero : tie.Need-add-some-nonzero
 add-some-nonzero c = search needs
-
-add-some-nonzero-2 : tie.Need-add-some-nonzero-2
-add-some-nonzero-2 c = search needs
 
 some-nonzero-requires : tie.Need-some-nonzero-requires
 some-nonzero-requires c κs = search needs
 
-returns-4 : tie.Need-returns-4
-returns-4 c =
+returns-5 : tie.Need-returns-5
+returns-5 c =
     let e = c .before in
-    let w = e .before .before .before .before in
+    let w = e .before .before .before .before .before in
+    let a = w .before .before .before .args in
     c .some-nonzero .ensures
-    ∙ ap (λ (n : ℕ). someNonzero (now (w .before .before .before .args .h)) (w .before .before .before .args .at + 4 + n) (16 - n)) (w .wide .ensures .0)
-    ∙ misfit-beyond _ _ (omega arith) (omega arith) (e .if3 .left)
+    ∙ ap (λ (n : ℕ). someNonzero (now (a .h)) (a .at + 4 + n) (16 - n)) (w .wide .ensures .0)
+    ∙ misfit-beyond _ _ (omega arith) (omega arith) (e .before .if3 .left)
 
 pub misfit-spec : {M : Type 1} → statement M
 misfit-spec =
@@ -63,7 +64,7 @@ misfit-spec =
     add-if3
     shared-slice-read-if3
     returns-3
+    returns-4
     add-some-nonzero
-    add-some-nonzero-2
     some-nonzero-requires
-    returns-4)
+    returns-5)

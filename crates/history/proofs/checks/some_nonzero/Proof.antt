@@ -1,56 +1,73 @@
--- `some_nonzero` meets its contract. The loop counts down from the last byte; its invariant: the answer is the test of the bytes not yet
--- passed.
+-- `some_nonzero` meets its contract. The loop's invariant: the bits so far are not all 0 exactly if a byte passed, from the place n on, is not 0.
 -- Assumes nothing.
-use mathlib.Core.Path.{_≡_, refl, sym, ap, _∙_}
-use mathlib.Core.Bool.{Bool, not}
-use Prim.Native.Nat.{ℕ, _+_, _≤_}
+use mathlib.Core.Path.{_≡_, sym, ap, _∙_}
+use mathlib.Core.Bool.{not, _||_}
+use mathlib.Core.List.{List}
+use mathlib.Core.Logic.{⊎-elim}
+use Prim.Native.Nat.{ℕ, _+_, _-_, _≤_, _<_}
 use native.Mathlib.Omega.{arith}
-use borrow.Author.Tests.{eq-eqb, ne-eqb}
+use native.Mathlib.Decide.{ℕ-discrete}
+use borrow.Author.Tests.{ne-eqb}
 use denote.Ref.{now}
+use lib.Bits.{bitOr, or-zero-r, or-add-and, and-le-l}
 use lib.ListN.{getD}
 use lib.Dec.{eqb}
-use Rattle.lists.proofs.Tests.{below-hit, below-miss, below-none}
+use Rattle.lists.proofs.Tests.{below-step, below-none}
 use Rattle.history.specs.Refusals.{someNonzero}
 use Rattle.history.proofs.checks.some_nonzero.Statement.{statement}
 use Rattle.history.proofs.checks.some_nonzero.Tie as tie
 
 abbrev Inv-loop : tie.InvT-loop
-Inv-loop h at count i₀ i = (i ≤ count) × (someNonzero h at count ≡ someNonzero h at i)
+Inv-loop h at n bits₀ i₀ bits i = (i ≤ 16) × (not (eqb bits 0) ≡ someNonzero h (at + n) (i - n))
 
 abbrev μ-loop : tie.MeasureT-loop
-μ-loop h at count i₀ i = i
+μ-loop h at n bits₀ i₀ bits i = 16 - i
 
--- the test at each place
-abbrev test : tie.At-loop Inv-loop μ-loop → ℕ → Bool
-test c = let a = c .before .args in λ i. not (eqb (getD (now (a .h)) (a .at + i) 0) 0)
+-- two numbers have a bit exactly if one of them is not 0
+or-some : (a b : ℕ) → not (eqb (bitOr a b) 0) ≡ (not (eqb b 0) || not (eqb a 0))
+or-some a b =
+    elim (ℕ-discrete b 0) [
+      | yes e ↦ rw (e, or-zero-r a)
+      | no n ↦ rw (ne-eqb b 0 n, ne-eqb (bitOr a b) 0 (λ z. n (omega (arith, or-add-and a b, and-le-l a b))))
+    ]
+
+module _ (h : List ℕ) (at n : ℕ) where
+  -- one byte further
+  passed : (i : ℕ) → n ≤ i → someNonzero h (at + n) (i + 1 - n) ≡ (not (eqb (getD h (at + i) 0) 0) || someNonzero h (at + n) (i - n))
+  passed i l =
+      let e : i + 1 - n - 1 ≡ i - n = omega arith in
+      let f : at + n + (i - n) ≡ at + i = omega arith in
+      below-step (λ j. not (eqb (getD h (at + n + j) 0) 0)) (i + 1 - n) (omega arith) ∙ rw (e, f)
+
+  before : (i : ℕ) → i < n → someNonzero h (at + n) (i + 1 - n) ≡ someNonzero h (at + n) (i - n)
+  before i l = let e : i + 1 - n ≡ i - n = omega arith in rw e
 
 loop-holds : tie.Need-loop-holds Inv-loop μ-loop
-loop-holds c = (omega arith, refl)
+loop-holds c = (omega arith, sym (below-none _ _ (omega arith)))
 
-sub-i : tie.Need-sub-i Inv-loop μ-loop
-sub-i c = omega arith
+add-bits : tie.Need-add-bits Inv-loop μ-loop
+add-bits c = omega arith
 
-add-if1 : tie.Need-add-if1 Inv-loop μ-loop
-add-if1 c = omega arith
+shared-slice-read-bits : tie.Need-shared-slice-read-bits Inv-loop μ-loop
+shared-slice-read-bits c = omega arith
 
-shared-slice-read-if1 : tie.Need-shared-slice-read-if1 Inv-loop μ-loop
-shared-slice-read-if1 c = omega arith
-
-returns : tie.Need-returns Inv-loop μ-loop
-returns c =
-    let l = c .before .before .before in
-    sym (l .loop .inv .1 ∙ below-hit (test l) (l .loop .i) (omega arith) (ap not (ne-eqb _ 0 (c .if1 .taken))))
+add-i : tie.Need-add-i Inv-loop μ-loop
+add-i c = omega arith
 
 loop-less : tie.Need-loop-less Inv-loop μ-loop
 loop-less c = omega arith
 
 loop-again : tie.Need-loop-again Inv-loop μ-loop
 loop-again c =
-    let l = c .before .before .before in
-    (omega arith, l .loop .inv .1 ∙ below-miss (test l) (l .loop .i) (omega arith) (ap not (eq-eqb _ 0 (c .if1 .left))))
+    let l = c .before .before in
+    let a = l .before .args in
+    ⊎-elim
+    (λ w. (omega arith, ap (λ (b : ℕ). not (eqb b 0)) (w .2) ∙ or-some (l .loop .bits) _ ∙ rw (l .loop .inv .1) (sym (passed (now (a .h)) (a .at) (a .n) (l .loop .i) (omega arith)))))
+    (λ w. (omega arith, ap (λ (b : ℕ). not (eqb b 0)) (w .1) ∙ l .loop .inv .1 ∙ sym (before (now (a .h)) (a .at) (a .n) (l .loop .i) (omega arith))))
+    (c .if1 .came)
 
-returns-2 : tie.Need-returns-2 Inv-loop μ-loop
-returns-2 c = let l = c .before in sym (l .loop .inv .1 ∙ below-none (test l) _ (c .loop-test .left))
+returns : tie.Need-returns Inv-loop μ-loop
+returns c = let l = c .before in let e : l .loop .i ≡ 16 = omega arith in rw e at (l .loop .inv .1)
 
 pub some-nonzero-spec : {M : Type 1} → statement M
 some-nonzero-spec =
@@ -59,10 +76,9 @@ some-nonzero-spec =
     Inv-loop
     μ-loop
     loop-holds
-    sub-i
-    add-if1
-    shared-slice-read-if1
-    returns
+    add-bits
+    shared-slice-read-bits
+    add-i
     loop-less
     loop-again
-    returns-2)
+    returns)

@@ -12,7 +12,7 @@ use Rattle.ranking.proofs.rank.find.Statement.{statement}
 use Rattle.ranking.proofs.rank.find.Tie as tie
 
 abbrev entry : tie.After-some-foreign → tie.Start
-entry c = c .before .before .before .before .before
+entry c = c .before .before .before .before .before .before
 
 foreign-is : (c : tie.After-some-foreign) → c .some-foreign .result ≡ someOf (leb (words (now (entry c .args .g)))) (now (entry c .args .sentence))
 foreign-is c = c .some-foreign .ensures ∙ ap (λ (w : ℕ). someOf (leb w) (now (entry c .args .sentence))) (c .before .words .ensures)
@@ -27,7 +27,7 @@ returns : tie.Need-returns
 returns c =
     let a = c .before in
     let p = entry a in
-    record { says = foreign-none (now (p .args .g)) (now (p .args .sentence)) (p .pre .tabled .accepted) (sym (foreign-is a) ∙ c .if1 .taken); remembers = p .pre .clear }
+    record { says = foreign-none (now (p .args .g)) (now (p .args .sentence)) (p .pre .ready .tabled .accepted) (sym (foreign-is a) ∙ c .if1 .taken) }
 
 find-native-requires : tie.Need-find-native-requires
 find-native-requires c κs = let e = c .before in (entry (e .before) .pre, sym (foreign-is (e .before)) ∙ e .if1 .left)

@@ -1,5 +1,5 @@
--- `find_native` meets its contract: the readings of the sentence say how many derivations it has, and where there is one the walk finds
--- its place.
+-- `find_native` meets its contract: the readings of the whole sentence say how many derivations it has, and where there is one the walk
+-- finds its place.
 -- Assumes nothing.
 use mathlib.Core.Path.{_≡_, sym, _∙_}
 use mathlib.Core.List.{List}
@@ -16,26 +16,30 @@ use Rattle.ranking.proofs.rank.find_native.Statement.{statement}
 use Rattle.ranking.proofs.rank.find_native.Tie as tie
 
 abbrev entry : tie.After-wide → tie.Start
-entry c = c .before .before .before .before .before
+entry c = c .before .before .before .before .before .before
 
 start-is : (c : tie.After-wide) → c .wide .result ≡ start (now (entry c .args .g))
 start-is c = c .wide .ensures .0 ∙ c .before .start .ensures
 
-abbrev wided : tie.After-readings → tie.After-wide
-wided c = c .before .before
+-- from where the whole sentence is read back to where its rows are filled, and to where the start symbol is known
+abbrev filling : tie.After-read → tie.After-fill
+filling c = c .before .before .before .before
 
-abbrev bytes : tie.After-readings → List ℕ
+abbrev wided : tie.After-read → tie.After-wide
+wided c = filling c .before .before
+
+abbrev bytes : tie.After-read → List ℕ
 bytes c = now (entry (wided c) .args .g)
 
-abbrev words : tie.After-readings → List ℕ
+abbrev words : tie.After-read → List ℕ
 words c = now (entry (wided c) .args .sentence)
 
-counted : (c : tie.After-readings) → c .readings .result ≡ readingsOf (bytes c) (words c)
-counted c = let p = entry (wided c) .pre in count-is (p .0 .tabled) (p .1) (start-is (wided c)) (c .readings .ensures)
+counted : (c : tie.After-read) → c .read .result ≡ readingsOf (bytes c) (words c)
+counted c = let p = entry (wided c) .pre in count-is (p .0 .ready) (filling c .fill .ensures) (p .1) (start-is (wided c)) (c .read .ensures)
 
 -- past both tests there is one derivation
-one-left : (c : tie.Else2) → let a = c .before .before .before .before in readingsOf (bytes a) (words a) ≡ 1
-one-left c = one _ (counted (c .before .before .before .before)) (c .before .if1 .left) (c .if2 .left)
+one-left : (c : tie.Else2) → let a = c .before .before in readingsOf (bytes a) (words a) ≡ 1
+one-left c = one _ (counted (c .before .before)) (c .before .if1 .left) (c .if2 .left)
   where
     one : (n : ℕ) {x : ℕ} → x ≡ n → (x ≡ 0 → ⊥) → x < 2 → n ≡ 1
     one zero e h l = absurd (h e)
@@ -51,24 +55,26 @@ start-requires c κs = search needs
 wide-requires : tie.Need-wide-requires
 wide-requires c κs = search needs
 
-readings-requires : tie.Need-readings-requires
-readings-requires c κs = let e = entry (c .before) .pre in rank-asks (e .0 .tabled) (e .1) (start-is (c .before)) (e .0 .clear)
+fill-requires : tie.Need-fill-requires
+fill-requires c κs = search needs
+
+read-requires : tie.Need-read-requires
+read-requires c κs =
+    let f = c .before .before .before in
+    let e = entry (f .before .before) .pre in
+    rank-asks (e .0 .ready) (f .fill .ensures) (e .1) (start-is (f .before .before))
 
 same-length : tie.Need-same-length
 same-length c = search needs
 
 returns : tie.Need-returns
-returns c =
-    let a = c .before .before .before in
-    record { says = sym (counted a) ∙ c .if1 .taken; remembers = a .readings .ensures .remembers }
+returns c = record { says = sym (counted (c .before)) ∙ c .if1 .taken }
 
 same-length-2 : tie.Need-same-length-2
 same-length-2 c = search needs
 
 returns-2 : tie.Need-returns-2
-returns-2 c =
-    let a = c .before .before .before .before in
-    record { says = omega (arith, counted a, c .if2 .taken); remembers = a .readings .ensures .remembers }
+returns-2 c = record { says = omega (arith, counted (c .before .before), c .if2 .taken) }
 
 sub-choose : tie.Need-sub-choose
 sub-choose c = search needs
@@ -82,22 +88,23 @@ part-words-end c = search needs
 choose-requires : tie.Need-choose-requires
 choose-requires c κs =
     let e = c .before .before in
-    let a = e .before .before .before .before in
+    let a = e .before .before in
     let p = entry (wided a) .pre in
-    rank-sought (p .0 .tabled) (p .1) (start-is (wided a)) (a .readings .ensures .remembers) _ (lent _ (p .0 .tabled .short)) (omega (arith, one-left e))
+    (rank-sought (p .0 .ready) (filling a .fill .ensures) (p .1) (start-is (wided a)) _ (lent _ (p .0 .ready .tabled .short)) (omega (arith, one-left e)), λ l. p .0 .ready)
 
 same-length-3 : tie.Need-same-length-3
 same-length-3 c = search needs
 
 returns-3 : tie.Need-returns-3
 returns-3 c =
-    let e = c .before .before .before .before .before .before in
-    let a = e .before .before .before .before in
+    let e = c .before .before .before .before in
+    let a = e .before .before in
     let p = entry (wided a) .pre in
-    let found = c .before .before .before .choose .ensures in
     record {
-      says = (one-left e, rank-located (p .0 .tabled) (p .1) (start-is (wided a)) _ (lent _ (p .0 .tabled .short)) found);
-      remembers = found .remembers;
+      says = (
+        one-left e,
+        rank-located (p .0 .ready) (filling a .fill .ensures) (p .1) (start-is (wided a)) _ (lent _ (p .0 .ready .tabled .short)) (c .before .choose .ensures),
+      );
     }
 
 pub find-native-spec : {M : Type 1} → statement M
@@ -106,7 +113,8 @@ find-native-spec =
     (tie.spec
     start-requires
     wide-requires
-    readings-requires
+    fill-requires
+    read-requires
     same-length
     returns
     same-length-2

@@ -25,16 +25,16 @@ same-length c = search needs
 
 returns : tie.Need-returns
 returns c =
-    let s = c .before .before .before .before .before .before .before .before .before in
-    rank-none _ _ (s .pre .tabled) ((rw (c .enum-told .given .1) at (c .before .before .before .before .find .ensures)) .says)
+    let s = c .before .before .before .before .before .before .before .before .before .before in
+    rank-none _ _ (s .pre .ready .tabled) ((rw (c .enum-told .given .1) at (c .before .before .before .before .find .ensures)) .says)
 
 same-length-2 : tie.Need-same-length-2
 same-length-2 c = search needs
 
 returns-2 : tie.Need-returns-2
 returns-2 c =
-    let s = c .before .before .before .before .before .before .before .before .before in
-    rank-several _ _ (s .pre .tabled) ((rw (c .enum-told2 .given .1) at (c .before .before .before .before .find .ensures)) .says)
+    let s = c .before .before .before .before .before .before .before .before .before .before in
+    rank-several _ _ (s .pre .ready .tabled) ((rw (c .enum-told2 .given .1) at (c .before .before .before .before .find .ensures)) .says)
 
 same-length-3 : tie.Need-same-length-3
 same-length-3 c = search needs
@@ -42,9 +42,9 @@ same-length-3 c = search needs
 returns-3 : tie.Need-returns-3
 returns-3 c =
     let f = c .before .before in
-    let s = f .before .before .before .before .before .before .before .before .before in
+    let s = f .before .before .before .before .before .before .before .before .before .before in
     let found = (rw (f .f .given .1) at (f .before .before .before .before .find .ensures)) .says in
-    rank-found _ _ (s .pre .tabled) (found .0) _ _ (found .1) (c .total .ensures)
+    rank-found _ _ (s .pre .ready .tabled) (found .0) _ _ (found .1) (c .total .ensures)
 
 pub number-spec : {M : Type 1} → statement M
 number-spec =

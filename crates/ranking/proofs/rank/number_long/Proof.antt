@@ -1,6 +1,5 @@
--- `number_long` meets its contract: its memo is clear and has room for every sentence.
+-- `number_long` meets its contract: it has room for the rows of every sentence.
 -- Assumes nothing.
-use Rattle.readings.proofs.Memo.{remembers-zeros}
 use Rattle.ranking.proofs.Giving.{room-long}
 use borrow.Author.Needs.{needs}
 use Rattle.ranking.proofs.rank.number_long.Statement.{statement}
@@ -10,7 +9,7 @@ slice-aggregate-number : tie.Need-slice-aggregate-number
 slice-aggregate-number c = search needs
 
 number-requires : tie.Need-number-requires
-number-requires c κs = record { tabled = c .before .before .before .pre; clear = remembers-zeros 15360 (room-long _ (c .before .before .before .pre .short)) }
+number-requires c κs = let q = c .before .before .before .before .pre in record { ready = q; room = room-long _ (q .tabled .short) }
 
 returns : tie.Need-returns
 returns c = search needs

@@ -1,6 +1,5 @@
--- `number_short` meets its contract: its memo is clear and has room for the sentence.
+-- `number_short` meets its contract: it has room for the sentence's rows.
 -- Assumes nothing.
-use Rattle.readings.proofs.Memo.{remembers-zeros}
 use Rattle.ranking.proofs.Giving.{room-short}
 use borrow.Author.Needs.{needs}
 use Rattle.ranking.proofs.rank.number_short.Statement.{statement}
@@ -10,7 +9,7 @@ slice-aggregate-number : tie.Need-slice-aggregate-number
 slice-aggregate-number c = search needs
 
 number-requires : tie.Need-number-requires
-number-requires c κs = record { tabled = c .before .before .before .pre .0; clear = remembers-zeros 1280 (room-short _ (c .before .before .before .pre .1)) }
+number-requires c κs = let q = c .before .before .before .before .pre in record { ready = q .0; room = room-short _ (q .1) }
 
 returns : tie.Need-returns
 returns c = search needs

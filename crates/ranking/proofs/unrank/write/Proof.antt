@@ -3,6 +3,7 @@
 use mathlib.Core.Path.{_≡_, ap₂, _∙_}
 use mathlib.Core.List.{_++_}
 use denote.Ref.{now}
+use native.Mathlib.Omega.{arith}
 use Rattle.grammar.specs.Layout.{start}
 use Rattle.ranking.proofs.Joined.{left-length}
 use Rattle.ranking.proofs.Giving.{rest-kept, give-sought, give-located}
@@ -22,6 +23,9 @@ start-requires c κs = search needs
 wide-requires : tie.Need-wide-requires
 wide-requires c κs = search needs
 
+slice-aggregate-choose : tie.Need-slice-aggregate-choose
+slice-aggregate-choose c = search needs
+
 sub-choose : tie.Need-sub-choose
 sub-choose c = search needs
 
@@ -31,8 +35,8 @@ part-choose-start c = search needs
 part-choose-end : tie.Need-part-choose-end
 part-choose-end c = search needs
 
-slice-aggregate-choose : tie.Need-slice-aggregate-choose
-slice-aggregate-choose c = search needs
+slice-aggregate-choose-2 : tie.Need-slice-aggregate-choose-2
+slice-aggregate-choose-2 c = search needs
 
 sub-choose-2 : tie.Need-sub-choose-2
 sub-choose-2 c = search needs
@@ -45,9 +49,9 @@ part-choose-end-2 c = search needs
 
 choose-requires : tie.Need-choose-requires
 choose-requires c κs =
-    let w = c .before .before .before .before in
+    let w = c .before .before .before .before .before in
     let s = entry w in
-    give-sought (s .pre .tabled) (start-is w) _ _ (left-length (s .args .n) (now (s .args .out)) (s .pre .room)) (s .pre .inside)
+    (give-sought (s .pre .tabled) (start-is w) _ _ (left-length (s .args .n) (now (s .args .out)) (s .pre .room)) (s .pre .inside), λ l. absurd (omega arith))
 
 same-length : tie.Need-same-length
 same-length c = search needs
@@ -57,7 +61,7 @@ returns c =
     let w = c .before .before .before .before .before .before .before .before in
     let s = entry w in
     ap₂ _++_
-    (give-located (s .pre .tabled) (start-is w) _ _ (left-length (s .args .n) (now (s .args .out)) (s .pre .room)) (s .pre .inside) (c .before .before .before .choose .ensures))
+    (give-located (s .pre .tabled) (start-is w) _ _ (left-length (s .args .n) (now (s .args .out)) (s .pre .room)) (s .pre .inside) (c .before .before .choose .ensures))
     (rest-kept (s .args .n) (now (s .args .out)))
 
 pub write-spec : {M : Type 1} → statement M
@@ -66,10 +70,11 @@ write-spec =
     (tie.spec
     start-requires
     wide-requires
+    slice-aggregate-choose
     sub-choose
     part-choose-start
     part-choose-end
-    slice-aggregate-choose
+    slice-aggregate-choose-2
     sub-choose-2
     part-choose-start-2
     part-choose-end-2

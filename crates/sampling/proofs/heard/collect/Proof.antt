@@ -12,14 +12,14 @@ use Rattle.sampling.proofs.heard.collect.Statement.{statement}
 use Rattle.sampling.proofs.heard.collect.Tie as tie
 
 abbrev Inv-loop : tie.InvT-loop
-Inv-loop g index plain h n memo₀ numbers₀ at₀ count₀ t₀ memo numbers at count t =
-    Collecting g h n memo numbers at count t × (length memo ≡ length memo₀) × (length numbers ≡ length numbers₀)
+Inv-loop g index plain plan h n cells₀ numbers₀ at₀ count₀ cells numbers at count =
+    Collecting g h n numbers at count × (length cells ≡ length cells₀) × (length numbers ≡ length numbers₀)
 
 abbrev μ-loop : tie.MeasureT-loop
-μ-loop g index plain h n memo₀ numbers₀ at₀ count₀ t₀ memo numbers at count t = length (numbersFrom h at)
+μ-loop g index plain plan h n cells₀ numbers₀ at₀ count₀ cells numbers at count = length (numbersFrom h at)
 
 abbrev start : tie.At-loop Inv-loop μ-loop → tie.Start Inv-loop μ-loop
-start c = c .before .before .before .before .before .before
+start c = c .before .before .before .before .before .before .before
 
 abbrev at-loop : tie.After-tell-arg2 Inv-loop μ-loop → tie.At-loop Inv-loop μ-loop
 at-loop c = c .before .before .before .before
@@ -34,10 +34,10 @@ abbrev told : tie.After-after Inv-loop μ-loop → tie.After-tell Inv-loop μ-lo
 told c = c .before .before .before .before .before .before .before .before
 
 first-requires : tie.Need-first-requires Inv-loop μ-loop
-first-requires c κs = c .before .before .before .before .pre .diary
+first-requires c κs = c .before .before .before .before .before .pre .diary
 
 loop-holds : tie.Need-loop-holds Inv-loop μ-loop
-loop-holds c = let s = c .before .before .before .before .before .pre in (collect-start s (c .first .ensures), refl, refl)
+loop-holds c = let s = c .before .before .before .before .before .before .pre in (collect-start s (c .first .ensures), refl, refl)
 
 sentence-requires : tie.Need-sentence-requires Inv-loop μ-loop
 sentence-requires c κs = start c .pre .diary
@@ -54,7 +54,7 @@ returns c =
     collect-end (l .loop .inv .0) (start l .pre .diary) (c .before .sentence .ensures) (c .if1 .taken)
 
 tell-requires : tie.Need-tell-requires Inv-loop μ-loop
-tell-requires c κs = collect-asks (at-loop c .loop .inv .0) (read c) (start (at-loop c) .pre .tabled)
+tell-requires c κs = let s = start (at-loop c) .pre in collect-asks (at-loop c .loop .inv .0) (read c) (s .ready) (omega (arith, at-loop c .loop .inv .1, s .rows))
 
 enum-told : tie.Need-enum-told Inv-loop μ-loop
 enum-told c = search needs
@@ -81,11 +81,6 @@ after-requires : tie.Need-after-requires Inv-loop μ-loop
 after-requires c κs =
     let t = c .before .before .before .before .before .before .before in
     start (at-loop (t .before)) .pre .diary
-
-add-t : tie.Need-add-t Inv-loop μ-loop
-add-t c =
-    let l = at-loop (told c .before) in
-    omega (arith, l .loop .inv .0 .stamps, collect-less (l .loop .inv .0) (read (told c .before)) refl)
 
 loop-less : tie.Need-loop-less Inv-loop μ-loop
 loop-less c =
@@ -120,6 +115,5 @@ collect-spec =
     returns-2
     enum-known-c
     after-requires
-    add-t
     loop-less
     loop-again)

@@ -1,6 +1,5 @@
 -- `tell` meets its contract, case by case of what is found.
 -- Assumes nothing.
-use Rattle.sampling.proofs.Hearing.{told-other, told-sought, told-none, told-many, told-one}
 use mathlib.Core.Path.{_≡_}
 use denote.Ref.{now}
 use lib.ListN.{length}
@@ -10,14 +9,14 @@ use Rattle.sampling.proofs.heard.tell.Statement.{statement}
 use Rattle.sampling.proofs.heard.tell.Tie as tie
 
 abbrev entry : tie.After-find-arg → tie.Start
-entry c = c .before .before .before .before .before .before
+entry c = c .before .before .before .before .before .before .before
 
 -- the test passed
 long : (c : tie.After-find-arg) → length (now (entry c .args .s)) ≡ entry c .args .n
 long c = c .before .if1 .left
 
 returns : tie.Need-returns
-returns c = told-other (c .before .before .before .before .before .pre) (c .if1 .taken)
+returns c = told-other (c .before .before .before .before .before .before .pre) (c .if1 .taken)
 
 find-requires : tie.Need-find-requires
 find-requires c κs = told-sought (entry c .pre) (long c)

@@ -14,7 +14,7 @@ use Rattle.sampling.proofs.prepare.hear.Statement.{statement}
 use Rattle.sampling.proofs.prepare.hear.Tie as tie
 
 abbrev start : tie.After-collect → tie.Start
-start c = c .before .before .before .before .before .before .before
+start c = c .before .before .before .before .before .before .before .before
 
 -- where the numbers are collected
 abbrev called : tie.After-known-told → tie.After-collect
@@ -22,11 +22,11 @@ called c = c .before .before .before .before .before .before .before
 
 numbered : (c : tie.After-known-told)
     → let s = start (called c) .args in
-    Holds (now (s .g)) (now (s .h)) (s .n) (called c .collect .last .1 .1 .1 .1 .1 .1 .0) (Numbers (c .before .c .given .0 .0))
+    Holds (now (s .g)) (now (s .h)) (s .n) (called c .collect .last .1 .1 .1 .1 .1 .1 .1 .0) (Numbers (c .before .c .given .0 .0))
 numbered c = collect-case (called c .collect .ensures) (c .before .c .given .1)
 
-lengthy : (c : tie.After-collect) → 1000 ≤ length (c .collect .last .1 .1 .1 .1 .1 .1 .0)
-lengthy c = omega (arith, c .collect .kept .1 .1 .1 .1 .1 .1 .0, start c .pre .room)
+lengthy : (c : tie.After-collect) → 1000 ≤ length (c .collect .last .1 .1 .1 .1 .1 .1 .1 .0)
+lengthy c = omega (arith, c .collect .kept .1 .1 .1 .1 .1 .1 .1 .0, start c .pre .room)
 
 collect-requires : tie.Need-collect-requires
 collect-requires c κs = search needs

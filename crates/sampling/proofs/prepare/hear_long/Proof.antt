@@ -1,6 +1,5 @@
--- `hear_long` meets its contract: its memo is clear and has room for every sentence.
+-- `hear_long` meets its contract: it has room for the rows of every sentence.
 -- Assumes nothing.
-use Rattle.readings.proofs.Memo.{remembers-zeros}
 use Rattle.ranking.proofs.Giving.{room-long}
 use borrow.Author.Needs.{needs}
 use Rattle.sampling.proofs.prepare.hear_long.Statement.{statement}
@@ -11,8 +10,8 @@ slice-aggregate-hear c = search needs
 
 hear-requires : tie.Need-hear-requires
 hear-requires c κs =
-    let s = c .before .before .before .before .before .pre in
-    record { tabled = s .tabled; diary = s .diary; clear = λ w. remembers-zeros 15360 (room-long _ (s .tabled .short)); room = s .room }
+    let s = c .before .before .before .before .before .before .pre in
+    record { ready = s .ready; diary = s .diary; rows = room-long _ (s .ready .tabled .short); room = s .room }
 
 same-length : tie.Need-same-length
 same-length c = search needs

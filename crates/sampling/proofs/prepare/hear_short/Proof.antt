@@ -1,6 +1,5 @@
--- `hear_short` meets its contract: its memo is clear and has room for the sentences.
+-- `hear_short` meets its contract: it has room for a sentence's rows.
 -- Assumes nothing.
-use Rattle.readings.proofs.Memo.{remembers-zeros}
 use Rattle.ranking.proofs.Giving.{room-short}
 use borrow.Author.Needs.{needs}
 use Rattle.sampling.proofs.prepare.hear_short.Statement.{statement}
@@ -11,8 +10,8 @@ slice-aggregate-hear c = search needs
 
 hear-requires : tie.Need-hear-requires
 hear-requires c κs =
-    let s = c .before .before .before .before .before .pre in
-    record { tabled = s .0 .tabled; diary = s .0 .diary; clear = λ w. remembers-zeros 1280 (room-short _ (s .1)); room = s .0 .room }
+    let s = c .before .before .before .before .before .before .pre in
+    record { ready = s .0 .ready; diary = s .0 .diary; rows = room-short _ (s .1); room = s .0 .room }
 
 same-length : tie.Need-same-length
 same-length c = search needs

@@ -49,7 +49,7 @@ enum-known-a-2 c = search needs
 hear-all-requires : tie.Need-hear-all-requires
 hear-all-requires c κs =
     let a = c .before .before .before .before in
-    (record { tabled = tabled (checked a); diary = diary a .0; room = start (called (checked a)) .pre .room }, diary a .1)
+    (tabled (checked a), diary a .0, start (called (checked a)) .pre .room, diary a .1)
 
 returns : tie.Need-returns
 returns c =

@@ -1,0 +1,246 @@
+-- `checks::read` meets its contract: each test that fails moves the refusal on to the next line, and one that succeeds is the refusal.
+-- Past the last one the index is there.
+-- Assumes nothing.
+use mathlib.Core.Path.{_≡_, refl, sym, _∙_}
+use mathlib.Core.Bool.{false}
+use mathlib.Core.List.{List}
+use Prim.Native.Nat.{ℕ, _+_}
+use native.Mathlib.Omega.{arith}
+use borrow.Author.Needs.{needs}
+use denote.Ref.{now}
+use lib.Dec.{lit<}
+use lib.ListN.{length}
+use Rattle.lists.specs.Searched.{someTo}
+use Rattle.answers.proofs.Refusals.{row-applies, row-passed}
+use Rattle.grammar.specs.Layout.{rules}
+use Rattle.grammar.specs.Chains.{met}
+use Rattle.grammar.specs.Refusals.{badRule, nextAbove, metTwice}
+use Rattle.grammar.specs.Checks.{Sized, Readable}
+use Rattle.grammar.proofs.Acceptance.{Ranges, range-facts}
+use Rattle.grammar.proofs.Outcome.{Passed, refused, accepted, short, long, size-wrong, size-right, link-head, link-next, links-right, missed, all-met}
+use Rattle.grammar.proofs.checks.read.Statement.{statement}
+use Rattle.grammar.proofs.checks.read.Tie as tie
+
+-- ---- the places after each test that failed, from the last back to the first
+
+abbrev bytes : tie.Else1 → List ℕ
+bytes c = now (c .before .before .args .g)
+
+abbrev e1 : tie.Else2 → tie.Else1
+e1 c = c .before .before
+
+abbrev e2 : tie.Else3 → tie.Else2
+e2 c = c .before .before .before .before .before
+
+abbrev e3 : tie.Else4 → tie.Else3
+e3 c = c .before .before
+
+abbrev e4 : tie.Else5 → tie.Else4
+e4 c = c .before
+
+abbrev e5 : tie.Else6 → tie.Else5
+e5 c = c .before .before
+
+abbrev e6 : tie.Else7 → tie.Else6
+e6 c = c .before .before .before
+
+abbrev e7 : tie.Else8 → tie.Else7
+e7 c = c .before .before .before .before .before
+
+abbrev e8 : tie.Else9 → tie.Else8
+e8 c = c .before .before .before
+
+-- the bytes, from the later places
+abbrev bytes3 : tie.Else3 → List ℕ
+bytes3 c = bytes (e1 (e2 c))
+
+abbrev bytes6 : tie.Else6 → List ℕ
+bytes6 c = bytes3 (e3 (e4 (e5 c)))
+
+-- ---- what each of them has shown
+
+past1 : (c : tie.Else1) → Passed (bytes c) 1
+past1 c = row-passed 1 _ (long _ (c .if1 .left))
+
+past2 : (c : tie.Else2) → Passed (bytes (e1 c)) 2
+past2 c = past1 (e1 c) ∙ row-passed 2 _ (sym (c .before .out-of-range .ensures) ∙ c .if2 .left)
+
+small : (c : tie.Else2) → Ranges (bytes (e1 c))
+small c = range-facts (bytes (e1 c)) (sym (c .before .out-of-range .ensures) ∙ c .if2 .left)
+
+sized : (c : tie.Else3) → Sized (bytes3 c) (c .before .before .before .wide .result) (c .before .wide2 .result)
+sized c =
+    let ranges = small (e2 c) in
+    record {
+      heads = c .before .before .before .wide .ensures .0;
+      bodies = c .before .wide2 .ensures .0;
+      few = omega arith;
+      numbered = omega arith;
+      size = c .if3 .left;
+    }
+
+past3 : (c : tie.Else3) → Passed (bytes3 c) 3
+past3 c = past2 (e2 c) ∙ row-passed 3 _ (size-right _ (omega arith))
+
+rules-fit : (c : tie.Else4) → badRule (bytes3 (e3 c)) ≡ false
+rules-fit c = sym (c .before .faults-in .ensures .bad) ∙ c .if4 .left
+
+readable : (c : tie.Else4) → Readable (bytes3 (e3 c))
+readable c =
+    let s = sized (e3 c) in
+    record {
+      sized = record { heads = refl; bodies = refl; few = omega arith; numbered = omega arith; size = omega arith };
+      spoken = small (e2 (e3 c)) .few-words;
+      fit = rules-fit c;
+    }
+
+past4 : (c : tie.Else4) → Passed (bytes3 (e3 c)) 4
+past4 c = past3 (e3 c) ∙ row-passed 4 _ (rules-fit c)
+
+nexts-low : (c : tie.Else5) → someTo (nextAbove (bytes3 (e3 (e4 c)))) (rules (bytes3 (e3 (e4 c)))) ≡ false
+nexts-low c = sym (c .before .before .faults-in .ensures .far (c .before .if4 .left)) ∙ c .if5 .left
+
+past5 : (c : tie.Else6) → Passed (bytes6 c) 5
+past5 c =
+    past4 (e4 (e5 c))
+    ∙ row-passed 5 _ (links-right _ (nexts-low (e5 c)) (sym (c .before .head-above .ensures) ∙ c .if6 .left))
+
+once : (c : tie.Else7) → metTwice (bytes6 (e6 c)) ≡ false
+once c = sym (c .before .build .ensures .says) ∙ c .if7 .left
+
+past6 : (c : tie.Else7) → Passed (bytes6 (e6 c)) 6
+past6 c = past5 (e6 c) ∙ row-passed 6 _ (once c)
+
+-- as many rules are entered as are met
+entered : (c : tie.After-begins2) → c .before .before .begins .result + c .begins2 .result ≡ length (met (bytes6 (e6 (c .before .before .before .before))))
+entered c =
+    let l = c .before .before .before .before in
+    let n = sized (e3 (e4 (e5 (e6 l)))) .heads in
+    omega (arith, l .before .build .ensures .many (l .if7 .left), rw n at (c .before .before .begins .ensures .0), rw n at (c .begins2 .ensures .0))
+
+past7 : (c : tie.Else8) → Passed (bytes6 (e6 (e7 c))) 7
+past7 c = past6 (e7 c) ∙ row-passed 7 _ (all-met _ (once (e7 c)) (omega (arith, entered (c .before), c .if8 .left, sized (e3 (e4 (e5 (e6 (e7 c))))) .bodies)))
+
+returns : tie.Need-returns
+returns c = refused _ _ _ (row-applies 1 _ (short _ (c .if1 .taken))) (lit< tt)
+
+out-of-range-requires : tie.Need-out-of-range-requires
+out-of-range-requires c κs = search needs
+
+returns-2 : tie.Need-returns-2
+returns-2 c = refused _ _ _ (past1 (c .before .before) ∙ row-applies 2 _ (sym (c .before .out-of-range .ensures) ∙ c .if2 .taken)) (lit< tt)
+
+shared-slice-read-wide : tie.Need-shared-slice-read-wide
+shared-slice-read-wide c = search needs
+
+wide-requires : tie.Need-wide-requires
+wide-requires c κs = search needs
+
+shared-slice-read-wide-2 : tie.Need-shared-slice-read-wide-2
+shared-slice-read-wide-2 c = search needs
+
+wide-requires-2 : tie.Need-wide-requires-2
+wide-requires-2 c κs = search needs
+
+add-if3 : tie.Need-add-if3
+add-if3 c = search needs
+
+mul-if3 : tie.Need-mul-if3
+mul-if3 c = search needs
+
+add-if3-2 : tie.Need-add-if3-2
+add-if3-2 c = search needs
+
+returns-3 : tie.Need-returns-3
+returns-3 c = refused _ _ _ (past2 (c .before .before .before .before .before) ∙ row-applies 3 _ (size-wrong _ (λ e. omega arith))) (lit< tt)
+
+faults-in-requires : tie.Need-faults-in-requires
+faults-in-requires c κs = sized c
+
+returns-4 : tie.Need-returns-4
+returns-4 c = refused _ _ _ (past3 (c .before .before) ∙ row-applies 4 _ (sym (c .before .faults-in .ensures .bad) ∙ c .if4 .taken)) (lit< tt)
+
+returns-5 : tie.Need-returns-5
+returns-5 c =
+    let e = c .before in
+    refused _ _ _ (past4 e ∙ row-applies 5 _ (link-next _ (sym (e .before .faults-in .ensures .far (e .if4 .left)) ∙ c .if5 .taken))) (lit< tt)
+
+head-above-requires : tie.Need-head-above-requires
+head-above-requires c κs = sized (e3 (e4 c))
+
+returns-6 : tie.Need-returns-6
+returns-6 c =
+    let e = e4 (c .before .before) in
+    refused _ _ _ (past4 e ∙ row-applies 5 _ (link-head _ (sym (c .before .head-above .ensures) ∙ c .if6 .taken))) (lit< tt)
+
+build-requires : tie.Need-build-requires
+build-requires c κs = let e = e4 (e5 (c .before)) in (readable e, e1 (e2 (e3 e)) .before .before .pre)
+
+returns-7 : tie.Need-returns-7
+returns-7 c = refused _ _ _ (past5 (c .before .before .before) ∙ row-applies 6 _ (sym (c .before .build .ensures .says) ∙ c .if7 .taken)) (lit< tt)
+
+begins-requires : tie.Need-begins-requires
+begins-requires c κs = sized (e3 (e4 (e5 (e6 (c .before))))) .few
+
+begins-requires-2 : tie.Need-begins-requires-2
+begins-requires-2 c κs = sized (e3 (e4 (e5 (e6 (c .before .before .before))))) .few
+
+add-if8 : tie.Need-add-if8
+add-if8 c = search needs
+
+returns-8 : tie.Need-returns-8
+returns-8 c =
+    let l = c .before .before .before .before .before in
+    refused _ _ _ (past6 l ∙ row-applies 7 _ (missed _ (once l) (omega (arith, entered (c .before), c .if8 .taken, sized (e3 (e4 (e5 (e6 l)))) .bodies)))) (lit< tt)
+
+some-twins-requires : tie.Need-some-twins-requires
+some-twins-requires c κs =
+    let l = e7 (c .before) in
+    (readable (e4 (e5 (e6 l))), l .before .build .ensures .indexed (l .if7 .left))
+
+returns-9 : tie.Need-returns-9
+returns-9 c = refused _ _ _ (past7 (c .before .before .before) ∙ row-applies 8 _ (sym (c .before .some-twins .ensures) ∙ c .if9 .taken)) (lit< tt)
+
+shared-slice-read-t12 : tie.Need-shared-slice-read-t12
+shared-slice-read-t12 c = search needs
+
+shared-slice-read-t33 : tie.Need-shared-slice-read-t33
+shared-slice-read-t33 c = search needs
+
+returns-10 : tie.Need-returns-10
+returns-10 c =
+    let e = c .before .before in
+    let l = e7 (e8 e) in
+    accepted _ _ (past7 (e8 e) ∙ row-passed 8 _ (sym (e .before .some-twins .ensures) ∙ e .if9 .left)) (l .before .build .ensures .indexed (l .if7 .left))
+
+pub read-spec : {M : Type 1} → statement M
+read-spec =
+    tie.close
+    (tie.spec
+    returns
+    out-of-range-requires
+    returns-2
+    shared-slice-read-wide
+    wide-requires
+    shared-slice-read-wide-2
+    wide-requires-2
+    add-if3
+    mul-if3
+    add-if3-2
+    returns-3
+    faults-in-requires
+    returns-4
+    returns-5
+    head-above-requires
+    returns-6
+    build-requires
+    returns-7
+    begins-requires
+    begins-requires-2
+    add-if8
+    returns-8
+    some-twins-requires
+    returns-9
+    shared-slice-read-t12
+    shared-slice-read-t33
+    returns-10)
