@@ -1,13 +1,12 @@
 -- The entry at an index of `++`, replicate, set, map, combine and a run of numbers.
 -- Assumes nothing.
-use mathlib.Core.Path.{_≡_, refl, sym, ap, _∙_}
+use mathlib.Core.Path.{_≡_, refl, ap, _∙_}
 use mathlib.Core.List.{List, [], _∷_, _++_, map}
-use Prim.Native.Nat.{ℕ, zero, suc, _+_, _*_, _-_, _/_, _≤_, _<_}
+use Prim.Native.Nat.{ℕ, zero, suc, _+_, _*_, _-_, _≤_, _<_}
 use native.Mathlib.Omega.{arith}
 use native.Mathlib.Numerals.{add-one}
-use native.Mathlib.Nat.{div-eq-of-lt, mul-add-div-right}
-use lib.Seq.{getD-append-add, drop-cons}
-use lib.ListN.{length, getD, set, drop, replicate, length-map, List·getD-append}
+use lib.Seq.{getD-append-add}
+use lib.ListN.{length, getD, set, replicate, length-map, List·getD-append}
 use Rattle.lists.specs.Joined.{combine, upFrom}
 
 module _ {X : Type 0} where
@@ -24,10 +23,6 @@ module _ {X : Type 0} where
   getD-within [] i d e h = absurd (omega arith)
   getD-within (x ∷ l) zero d e h = refl
   getD-within (x ∷ l) (suc i) d e h = getD-within l i d e (omega arith)
-
-  -- a loop that counts up from s meets the elements so
-  pub drop-next : (l : List X) (s i : ℕ) (d : X) → s ≤ i → i < s + length l → drop (i - s) l ≡ getD l (i - s) d ∷ drop (i + 1 - s) l
-  drop-next l s i d h h′ = let e : i + 1 - s ≡ suc (i - s) = omega arith in rw e (drop-cons l (i - s) d (omega arith))
 
   -- n times the element that stands past the end
   pub getD-same : (n i : ℕ) (x : X) → getD (replicate n x) i x ≡ x
@@ -89,12 +84,3 @@ set-le (x ∷ l) zero v b h k zero = h
 set-le (x ∷ l) zero v b h k (suc q) = k (suc q)
 set-le (x ∷ l) (suc i) v b h k zero = k 0
 set-le (x ∷ l) (suc i) v b h k (suc q) = set-le l i v b h (λ j. k (suc j)) q
-
--- ---- rows of n numbers
-
--- a place in rows of n tells its row and its place in the row
-pub row-place : (n r i s j : ℕ) → i < n → j < n → r * n + i ≡ s * n + j → (r ≡ s) × (i ≡ j)
-row-place n r i s j hi hj e =
-    let row : (r i : ℕ) → i < n → (r * n + i) / n ≡ r = λ r i h. mul-add-div-right (omega arith) r i ∙ rw (div-eq-of-lt h) (omega arith) in
-    let same : r ≡ s = sym (row r i hi) ∙ rw e (row s j hj) in
-    (same, omega (arith, ap (λ (x : ℕ). x * n) same))

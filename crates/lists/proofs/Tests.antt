@@ -193,9 +193,6 @@ unfolding someBelow
 below-within f g zero h = refl
 below-within f g (suc n) h = rw (h n (omega arith), below-within f g n (λ i l. h i (omega arith)))
 
-pub to-ext : (f g : ℕ → Bool) (n : ℕ) → ((i : ℕ) → f i ≡ g i) → someTo f n ≡ someTo g n
-to-ext f g n h = below-ext (λ i. f (suc i)) (λ i. g (suc i)) n (λ i. h (suc i))
-
 -- ---- the same list
 
 pub same-eq : (a b : List ℕ) → same a b ≡ true → a ≡ b

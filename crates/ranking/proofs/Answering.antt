@@ -34,9 +34,6 @@ module _ {g index plain : List ℕ} {n : ℕ} (t : Tabled g n index plain) where
   pub start-inside : start g < nonterminals g
   start-inside = known g (t .accepted) .ranges .start-inside
 
-  pub start-few : start g < 32
-  start-few = let k = known g (t .accepted) .ranges in omega (arith, start-inside, k .few-nonterminals)
-
   -- T is of 64 bits
   pub total-fits : totalOf g n ≤ most
   total-fits = counts-fit t (start g) n start-inside (omega arith)
