@@ -5,10 +5,11 @@ use mathlib.Core.Path.{_≡_, refl, sym, ap, _∙_}
 use mathlib.Core.List.{List, [], _∷_, _++_}
 use Prim.Native.Nat.{ℕ, zero, suc, _+_, _*_, _-_, _≤_, _<_}
 use native.Mathlib.Omega.{arith}
+use native.Mathlib.Nat.{mul-le-mul}
 use lib.ListN.{length, length-map}
 use Rattle.lists.specs.Joined.{sumOver, combine}
 use Rattle.lists.specs.Ordered.{Exactly}
-use Rattle.lists.proofs.Sums.{sum-ext, sum-one, sum-map, sum-append, sum-concat, sum-combine}
+use Rattle.lists.proofs.Sums.{sum-ext, sum-le, sum-one, sum-map, sum-append, sum-concat, sum-combine}
 use Rattle.grammar.specs.Chains.{Rule, wordsOf, pairsOf}
 use Rattle.grammar.specs.Trees.{sentence, Derives}
 use Rattle.grammar.specs.FullList.{trees}
@@ -18,7 +19,7 @@ use Rattle.counting.specs.Sentences.{sentences, weight, splitList}
 use Rattle.counting.proofs.Totals.{pairTotal, split-ext, total-none, total-one, total-more}
 use Rattle.counting.proofs.Sentences.{sentences-none, sentences-one, sentences-more, sentence-length}
 
-weight-append : (v : ℕ → ℕ → ℕ) (p : ℕ) (a b : List ℕ) → weight v p (a ++ b) ≡ weight v p a * weight v (p + length a) b
+pub weight-append : (v : ℕ → ℕ → ℕ) (p : ℕ) (a b : List ℕ) → weight v p (a ++ b) ≡ weight v p a * weight v (p + length a) b
 weight-append v p [] b = let e : p + 0 ≡ p = omega arith in rw e (omega arith)
 weight-append v p (w ∷ a) b =
     let e : p + suc (length a) ≡ suc p + length a = omega arith in
@@ -64,12 +65,29 @@ weight-one : (p : ℕ) (s : List ℕ) → weight (λ q w. 1) p s ≡ 1
 weight-one p [] = refl
 weight-one p (w ∷ s) = omega (arith, weight-one (suc p) s)
 
+weight-le : (v : ℕ → ℕ → ℕ) (p : ℕ) (s : List ℕ) → ((q w : ℕ) → p ≤ q → q < p + length s → v q w ≤ 1) → weight v p s ≤ 1
+weight-le v p [] h = omega arith
+weight-le v p (w ∷ s) h =
+    omega (arith, mul-le-mul (h p w (omega arith) (omega arith)) (weight-le v (suc p) s (λ q x l u. h q x (omega arith) (omega arith))))
+
 module _ (chain : ℕ → List Rule) where
   pub T-sentences : (A m : ℕ) → T chain A m ≡ length (sentences chain A m)
   T-sentences A m =
       total-sum chain (λ q w. 1) 0 A m
       ∙ sum-ext (weight (λ q w. 1) 0) (λ s. 1) (sentences chain A m) (λ s i. weight-one 0 s)
       ∙ sum-one (sentences chain A m)
+
+  -- weights of at most 1 within the span make a total of at most T
+  pub total-le : (v : ℕ → ℕ → ℕ) (p A m : ℕ) → ((q w : ℕ) → p ≤ q → q < p + m → v q w ≤ 1) → total chain v p A m ≤ T chain A m
+  total-le v p A m h =
+      omega (
+        arith,
+        total-sum chain v p A m,
+        sum-le (weight v p) (λ s. 1) (sentences chain A m)
+            (λ s i. let e = sentence-length chain A m s i in weight-le v p s (λ q w l u. h q w l (omega arith))),
+        sum-one (sentences chain A m),
+        T-sentences A m,
+      )
 
   -- T is the length of the full list
   pub T-length : (A m : ℕ) → T chain A m ≡ length (trees chain A m)

@@ -1,33 +1,44 @@
--- The turns of the loops that fill the plain table, each as a law over plain numbers and lists. A pair rule's sum so far is the sum of
+-- The turns of the loops that fill the table of totals, each as a law over plain numbers and lists. A pair rule's sum so far is the sum of
 -- its products up to a left length; a nonterminal's sum so far, with what its later pair rules add, comes to T; a row is right for the
 -- nonterminals passed.
 -- Assumes nothing.
 use mathlib.Core.Path.{_≡_, refl, sym, ap, _∙_}
 use mathlib.Core.Bool.{Bool, true, false, not, false≢true}
-use mathlib.Core.List.{List}
+use mathlib.Core.List.{List, []}
 use Prim.Native.Nat.{ℕ, suc, _+_, _*_, _-_, _≤_, _<_}
 use native.Mathlib.Omega.{arith}
 use native.Mathlib.Decide.{ℕ-discrete}
 use native.Mathlib.Numerals.{add-one}
-use borrow.Author.Tests.{lt-ltb, le-ltb, eq-eqb, ne-eqb, not-true, not-false}
+use borrow.Author.Tests.{ltb-false, lt-ltb, le-ltb, eq-eqb, ne-eqb, not-true, not-false}
 use lib.Dec.{ltb}
 use lib.ListN.{length, getD, set, drop, length-set}
-use lib.Seq.{drop-cons, drop-length, getD-set-same, getD-set-other}
+use lib.Seq.{drop-cons, drop-length}
 use Rattle.lists.specs.Joined.{sumOver}
-use Rattle.lists.proofs.Tests.{below-clear, below-some, to-clear, to-some}
-use Rattle.grammar.specs.Layout.{nonterminals}
-use Rattle.grammar.specs.Chains.{chain, pairsOf}
-use Rattle.grammar.specs.Refusals.{Accepted}
-use Rattle.grammar.specs.Index.{wordFrom, pairFrom, Indexed}
-use Rattle.grammar.proofs.Acceptance.{known}
+use Rattle.lists.specs.Tables.{put, Wide}
+use Rattle.lists.proofs.Tests.{below-at, below-clear, below-some, to-clear, to-some}
+use Rattle.lists.proofs.Tables.{put-same, put-row, put-other-row, put-beside, wide-put}
+use Rattle.grammar.specs.Rules.{leftAt, rightAt, wordFrom, pairFrom, countIn, pairsIn, ruled}
+use Rattle.grammar.proofs.Ruling.{words-ruled, pairs-ruled, word-count, pair-count, pair-here, pair-below}
 use Rattle.counting.specs.Totals.{T}
-use Rattle.counting.specs.Tables.{cell, most, tooLarge}
-use Rattle.counting.specs.Prepared.{Filled}
-use Rattle.counting.specs.Filling.{Says, partSum, Halves, RowTo, Deriving, longer, stored, rowTooLarge, RowFilled, RowFilling}
-use Rattle.counting.specs.declared.plain.Tally.{Tally}
-use Rattle.counting.specs.declared.plain.Tally.the-variants.{Fits, Over}
+use Rattle.counting.specs.Tables.{most, overflows}
+use Rattle.counting.specs.Counted.{countAt, longestAt, Kept}
+use Rattle.counting.specs.Filling.{
+  Says,
+  Filling,
+  Filled,
+  partSum,
+  Halves,
+  RowTo,
+  Deriving,
+  longer,
+  stored,
+  rowTooLarge,
+  RowFilled,
+  RowFilling,
+}
+use Rattle.counting.specs.declared.tallies.Tally.{Tally}
+use Rattle.counting.specs.declared.tallies.Tally.the-variants.{Fits, Over}
 use Rattle.counting.proofs.Totals.{T-one}
-use Rattle.grammar.proofs.Indexing.{pair-there, pair-here, pair-inside}
 use Rattle.counting.proofs.PairSums.{part-le, part-none, part-end, part-ext, pairSum, T-pairs}
 
 -- ---- the loop over a pair rule's left lengths
@@ -39,89 +50,96 @@ says-over : {n : ℕ} {r : Tally} → r ≡ Over → Says n r → most < n
 says-over e h = rw e at h
 
 -- after the left length k, the sum is what it was with the products up to k
-pub record Adding (plain : List ℕ) (B C m before k sum : ℕ) : Type 0 where
+pub record Adding (totals : List (List ℕ)) (B C m before k sum : ℕ) : Type 0 where
   pub below : k < m
-  pub added : sum ≡ before + partSum (cell plain) B C m k
+  pub added : sum ≡ before + partSum (countAt totals) B C m k
 
-module _ {plain : List ℕ} {B C m before : ℕ} (h : Halves plain B C m) where
-  pub adding-start : {k : ℕ} → k ≡ m - 1 - cell plain C 0 → Adding plain B C m before k before
+module _ {totals : List (List ℕ)} {B C m before : ℕ} (h : Halves totals B C m) where
+  pub adding-start : {k : ℕ} → k ≡ m - 1 - longestAt totals C → Adding totals B C m before k before
   adding-start {k} e = record {
     below = omega arith;
-    added = omega (arith, part-none (cell plain) B C m k (omega arith) (λ i l u. h .right-over (m - i) (omega arith) (omega arith)));
+    added = omega (arith, part-none (countAt totals) B C m k (omega arith) (λ i l u. h .right-over (m - i) (omega arith) (omega arith)));
   }
 
-  module _ {k sum : ℕ} (w : Adding plain B C m before k sum) where
-    pub adding-end : {last : ℕ} → last ≤ k → last ≡ m - 1 - (m - 1 - cell plain B 0) → sum ≡ before + partSum (cell plain) B C m (m - 1)
-    adding-end l e = omega (arith, part-end (cell plain) B C m k (w .below) (λ i a b. h .left-over i (omega arith) b))
+  module _ {k sum : ℕ} (w : Adding totals B C m before k sum) where
+    pub adding-end : {last : ℕ} → last ≤ k → last ≡ m - 1 - (m - 1 - longestAt totals B) → sum ≡ before + partSum (countAt totals) B C m (m - 1)
+    adding-end l e = omega (arith, part-end (countAt totals) B C m k (w .below) (λ i a b. h .left-over i (omega arith) b))
 
-    module _ {x y : ℕ} (l : k + 1 < m) (ex : x ≡ cell plain B (k + 1)) (ey : y ≡ cell plain C (m - (k + 1))) where
-      product : partSum (cell plain) B C m (k + 1) ≡ partSum (cell plain) B C m k + x * y
+    module _ {x y : ℕ} (l : k + 1 < m) (ex : x ≡ countAt totals B (k + 1)) (ey : y ≡ countAt totals C (m - (k + 1))) where
+      product : partSum (countAt totals) B C m (k + 1) ≡ partSum (countAt totals) B C m k + x * y
       product = rw (ex, ey, add-one k)
 
-      pub adding-step : {v : ℕ} {t : Tally} → t ≡ Fits v → Says (sum + x * y) t → Adding plain B C m before (k + 1) v
+      pub adding-step : {v : ℕ} {t : Tally} → t ≡ Fits v → Says (sum + x * y) t → Adding totals B C m before (k + 1) v
       adding-step e f = record { below = l; added = omega (arith, product, says-fits e f) }
 
-      pub adding-over : {t : Tally} → t ≡ Over → Says (sum + x * y) t → most < before + partSum (cell plain) B C m (m - 1)
-      adding-over e f = omega (arith, product, part-le (cell plain) B C m (k + 1) l, says-over e f)
+      pub adding-over : {t : Tally} → t ≡ Over → Says (sum + x * y) t → most < before + partSum (countAt totals) B C m (m - 1)
+      adding-over e f = omega (arith, product, part-le (countAt totals) B C m (k + 1) l, says-over e f)
 
-module _ {g plain : List ℕ} {m a : ℕ} (r : RowTo g plain m a) {B C : ℕ} (hB : B < nonterminals g) (hC : C < nonterminals g) where
-  -- what the table's cells make of a pair rule up to a left length is what T makes of it
-  part-counts : (k : ℕ) → k < m → partSum (cell plain) B C m k ≡ partSum (T (chain g)) B C m k
-  part-counts k h = part-ext (cell plain) (T (chain g)) B C m k h (λ i l u. (r .right B i hB l u, r .right C i hC l u))
+module _ {rules totals : List (List ℕ)} {m a : ℕ} (r : RowTo rules totals m a) {B C : ℕ} (hB : B < countIn rules) (hC : C < countIn rules) where
+  -- what the table's counts make of a pair rule up to a left length is what T makes of it
+  part-counts : (k : ℕ) → k < m → partSum (countAt totals) B C m k ≡ partSum (T (ruled rules)) B C m k
+  part-counts k h = part-ext (countAt totals) (T (ruled rules)) B C m k h (λ i l u. (r .right B i hB l u, r .right C i hC l u))
 
   -- after the left length k the rule has added the sum of its products for the left lengths 1 to k
-  pub added-products : {before k sum : ℕ} → Adding plain B C m before k sum → sum ≡ before + partSum (T (chain g)) B C m k
+  pub added-products : {before k sum : ℕ} → Adding totals B C m before k sum → sum ≡ before + partSum (T (ruled rules)) B C m k
   added-products {k = k} w = omega (arith, w .added, part-counts k (w .below))
 
 -- ---- the loop over a nonterminal's pair rules
 
--- before the pair rule at i of the index: the sum so far, with what the pair rules from there on add, is T(a, m)
-pub record Summing (g index : List ℕ) (a m i sum : ℕ) : Type 0 where
-  pub from : pairFrom index a ≤ i
-  pub to : i ≤ pairFrom index (a + 1)
-  pub due : sum + sumOver (pairSum (T (chain g)) m) (drop (i - pairFrom index a) (pairsOf (chain g a))) ≡ T (chain g) a m
+-- before the pair rule at i of the table: the sum so far, with what the pair rules from there on add, is T(a, m)
+pub record Summing (rules : List (List ℕ)) (a m i sum : ℕ) : Type 0 where
+  pub from : pairFrom rules a ≤ i
+  pub to : i ≤ pairFrom rules (a + 1)
+  pub due : sum + sumOver (pairSum (T (ruled rules)) m) (drop (i - pairFrom rules a) (pairsIn rules a)) ≡ T (ruled rules) a m
 
-module _ {g index plain : List ℕ} {m a : ℕ} (d : Deriving g index plain m a) where
-  pub summing-start : {i : ℕ} → i ≡ pairFrom index a → Summing g index a m i 0
+module _ {rules totals : List (List ℕ)} {m a : ℕ} (d : Deriving rules totals m a) where
+  pub deriving-few : a < 32
+  deriving-few = omega (arith, d .table .few, d .inside)
+
+  pub summing-start : {i : ℕ} → i ≡ pairFrom rules a → Summing rules a m i 0
   summing-start {i} e =
-      let z : i - pairFrom index a ≡ 0 = omega arith in
+      let z : i - pairFrom rules a ≡ 0 = omega arith in
       record {
         from = omega arith;
-        to = omega (arith, d .indexed .pair-count a (d .inside));
-        due = rw z (omega (arith, T-pairs (chain g) a m (d .more)));
+        to = omega (arith, d .table .pair-rises a (d .inside));
+        due = rw z (omega (arith, rw (pairs-ruled rules a) at (T-pairs (ruled rules) a m (d .more))));
       }
 
-  module _ {i sum : ℕ} (w : Summing g index a m i sum) where
-    pub summing-end : pairFrom index (a + 1) ≤ i → sum ≡ T (chain g) a m
+  module _ {i sum : ℕ} (w : Summing rules a m i sum) where
+    pub summing-end : pairFrom rules (a + 1) ≤ i → sum ≡ T (ruled rules) a m
     summing-end l =
-        let z : i - pairFrom index a ≡ length (pairsOf (chain g a)) = omega (arith, d .indexed .pair-count a (d .inside)) in
-        omega (arith, rw (z, drop-length (pairsOf (chain g a))) at (w .due))
+        let z : i - pairFrom rules a ≡ length (pairsIn rules a) = omega (arith, pair-count rules a) in
+        omega (arith, rw (z, drop-length (pairsIn rules a)) at (w .due))
 
-    module _ (l : i < pairFrom index (a + 1)) {B C : ℕ} (eB : B ≡ getD index (256 + i) 0) (eC : C ≡ getD index (512 + i) 0) where
+    module _ (l : i < pairFrom rules (a + 1)) {B C : ℕ} (eB : B ≡ leftAt rules i) (eC : C ≡ rightAt rules i) where
       abbrev rule : ℕ × ℕ
-      rule = getD (pairsOf (chain g a)) (i - pairFrom index a) (0, 0)
+      rule = getD (pairsIn rules a) (i - pairFrom rules a) (0, 0)
 
       here : rule ≡ (B, C)
-      here = pair-here (d .indexed) (d .inside) (w .from) l ∙ rw (eB, eC)
+      here =
+          let z : pairFrom rules a + (i - pairFrom rules a) ≡ i = omega arith in
+          rw z at (pair-here rules a (i - pairFrom rules a) (omega arith)) ∙ rw (eB, eC)
 
-      inside : (B < nonterminals g) × (C < nonterminals g)
-      inside = rw (eB, eC) (pair-inside (d .indexed) (d .inside) (w .from) l (d .accepted))
+      inside : (B < countIn rules) × (C < countIn rules)
+      inside =
+          let b = pair-below (d .table) a i (d .inside) l in
+          (omega (arith, d .table .lefts i b), omega (arith, d .table .rights i b))
 
-      step : sum + partSum (cell plain) B C m (m - 1)
-          + sumOver (pairSum (T (chain g)) m) (drop (i + 1 - pairFrom index a) (pairsOf (chain g a))) ≡ T (chain g) a m
+      step : sum + partSum (countAt totals) B C m (m - 1) + sumOver (pairSum (T (ruled rules)) m) (drop (i + 1 - pairFrom rules a) (pairsIn rules a)) ≡ T (ruled rules) a m
       step =
-          let z : i + 1 - pairFrom index a ≡ suc (i - pairFrom index a) = omega arith in
-          let added : partSum (cell plain) B C m (m - 1) ≡ pairSum (T (chain g)) m rule =
-          part-counts (d .table) (inside .0) (inside .1) (m - 1) (omega arith) ∙ rw here in
-          let there = pair-there (d .indexed) (d .inside) (w .from) l in
-          rw z (omega (arith, rw (drop-cons (pairsOf (chain g a)) (i - pairFrom index a) (0, 0) there) at (w .due), added))
+          let z : i + 1 - pairFrom rules a ≡ suc (i - pairFrom rules a) = omega arith in
+          let added : partSum (countAt totals) B C m (m - 1) ≡ pairSum (T (ruled rules)) m rule =
+          part-counts (d .rows) (inside .0) (inside .1) (m - 1) (omega arith) ∙ rw here in
+          let there : i - pairFrom rules a < length (pairsIn rules a) = omega (arith, pair-count rules a) in
+          rw z (omega (arith, rw (drop-cons (pairsIn rules a) (i - pairFrom rules a) (0, 0) there) at (w .due), added))
 
-      pub summing-asks : Halves plain B C m
+      pub summing-asks : Halves totals B C m
       summing-asks =
-          let few = known g (d .accepted) .ranges in
           let h = inside in
-          let r = d .table in
+          let few = d .table .few in
+          let r = d .rows in
           record {
+            long = r .long;
             left = omega arith;
             right = omega arith;
             some = omega arith;
@@ -130,34 +148,66 @@ module _ {g index plain : List ℕ} {m a : ℕ} (d : Deriving g index plain m a)
             right-over = λ k u v. r .right C k (h .1) (omega arith) v ∙ r .longest C k (h .1) u v;
           }
 
-      pub summing-step : {v : ℕ} {t : Tally} → t ≡ Fits v → Says (sum + partSum (cell plain) B C m (m - 1)) t → Summing g index a m (i + 1) v
+      pub summing-step : {v : ℕ} {t : Tally} → t ≡ Fits v → Says (sum + partSum (countAt totals) B C m (m - 1)) t → Summing rules a m (i + 1) v
       summing-step e f = record { from = omega arith; to = omega arith; due = omega (arith, step, says-fits e f) }
 
-      pub summing-over : {t : Tally} → t ≡ Over → Says (sum + partSum (cell plain) B C m (m - 1)) t → most < T (chain g) a m
+      pub summing-over : {t : Tally} → t ≡ Over → Says (sum + partSum (countAt totals) B C m (m - 1)) t → most < T (ruled rules) a m
       summing-over e f = omega (arith, step, says-over e f)
 
--- ---- the loop over a row's nonterminals
+-- ---- what a store leaves
 
--- the cells once v is stored at a and m
-module _ (plain : List ℕ) (m a v : ℕ) (long : length plain ≡ 544) (ha : a < 32) (h₁ : 1 ≤ m) (h : m ≤ 16) where
-  high-other : (A k : ℕ) → 1 ≤ k → (32 * k + A ≡ 32 * m + a → ⊥) → cell (stored plain a m v) A k ≡ cell plain A k
-  high-other A k l n =
-      getD-set-other (set plain (32 * m + a) v) (32 * 0 + a) (32 * k + A) (longer (cell plain a 0) m v) 0 (λ e. omega arith)
-      ∙ getD-set-other plain (32 * m + a) (32 * k + A) v 0 n
+module _ {first width : ℕ} where
+  pub kept-same : {totals : List (List ℕ)} → Wide totals width → Kept first width totals totals
+  kept-same h = record { long = refl; wide = h; rest = λ r l. refl }
 
-  high-same : cell (stored plain a m v) a m ≡ v
+  pub kept-then : {before between after : List (List ℕ)} → Kept first width before between → Kept first width between after → Kept first width before after
+  kept-then h k = record { long = k .long ∙ h .long; wide = k .wide; rest = λ r l. k .rest r l ∙ h .rest r l }
+
+  pub kept-put : (totals : List (List ℕ)) (r i v : ℕ) → r < first → Wide totals width → Kept first width totals (put totals r i v)
+  kept-put totals r i v h k = record {
+    long = length-set totals r (set (getD totals r []) i v);
+    wide = wide-put totals width r i v k;
+    rest = λ q l. put-row totals r i v q (λ e. omega arith);
+  }
+
+kept-stored : (totals : List (List ℕ)) (a m v : ℕ) → m ≤ 16 → Wide totals 32 → Kept 17 32 totals (stored totals a m v)
+kept-stored totals a m v h k =
+    let first = kept-put {first = 17} totals m a v (omega arith) k in
+    kept-then first (kept-put (put totals m a v) 0 a (longer (longestAt totals a) m v) (omega arith) (first .wide))
+
+-- the entries once v is stored at a and m
+module _ (totals : List (List ℕ)) (m a v : ℕ) (long : 17 ≤ length totals) (wide : Wide totals 32) (ha : a < 32) (h₁ : 1 ≤ m) (h : m ≤ 16) where
+  abbrev once : List (List ℕ)
+  once = put totals m a v
+
+  once-long : length once ≡ length totals
+  once-long = length-set totals m (set (getD totals m []) a v)
+
+  row-width : (r : ℕ) → r ≤ 16 → a < length (getD totals r [])
+  row-width r l = omega (arith, wide .row r (omega arith))
+
+  high-same : countAt (stored totals a m v) a m ≡ v
   high-same =
-      getD-set-other (set plain (32 * m + a) v) (32 * 0 + a) (32 * m + a) (longer (cell plain a 0) m v) 0 (λ e. omega arith)
-      ∙ getD-set-same plain (32 * m + a) v 0 (omega arith)
+      put-other-row once 0 a (longer (longestAt totals a) m v) m a (λ e. omega arith) ∙ put-same totals m a v (omega arith) (row-width m h)
 
-  low-other : (A : ℕ) → A < 32 → (A ≡ a → ⊥) → cell (stored plain a m v) A 0 ≡ cell plain A 0
-  low-other A hA n =
-      getD-set-other (set plain (32 * m + a) v) (32 * 0 + a) (32 * 0 + A) (longer (cell plain a 0) m v) 0 (λ e. omega arith)
-      ∙ getD-set-other plain (32 * m + a) (32 * 0 + A) v 0 (λ e. omega arith)
+  high-beside : (A : ℕ) → (A ≡ a → ⊥) → countAt (stored totals a m v) A m ≡ countAt totals A m
+  high-beside A n =
+      put-other-row once 0 a (longer (longestAt totals a) m v) m A (λ e. omega arith) ∙ put-beside totals m a v A (omega arith) n
 
-  low-same : cell (stored plain a m v) a 0 ≡ longer (cell plain a 0) m v
+  high-other : (A k : ℕ) → 1 ≤ k → (k ≡ m → ⊥) → countAt (stored totals a m v) A k ≡ countAt totals A k
+  high-other A k l n =
+      put-other-row once 0 a (longer (longestAt totals a) m v) k A (λ e. omega arith) ∙ put-other-row totals m a v k A n
+
+  low-same : longestAt (stored totals a m v) a ≡ longer (longestAt totals a) m v
   low-same =
-      getD-set-same (set plain (32 * m + a) v) (32 * 0 + a) (longer (cell plain a 0) m v) 0 (omega (arith, length-set plain (32 * m + a) v))
+      put-same once 0 a (longer (longestAt totals a) m v) (omega (arith, once-long))
+      (omega (arith, ap length (put-row totals m a v 0 (λ e. omega arith)), row-width 0 (omega arith)))
+
+  low-other : (A : ℕ) → (A ≡ a → ⊥) → longestAt (stored totals a m v) A ≡ longestAt totals A
+  low-other A n =
+      put-beside once 0 a (longer (longestAt totals a) m v) A (omega (arith, once-long)) n ∙ put-other-row totals m a v 0 A (λ e. omega arith)
+
+-- ---- the loop over a row's nonterminals
 
 -- a length above the longest is above what was the longest, and there is no derivation of the length m
 longer-past : {old m v k : ℕ} → longer old m v < k → k ≤ m → (old < k) × (v ≡ 0)
@@ -167,121 +217,132 @@ longer-past {old} {m} {v} {k} l u =
       | no n ↦ let q : m < k = rw (ne-eqb v 0 n) at l in absurd (omega arith)
     ]
 
-module _ {g plain : List ℕ} {m a v : ℕ} (few : nonterminals g ≤ 32) (ha : a < nonterminals g) (h₁ : 1 ≤ m) (h : m ≤ 16)
-    (e : v ≡ T (chain g) a m) (r : RowTo g plain m a) where
-  past : {k : ℕ} → cell (stored plain a m v) a 0 < k → k ≤ m → (cell plain a 0 < k) × (v ≡ 0)
-  past l u = longer-past (rw (low-same plain m a v (r .long) (omega arith) h₁ h) at l) u
+module _ {rules totals : List (List ℕ)} {m a v : ℕ} (few : countIn rules ≤ 32) (ha : a < countIn rules) (h₁ : 1 ≤ m) (h : m ≤ 16)
+    (e : v ≡ T (ruled rules) a m) (r : RowTo rules totals m a) where
+  past : {k : ℕ} → longestAt (stored totals a m v) a < k → k ≤ m → (longestAt totals a < k) × (v ≡ 0)
+  past l u = longer-past (rw (low-same totals m a v (r .long) (r .wide) (omega arith) h₁ h) at l) u
 
-  other : {A k : ℕ} → A < 32 → (A ≡ a → ⊥) → cell (stored plain a m v) A 0 < k → cell plain A 0 < k
-  other {A} hA n l = rw (low-other plain m a v (r .long) (omega arith) h₁ h A hA n) at l
+  other : {A k : ℕ} → (A ≡ a → ⊥) → longestAt (stored totals a m v) A < k → longestAt totals A < k
+  other {A} n l = rw (low-other totals m a v (r .long) (r .wide) (omega arith) h₁ h A n) at l
 
-  row-store : RowTo g (stored plain a m v) m (a + 1)
-  row-store = record {
-    long = omega (arith, length-set plain (32 * m + a) v, length-set (set plain (32 * m + a) v) (32 * 0 + a) (longer (cell plain a 0) m v), r .long);
-    right = λ A k hA l u. high-other plain m a v (r .long) (omega arith) h₁ h A k l (λ z. omega arith) ∙ r .right A k hA l u;
-    longest = λ A k hA l u. elim (ℕ-discrete A a) [
-      | yes z ↦ rw z (r .longest a k ha (past (rw z at l) (omega arith) .0) u)
-      | no n ↦ r .longest A k hA (other (omega arith) n l) u
-    ];
-    right-here = λ A hA. elim (ℕ-discrete A a) [
-      | yes z ↦ rw z (high-same plain m a v (r .long) (omega arith) h₁ h ∙ e)
-      | no n ↦ high-other plain m a v (r .long) (omega arith) h₁ h A m h₁ (λ z. omega arith) ∙ r .right-here A (omega arith)
-    ];
-    longest-here = λ A hA l. elim (ℕ-discrete A a) [
-      | yes z ↦ rw z (sym e ∙ past (rw z at l) (omega arith) .1)
-      | no n ↦ r .longest-here A (omega arith) (other (omega arith) n l)
-    ];
-  }
-
--- before the nonterminal a: the row is right up to there, and its counts fit
-pub record Passed (g plain : List ℕ) (m a : ℕ) : Type 0 where
-  pub reached : a ≤ nonterminals g
-  pub table : RowTo g plain m a
-  pub fit : (A : ℕ) → A < a → ltb most (T (chain g) A m) ≡ false
-
-module _ {g index plain : List ℕ} {n m : ℕ} (f : RowFilling g index plain n m) where
-  pub few-nonterminals : n ≤ 32
-  few-nonterminals = let k = known g (f .accepted) .ranges in omega arith
-
-  pub passed-start : Passed g plain m 0
-  passed-start = record { reached = omega arith; table = f .table; fit = λ A h. absurd (omega arith) }
-
-  pub passed-asks : {before : List ℕ} {a : ℕ} → 2 ≤ m → a < n → Passed g before m a → Deriving g index before m a
-  passed-asks h l p = record {
-    accepted = f .accepted;
-    indexed = f .indexed;
-    more = h;
-    short = f .short;
-    inside = omega arith;
-    table = p .table;
-  }
-
-  pub passed-step : {before after : List ℕ} {a v : ℕ} → a < n → Passed g before m a → after ≡ stored before a m v → v ≤ most → v ≡ T (chain g) a m
-      → Passed g after m (a + 1)
-  passed-step {a = a} h p s u e =
-      let k = few-nonterminals in
+  row-store : RowTo rules (stored totals a m v) m (a + 1)
+  row-store =
+      let kept = kept-stored totals a m v h (r .wide) in
       record {
-        reached = omega arith;
-        table = rw s (row-store (omega arith) (omega arith) (f .some) (f .short) e (p .table));
-        fit = λ A l. elim (ℕ-discrete A a) [
-          | yes z ↦ le-ltb most (T (chain g) A m) (rw z (omega arith))
-          | no z ↦ p .fit A (omega arith)
+        long = omega (arith, kept .long, r .long);
+        wide = kept .wide;
+        right = λ A k hA l u. high-other totals m a v (r .long) (r .wide) (omega arith) h₁ h A k l (λ z. omega arith) ∙ r .right A k hA l u;
+        longest = λ A k hA l u. elim (ℕ-discrete A a) [
+          | yes z ↦ rw z (r .longest a k ha (past (rw z at l) (omega arith) .0) u)
+          | no n ↦ r .longest A k hA (other n l) u
+        ];
+        right-here = λ A hA. elim (ℕ-discrete A a) [
+          | yes z ↦ rw z (high-same totals m a v (r .long) (r .wide) (omega arith) h₁ h ∙ e)
+          | no n ↦ high-beside totals m a v (r .long) (r .wide) (omega arith) h₁ h A n ∙ r .right-here A (omega arith)
+        ];
+        longest-here = λ A hA l. elim (ℕ-discrete A a) [
+          | yes z ↦ rw z (sym e ∙ past (rw z at l) (omega arith) .1)
+          | no n ↦ r .longest-here A (omega arith) (other n l)
         ];
       }
 
-  pub passed-fits : {before after : List ℕ} {a v : ℕ} {t : Tally} → a < n → Passed g before m a → after ≡ stored before a m v → v ≤ most
-      → t ≡ Fits v → Says (T (chain g) a m) t → Passed g after m (a + 1)
-  passed-fits h p s u e f = passed-step h p s u (says-fits e f)
+-- before the nonterminal a: the row is right up to there, and its counts fit
+pub record Passed (rules start totals : List (List ℕ)) (m a : ℕ) : Type 0 where
+  pub reached : a ≤ countIn rules
+  pub rows : RowTo rules totals m a
+  pub fit : (A : ℕ) → A < a → ltb most (T (ruled rules) A m) ≡ false
+  pub kept : Kept 17 32 start totals
 
-  pub passed-over : {after : List ℕ} {a : ℕ} {t : Tally} → a < n → t ≡ Over → Says (T (chain g) a m) t → RowFilled g after m false
-  passed-over {a = a} h e s = record {
-    says = ap not (sym (below-some (λ A. ltb most (T (chain g) A m)) (nonterminals g) a (omega arith) (lt-ltb most (T (chain g) a m) (says-over e s))));
-    row = λ z. absurd (false≢true z);
+module _ {rules start : List (List ℕ)} {m : ℕ} (f : RowFilling rules start m) where
+  pub passed-start : Passed rules start start m 0
+  passed-start = record {
+    reached = omega arith;
+    rows = f .rows;
+    fit = λ A h. absurd (omega arith);
+    kept = kept-same (f .rows .wide);
   }
 
-  pub passed-end : {after : List ℕ} {a : ℕ} → n ≤ a → Passed g after m a → RowFilled g after m true
-  passed-end {after} {a} l p =
-      let z : a ≡ nonterminals g = omega arith in
+  module _ {a n : ℕ} (all : n ≡ countIn rules) (l : a < n) where
+    pub passed-few : a < 32
+    passed-few = omega (arith, f .table .few)
+
+    pub passed-asks : {totals : List (List ℕ)} → 2 ≤ m → Passed rules start totals m a → Deriving rules totals m a
+    passed-asks h p = record { table = f .table; more = h; short = f .short; inside = omega arith; rows = p .rows }
+
+    pub passed-step : {before after : List (List ℕ)} {v : ℕ} → Passed rules start before m a → after ≡ stored before a m v → v ≤ most → v ≡ T (ruled rules) a m
+        → Passed rules start after m (a + 1)
+    passed-step {before} {v = v} p s u e =
+        let k = f .table .few in
+        record {
+          reached = omega arith;
+          rows = rw s (row-store (omega arith) (omega arith) (f .some) (f .short) e (p .rows));
+          fit = λ A l. elim (ℕ-discrete A a) [
+            | yes z ↦ le-ltb most (T (ruled rules) A m) (rw z (omega arith))
+            | no z ↦ p .fit A (omega arith)
+          ];
+          kept = rw s (kept-then (p .kept) (kept-stored before a m v (f .short) (p .rows .wide)));
+        }
+
+    pub passed-fits : {before after : List (List ℕ)} {v : ℕ} {t : Tally} → Passed rules start before m a → after ≡ stored before a m v → v ≤ most
+        → t ≡ Fits v → Says (T (ruled rules) a m) t → Passed rules start after m (a + 1)
+    passed-fits p s u e f = passed-step p s u (says-fits e f)
+
+    pub passed-over : {after : List (List ℕ)} {t : Tally} → Passed rules start after m a → t ≡ Over → Says (T (ruled rules) a m) t → RowFilled rules start after m false
+    passed-over p e s = record {
+      says = ap not (sym (below-some (λ A. ltb most (T (ruled rules) A m)) (countIn rules) a (omega arith) (lt-ltb most (T (ruled rules) a m) (says-over e s))));
+      row = λ z. absurd (false≢true z);
+      kept = p .kept;
+    }
+
+  pub passed-end : {after : List (List ℕ)} {a n : ℕ} → n ≡ countIn rules → n ≤ a → Passed rules start after m a → RowFilled rules start after m true
+  passed-end {after} {a} all l p =
+      let z : a ≡ countIn rules = omega arith in
       record {
-        says = ap not (sym (below-clear (λ A. ltb most (T (chain g) A m)) (nonterminals g) (λ A h. p .fit A (omega arith))));
-        row = λ _. rw z at (p .table);
+        says = ap not (sym (below-clear (λ A. ltb most (T (ruled rules) A m)) (countIn rules) (λ A h. p .fit A (omega arith))));
+        row = λ _. rw z at (p .rows);
+        kept = p .kept;
       }
 
 -- ---- the row 1
 
-module _ {g index plain : List ℕ} {n : ℕ} (f : RowFilling g index plain n 1) where
-  -- the word rules are as many as T says, and few
-  pub words-count : {a from to : ℕ} → a < n → from ≡ wordFrom index a → to ≡ wordFrom index (a + 1) → (from ≤ to) × (to - from ≡ T (chain g) a 1)
-  words-count {a} h u v =
-      let s = f .indexed .word-count a (omega arith) in
-      (omega arith, omega (arith, T-one (chain g) a))
+module _ {rules start : List (List ℕ)} (f : RowFilling rules start 1) {a n : ℕ} (all : n ≡ countIn rules) (h : a < n) where
+  -- the word rules are as many as T says
+  pub words-count : {from to : ℕ} → from ≡ wordFrom rules a → to ≡ wordFrom rules (a + 1) → (from ≤ to) × (to - from ≡ T (ruled rules) a 1)
+  words-count u v =
+      let s = f .table .word-rises a (omega arith) in
+      (omega arith, omega (arith, T-one (ruled rules) a, ap length (words-ruled rules a), word-count rules a))
 
   -- the longest length of a may be set anew
-  pub passed-anew : {before : List ℕ} {a : ℕ} → a < n → Passed g before 1 a → Passed g (set before a 0) 1 a
-  passed-anew {before} {a} h p =
-      let k = few-nonterminals f in
+  pub passed-anew : {before : List (List ℕ)} → Passed rules start before 1 a → Passed rules start (put before 0 a 0) 1 a
+  passed-anew {before} p =
+      let kept = kept-put {first = 17} before 0 a 0 (omega arith) (p .rows .wide) in
+      let long = p .rows .long in
       record {
         reached = p .reached;
-        table = record {
-          long = length-set before a 0 ∙ p .table .long;
+        rows = record {
+          long = omega (arith, kept .long);
+          wide = kept .wide;
           right = λ A k hA l u. absurd (omega arith);
           longest = λ A k hA l u. absurd (omega arith);
-          right-here = λ A l. getD-set-other before a (32 * 1 + A) 0 0 (λ z. omega arith) ∙ p .table .right-here A l;
-          longest-here = λ A l u. p .table .longest-here A l (rw (getD-set-other before a (32 * 0 + A) 0 0 (λ z. omega arith)) at u);
+          right-here = λ A l. put-other-row before 0 a 0 1 A (λ z. omega arith) ∙ p .rows .right-here A l;
+          longest-here = λ A l u. p .rows .longest-here A l (rw (put-beside before 0 a 0 A (omega arith) (λ z. omega arith)) at u);
         };
         fit = p .fit;
+        kept = kept-then (p .kept) kept;
       }
 
 -- ---- the loop over the rows
 
 -- before the row m: the rows below it are right, and their counts fit
-pub record Rising (g plain : List ℕ) (m : ℕ) : Type 0 where
-  pub table : RowTo g plain m 0
-  pub fit : (k : ℕ) → 1 ≤ k → k < m → rowTooLarge g k ≡ false
+pub record Rising (rules start totals : List (List ℕ)) (m : ℕ) : Type 0 where
+  pub rows : RowTo rules totals m 0
+  pub fit : (k : ℕ) → 1 ≤ k → k < m → rowTooLarge rules k ≡ false
+  pub kept : Kept 17 32 start totals
 
-row-next : {g plain : List ℕ} {m : ℕ} → RowTo g plain m (nonterminals g) → RowTo g plain (m + 1) 0
+row-next : {rules totals : List (List ℕ)} {m : ℕ} → RowTo rules totals m (countIn rules) → RowTo rules totals (m + 1) 0
 row-next {m = m} r = record {
   long = r .long;
+  wide = r .wide;
   right = λ A k hA l u. elim (ℕ-discrete k m) [
     | yes z ↦ rw z (r .right-here A hA)
     | no n ↦ r .right A k hA l (omega arith)
@@ -294,49 +355,78 @@ row-next {m = m} r = record {
   longest-here = λ A h l. absurd (omega arith);
 }
 
--- a table that may hold anything has no row
-pub rising-none : {g plain : List ℕ} → length plain ≡ 544 → Rising g plain 1
-rising-none h = record {
-  table = record {
-    long = h;
-    right = λ A k hA l u. absurd (omega arith);
-    longest = λ A k hA l u. absurd (omega arith);
-    right-here = λ A l. absurd (omega arith);
-    longest-here = λ A l u. absurd (omega arith);
-  };
-  fit = λ k l u. absurd (omega arith);
-}
+module _ {rules start : List (List ℕ)} where
+  pub rising-step : {before after : List (List ℕ)} {m : ℕ} {b : Bool} → b ≡ true → RowFilled rules before after m b → Rising rules start before m
+      → Rising rules start after (m + 1)
+  rising-step {m = m} t d r = record {
+    rows = row-next (d .row t);
+    fit = λ k l u. elim (ℕ-discrete k m) [
+      | yes z ↦ rw z (not-true (rowTooLarge rules m) (sym (d .says) ∙ t))
+      | no n ↦ r .fit k l (omega arith)
+    ];
+    kept = kept-then (r .kept) (d .kept);
+  }
 
-module _ {g index : List ℕ} {n m : ℕ} (ok : Accepted g) (i : Indexed g index (nonterminals g)) where
-  pub rising-asks : {plain : List ℕ} → n ≡ nonterminals g → 1 ≤ m → m ≤ 16 → Rising g plain m → RowFilling g index plain n m
-  rising-asks e h l r = record { accepted = ok; indexed = i; all = e; some = h; short = l; table = r .table }
+  -- from the row 1 on
+  pub rising-first : {after : List (List ℕ)} → RowFilled rules start after 1 true → Rising rules after after 2
+  rising-first d = record {
+    rows = row-next (d .row refl);
+    fit = λ k l u. let z : k ≡ 1 = omega arith in rw z (not-true (rowTooLarge rules 1) (sym (d .says)));
+    kept = kept-same (d .kept .wide);
+  }
 
-pub rising-step : {g before after : List ℕ} {m : ℕ} {b : Bool} → b ≡ true → RowFilled g after m b → Rising g before m → Rising g after (m + 1)
-rising-step {g} {m = m} t f r = record {
-  table = row-next (f .row t);
-  fit = λ k l u. elim (ℕ-discrete k m) [
-    | yes z ↦ rw z (not-true (rowTooLarge g m) (sym (f .says) ∙ t))
-    | no n ↦ r .fit k l (omega arith)
-  ];
-}
+module _ {rules start : List (List ℕ)} {n : ℕ} (f : Filling rules n start) where
+  -- a table that may hold anything has no row
+  pub rising-begins : RowFilling rules start 1
+  rising-begins = record {
+    table = f .table;
+    some = omega arith;
+    short = omega arith;
+    rows = record {
+      long = f .long;
+      wide = f .wide;
+      right = λ A k hA l u. absurd (omega arith);
+      longest = λ A k hA l u. absurd (omega arith);
+      right-here = λ A l. absurd (omega arith);
+      longest-here = λ A l u. absurd (omega arith);
+    };
+  }
 
-pub rising-first : {g after : List ℕ} → RowFilled g after 1 true → Rising g after 2
-rising-first {after = after} f = rising-step refl f (rising-none {plain = after} (f .row refl .long))
+  module _ {first totals : List (List ℕ)} {m : ℕ} (k : Kept 17 32 start first) (r : Rising rules first totals m) where
+    pub rising-asks : 1 ≤ m → m ≤ n → RowFilling rules totals m
+    rising-asks h l = record { table = f .table; some = h; short = omega (arith, f .short); rows = r .rows }
 
-pub rising-over : {g after : List ℕ} {m n : ℕ} {b : Bool} → 1 ≤ m → m ≤ n → b ≡ false → RowFilled g after m b → Filled g n after false
-unfolding tooLarge
-rising-over {g} {m = m} {n} h l t f = record {
-  says = ap not (sym (to-some (rowTooLarge g) n m h l (not-false (rowTooLarge g m) (sym (f .says) ∙ t))));
-  rows = λ z. absurd (false≢true z);
-}
+    pub rising-over : {after : List (List ℕ)} {b : Bool} → 1 ≤ m → m ≤ n → b ≡ false → RowFilled rules totals after m b → Filled rules n start after false
+    unfolding overflows
+    rising-over h l t d =
+        let kept = kept-then k (kept-then (r .kept) (d .kept)) in
+        record {
+          says = ap not (sym (to-some (rowTooLarge rules) n m h l (not-false (rowTooLarge rules m) (sym (d .says) ∙ t))));
+          counted = λ z. absurd (false≢true z);
+          long = kept .long;
+          wide = kept .wide;
+          rest = kept .rest;
+        }
 
-pub rising-end : {g plain : List ℕ} {m n : ℕ} → n < m → Rising g plain m → Filled g n plain true
-unfolding tooLarge
-rising-end {g} {n = n} h r = record {
-  says = ap not (sym (to-clear (rowTooLarge g) n (λ k l u. r .fit k l (omega arith))));
-  rows = λ _. record {
-    long = r .table .long;
-    right = λ A k hA l u. r .table .right A k hA l (omega arith);
-    longest = λ A k hA l u. r .table .longest A k hA l (omega arith);
-  };
-}
+    pub rising-end : n < m → Filled rules n start totals true
+    unfolding overflows
+    rising-end h =
+        let kept = kept-then k (r .kept) in
+        record {
+          says = ap not (sym (to-clear (rowTooLarge rules) n (λ k l u. r .fit k l (omega arith))));
+          counted = λ _. record {
+            table = f .table;
+            some = f .some;
+            short = f .short;
+            long = r .rows .long;
+            wide = r .rows .wide;
+            right = λ A k q. r .rows .right A k (q .inside) (q .some) (omega (arith, q .short));
+            fits = λ A k q.
+                let fit = r .fit k (q .some) (omega (arith, q .short)) in
+                ltb-false most (T (ruled rules) A k) (below-at (λ A. ltb most (T (ruled rules) A k)) (countIn rules) A fit (q .inside));
+            longest = λ A k q u. r .rows .longest A k (q .inside) u (omega (arith, q .short));
+          };
+          long = kept .long;
+          wide = kept .wide;
+          rest = kept .rest;
+        }

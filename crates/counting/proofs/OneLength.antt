@@ -9,21 +9,13 @@ use native.Mathlib.Decide.{ℕ-discrete}
 use lib.ListN.{length}
 use Rattle.grammar.specs.Chains.{Rule, wordsOf, pairsOf}
 use Rattle.counting.specs.Totals.{splitSum, T}
-use Rattle.counting.proofs.Totals.{split-step, split-skip, split-dead, T-one, T-more, total-none}
+use Rattle.counting.proofs.Totals.{split-step, split-zero, split-skip, split-dead, T-one, T-more, total-none}
 
 -- n derivations of A, each with b words
 pub record OneLength (chain : ℕ → List Rule) (A b n : ℕ) : Type 0 where
   pub some : 1 ≤ b
   pub here : T chain A b ≡ n
   pub elsewhere : (m : ℕ) → (m ≡ b → ⊥) → T chain A m ≡ 0
-
--- products that are all 0
-split-zero : (f : ℕ → ℕ → ℕ → ℕ) (B C p k j : ℕ) → ((i : ℕ) → i < k + j → f p B i * f (p + i) C (k + j - i) ≡ 0) → splitSum f B C p k j ≡ 0
-split-zero f B C p k zero e = refl
-split-zero f B C p k (suc j) e =
-    let z : k + suc j - k ≡ suc j = omega arith in
-    let s : suc k + j ≡ k + suc j = omega arith in
-    omega (arith, rw z at (e k (omega arith)), split-zero f B C p (suc k) j (λ i l. rw s (e i (omega arith))))
 
 module _ (chain : ℕ → List Rule) (A : ℕ) where
   pub words-alone : pairsOf (chain A) ≡ [] → OneLength chain A 1 (length (wordsOf (chain A)))
@@ -56,8 +48,8 @@ module _ (chain : ℕ → List Rule) (A : ℕ) where
     not-sum (suc zero) h = T-one chain A ∙ rw no-words
     not-sum (suc (suc m)) h = pair-total (suc (suc m)) (omega arith) ∙ split-zero (λ q. T chain) B C 0 1 (suc (suc m) - 1) product
       where
-        product : (i : ℕ) → i < 1 + (suc (suc m) - 1) → T chain B i * T chain C (1 + (suc (suc m) - 1) - i) ≡ 0
-        product i l = elim (ℕ-discrete i b) [
+        product : (i : ℕ) → 1 ≤ i → i < 1 + (suc (suc m) - 1) → T chain B i * T chain C (1 + (suc (suc m) - 1) - i) ≡ 0
+        product i h₁ l = elim (ℕ-discrete i b) [
           | yes e ↦
               let z : T chain C (1 + (suc (suc m) - 1) - i) ≡ 0 = hC .elsewhere (1 + (suc (suc m) - 1) - i) (λ q. h (omega arith)) in
               rw z (omega arith)

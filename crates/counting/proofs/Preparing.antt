@@ -1,35 +1,39 @@
--- What preparing a grammar and a length answers, as its tests are made one after another: the refusal is the first of the lines 1 to 8, 9
--- and 10 that applies. And what *Count* answers then.
+-- What opening and preparing a grammar and a length answer, as their tests are made one after another: the refusal is the first of the lines
+-- 1 to 8, 9 and 10 that applies. And what *Count* answers then.
 -- Assumes nothing.
 use mathlib.Core.Path.{_≡_, refl, sym, ap, _∙_}
-use mathlib.Core.Bool.{Bool, true, false}
+use mathlib.Core.Bool.{Bool, true, false, not}
 use mathlib.Core.List.{List, [], _∷_}
 use Prim.Native.Nat.{ℕ, _≤_, _<_}
 use native.Mathlib.Omega.{arith}
 use borrow.Author.Tests.{not-true, not-false}
+use lib.ListN.{length}
 use Rattle.lists.proofs.Tests.{within-low, within-high, within-both}
 use Rattle.answers.specs.Answer.{Answer, firstThatApplies}
 use Rattle.answers.specs.Length.{badLength}
 use Rattle.answers.proofs.Refusals.{row-applies, row-passed, rows-stop, rows-pass, answer-number, answer-accepted, answer-refused}
 use Rattle.grammar.specs.Layout.{nonterminals, words, start}
 use Rattle.grammar.specs.Chains.{chain}
+use Rattle.grammar.specs.Rules.{startIn}
 use Rattle.grammar.specs.Refusals.{grammarRows, grammarRefusal, Accepted}
-use Rattle.grammar.specs.Answers.{refusalNumber, said, checkGrammar}
+use Rattle.grammar.specs.Answers.{refusalNumber, said, checkGrammar, Reads}
 use Rattle.grammar.specs.declared.checks.GrammarRefusal.{GrammarRefusal}
 use Rattle.grammar.specs.declared.checks.GrammarRefusal.the-variants.{TooShort, OutOfRange, WrongSize, BadRule, BadLink, MetTwice, OnNoChain, Repeated}
 use Rattle.grammar.specs.declared.checks.GrammarAnswer.{GrammarAnswer}
 use Rattle.grammar.specs.declared.checks.GrammarAnswer.the-variants as checked
-use Rattle.grammar.specs.Index.{Indexed}
-use Rattle.grammar.proofs.Acceptance.{known}
 use Rattle.counting.specs.Totals.{T}
-use Rattle.counting.specs.Tables.{cell, tooLarge}
-use Rattle.counting.specs.Prepared.{preparedRows, countNumber, Prepares, Filled}
+use Rattle.counting.specs.Tables.{tooLarge}
+use Rattle.counting.specs.Counted.{countAt, Kept}
+use Rattle.counting.specs.Filling.{Filling, Filled}
+use Rattle.counting.specs.Prepared.{openRows, preparedRows, countNumber, Opens, Lent, Prepares}
 use Rattle.counting.specs.Answers as answers
 use Rattle.counting.specs.declared.prepare.CountRefusal.{CountRefusal}
 use Rattle.counting.specs.declared.prepare.CountRefusal.the-variants.{Grammar, Length, TooLarge}
 use Rattle.counting.specs.declared.prepare.Prepared.{Prepared}
 use Rattle.counting.specs.declared.prepare.Prepared.the-variants.{Ready, Refused}
 use Rattle.counting.specs.declared.count.CountAnswer.the-variants as counted
+use Rattle.counting.proofs.Filling.{kept-same}
+use Rattle.counting.proofs.Tabled.{tabled-T, tabled-large}
 
 -- ---- refusals have numbers above 0
 
@@ -48,78 +52,125 @@ count-number (Grammar r) = grammar-number r
 count-number Length = omega arith
 count-number TooLarge = omega arith
 
--- ---- what the check of the grammar says
+refused-ready : {r : CountRefusal} → Refused r ≡ Ready → ⊥
+refused-ready e = let q : _≡_ {A = ℕ} 0 1 = cc in omega arith
 
-check-number : (g : List ℕ) (a : GrammarAnswer) → said a ≡ checkGrammar g → said a .refusal ≡ grammarRefusal g
-unfolding checkGrammar
-check-number g a e = ap (λ (x : Answer). x .refusal) e ∙ answer-number (grammarRefusal g) (nonterminals g ∷ words g ∷ []) [] []
+-- ---- what reading the grammar says
 
-pub check-accepted : (g : List ℕ) {a : GrammarAnswer} {n w : ℕ} → a ≡ checked.Accepted n w → said a ≡ checkGrammar g → Accepted g
-check-accepted g {a} e s = sym (check-number g a s) ∙ rw e
+past-grammar : (g : List ℕ) (n : ℕ) → Accepted g → firstThatApplies (openRows g n) ≡ firstThatApplies ((badLength n, 9) ∷ [])
+past-grammar g n ok = rows-pass (grammarRows g) _ refl ok
 
--- ---- the lines passed
+module _ {g : List ℕ} {before after : List (List ℕ)} {a : GrammarAnswer} (h : Reads g before after a) where
+  read-number : said a .refusal ≡ grammarRefusal g
+  unfolding checkGrammar
+  read-number = ap (λ (x : Answer). x .refusal) (h .says) ∙ answer-number (grammarRefusal g) (nonterminals g ∷ words g ∷ []) [] []
 
-module _ (g : List ℕ) (n : ℕ) (ok : Accepted g) where
-  past-grammar : firstThatApplies (preparedRows g n) ≡ firstThatApplies ((badLength n, 9) ∷ (tooLarge g n, 10) ∷ [])
-  past-grammar = rows-pass (grammarRows g) _ refl ok
+  read-accepted : {N W : ℕ} → a ≡ checked.Accepted N W → Accepted g
+  read-accepted e = sym read-number ∙ rw e
 
-  past-length : 1 ≤ n → n ≤ 16 → firstThatApplies (preparedRows g n) ≡ firstThatApplies ((tooLarge g n, 10) ∷ [])
-  unfolding badLength
-  past-length h k = past-grammar ∙ row-passed 9 _ (within-both 1 16 n h k)
+  read-kept : Kept 4 256 before after
+  read-kept = record { long = h .long; wide = h .wide; rest = h .rest }
+
+  -- ---- each answer of opening
+
+  module _ {n : ℕ} where
+    open-refused : {r : CountRefusal} → firstThatApplies (openRows g n) ≡ countNumber r → Opens g n before after (Refused r)
+    open-refused e = record { refusal = sym e; ready = λ z. absurd (refused-ready z); kept = read-kept }
+
+    pub open-by-grammar : {r : GrammarRefusal} → a ≡ checked.Refused r → Opens g n before after (Refused (Grammar r))
+    open-by-grammar {r} e =
+        let k : grammarRefusal g ≡ refusalNumber r = sym read-number ∙ rw e in
+        open-refused (rows-stop (grammarRows g) _ (omega (arith, grammar-number r)) ∙ k)
+
+    module _ {N W : ℕ} (e : a ≡ checked.Accepted N W) where
+      pub open-too-short : n < 1 → Opens g n before after (Refused Length)
+      unfolding badLength
+      open-too-short l = open-refused (past-grammar g n (read-accepted e) ∙ row-applies 9 [] (within-low 1 16 n l))
+
+      pub open-too-long : 16 < n → Opens g n before after (Refused Length)
+      unfolding badLength
+      open-too-long l = open-refused (past-grammar g n (read-accepted e) ∙ row-applies 9 [] (within-high 1 16 n l))
+
+      pub open-ready : 1 ≤ n → n ≤ 16 → Opens g n before after Ready
+      unfolding badLength firstThatApplies
+      open-ready l u = record {
+        refusal = sym (past-grammar g n (read-accepted e) ∙ row-passed 9 [] (within-both 1 16 n l u));
+        ready = λ z. record { holds = h .holds (read-accepted e); some = l; short = u };
+        kept = read-kept;
+      }
 
 -- ---- each answer of preparing
 
-module _ {g : List ℕ} {n : ℕ} {index plain : List ℕ} where
-  refused : {r : CountRefusal} → firstThatApplies (preparedRows g n) ≡ countNumber r → Prepares g n index plain (Refused r)
-  refused e = record { refusal = sym e; ready = λ z. absurd (let q : _≡_ {A = ℕ} 0 1 = cc in omega arith) }
+module _ {g : List ℕ} {n : ℕ} {rules₀ rules totals₀ : List (List ℕ)} {p : Prepared} (lent : Lent rules₀ totals₀) (o : Opens g n rules₀ rules p) where
+  pub prepare-by-opening : {r : CountRefusal} → p ≡ Refused r → Prepares g n rules₀ rules totals₀ totals₀ (Refused r)
+  prepare-by-opening {r} e =
+      let k : firstThatApplies (openRows g n) ≡ countNumber r = sym (o .refusal) ∙ rw e in
+      record {
+        refusal = sym (rows-stop (openRows g n) ((tooLarge g n, 10) ∷ []) (omega (arith, count-number r)) ∙ k);
+        ready = λ z. absurd (refused-ready z);
+        rules-kept = o .kept;
+        totals-kept = kept-same (lent .wide);
+      }
 
-  pub by-grammar : {a : GrammarAnswer} {r : GrammarRefusal} → a ≡ checked.Refused r → said a ≡ checkGrammar g → Prepares g n index plain (Refused (Grammar r))
-  by-grammar {a} {r} e s =
-      let k : grammarRefusal g ≡ refusalNumber r = sym (check-number g a s) ∙ rw e in
-      refused (rows-stop (grammarRows g) _ (omega (arith, grammar-number r)) ∙ k)
+  module _ (e : p ≡ Ready) where
+    past-opening : firstThatApplies (preparedRows g n) ≡ firstThatApplies ((tooLarge g n, 10) ∷ [])
+    past-opening =
+        let k : firstThatApplies (openRows g n) ≡ 0 = sym (o .refusal) ∙ rw e in
+        rows-pass (openRows g n) ((tooLarge g n, 10) ∷ []) refl k
 
-  pub by-length : Accepted g → badLength n ≡ true → Prepares g n index plain (Refused Length)
-  by-length ok e = refused (past-grammar g n ok ∙ row-applies 9 _ e)
+    pub prepare-asks : Filling rules n totals₀
+    prepare-asks =
+        let q = o .ready e in
+        record { table = q .holds .table; some = q .some; short = q .short; long = lent .long; wide = lent .wide }
 
-  module _ {fits : Bool} (ok : Accepted g) (h : 1 ≤ n) (k : n ≤ 16) (f : Filled g n plain fits) where
-    pub by-size : fits ≡ false → Prepares g n index plain (Refused TooLarge)
-    by-size e = refused (past-length g n ok h k ∙ row-applies 10 _ (not-false (tooLarge g n) (sym (f .says) ∙ e)))
+    module _ {totals : List (List ℕ)} {fits : Bool} (f : Filled rules n totals₀ totals fits) where
+      fits-says : fits ≡ not (tooLarge g n)
+      fits-says = f .says ∙ sym (ap not (tabled-large (o .ready e .holds) n))
 
-    pub prepared : fits ≡ true → Indexed g index (nonterminals g) → Prepares g n index plain Ready
-    unfolding firstThatApplies
-    prepared e i =
-        let small = not-true (tooLarge g n) (sym (f .says) ∙ e) in
-        record {
-          refusal = sym (past-length g n ok h k ∙ row-passed 10 [] small);
-          ready = λ z. record { accepted = ok; some = h; short = k; fits = small; indexed = i; rows = f .rows e };
-        }
+      totals-stay : Kept 17 32 totals₀ totals
+      totals-stay = record { long = f .long; wide = f .wide; rest = f .rest }
 
-pub too-short : {n : ℕ} → n < 1 → badLength n ≡ true
-unfolding badLength
-too-short {n} h = within-low 1 16 n h
+      pub prepare-too-large : fits ≡ false → Prepares g n rules₀ rules totals₀ totals (Refused TooLarge)
+      prepare-too-large z = record {
+        refusal = sym (past-opening ∙ row-applies 10 [] (not-false (tooLarge g n) (sym fits-says ∙ z)));
+        ready = λ z. absurd (refused-ready z);
+        rules-kept = o .kept;
+        totals-kept = totals-stay;
+      }
 
-pub too-long : {n : ℕ} → 16 < n → badLength n ≡ true
-unfolding badLength
-too-long {n} h = within-high 1 16 n h
+      pub prepare-ready : fits ≡ true → Prepares g n rules₀ rules totals₀ totals Ready
+      unfolding firstThatApplies
+      prepare-ready z =
+          let small = not-true (tooLarge g n) (sym fits-says ∙ z) in
+          record {
+            refusal = sym (past-opening ∙ row-passed 10 [] small);
+            ready = λ _. record { holds = o .ready e .holds; fits = small; counted = f .counted z };
+            rules-kept = o .kept;
+            totals-kept = totals-stay;
+          }
 
 -- ---- *Count*
 
-module _ {g : List ℕ} {n : ℕ} {index plain : List ℕ} {p : Prepared} (s : Prepares g n index plain p) where
+module _ {g : List ℕ} {n : ℕ} {rules₀ rules totals₀ totals : List (List ℕ)} {p : Prepared} (s : Prepares g n rules₀ rules totals₀ totals p) where
   pub count-refused : {r : CountRefusal} → p ≡ Refused r → answers.said (counted.Refused r) ≡ answers.countOf g n
   unfolding answers.countOf
   count-refused {r} e =
       let k : firstThatApplies (preparedRows g n) ≡ countNumber r = sym (s .refusal) ∙ rw e in
       rw k (sym (answer-refused (countNumber r) (T (chain g) (start g) n ∷ []) [] [] (count-number r)))
 
-  module _ (e : p ≡ Ready) {S : ℕ} (f : S ≡ start g) where
-    pub count-asks : (S < 32) × (n ≤ 16)
-    count-asks = let r = known g (s .ready e .accepted) .ranges in (omega arith, s .ready e .short)
+  module _ (e : p ≡ Ready) {S : ℕ} (f : S ≡ startIn rules) where
+    pub count-asks : (17 ≤ length totals) × (S < 32) × (n ≤ 16)
+    count-asks =
+        let t = s .ready e in
+        (t .counted .long, omega (arith, t .holds .table .starts, t .holds .table .few), t .counted .short)
 
-    pub count-given : {x : ℕ} → x ≡ cell plain S n → answers.said (counted.Counted x) ≡ answers.countOf g n
+    pub count-given : {x : ℕ} → x ≡ countAt totals S n → answers.said (counted.Counted x) ≡ answers.countOf g n
     unfolding answers.countOf
     count-given {x} u =
         let t = s .ready e in
-        let r = known g (t .accepted) .ranges in
+        let h = t .holds in
         let k : firstThatApplies (preparedRows g n) ≡ 0 = sym (s .refusal) ∙ rw e in
-        let z : x ≡ T (chain g) (start g) n = rw f at u ∙ t .rows .right (start g) n (r .start-inside) (t .some) (omega arith) in
+        let S-is : S ≡ start g = f ∙ h .start-is in
+        let right = t .counted .right S n record { inside = omega (arith, h .table .starts); some = t .counted .some; short = omega arith } in
+        let z : x ≡ T (chain g) (start g) n = rw S-is at (u ∙ right ∙ sym (tabled-T h S n (omega (arith, h .table .starts, h .count-is)))) in
         rw z (sym (answer-accepted (T (chain g) (start g) n ∷ []) [] [] k))

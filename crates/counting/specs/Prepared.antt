@@ -1,24 +1,31 @@
--- What every call that takes a grammar and a length has at hand once the refusals 1 to 8, 9 and 10 are passed.
+-- What every call that takes a grammar and a length has at hand: once the refusals 1 to 8 and 9 are passed the table of rules, and once 10
+-- is passed the counts.
 -- Assumes nothing: these are definitions.
 use mathlib.Core.Path.{_≡_}
-use mathlib.Core.Bool.{Bool, true, false, not}
+use mathlib.Core.Bool.{false}
 use mathlib.Core.List.{List, [], _∷_, _++_}
 use Prim.Native.Nat.{ℕ, _≤_}
+use lib.ListN.{length}
+use Rattle.lists.specs.Tables.{Wide}
 use Rattle.answers.specs.Answer.{Row, firstThatApplies}
 use Rattle.answers.specs.Length.{badLength}
-use Rattle.grammar.specs.Layout.{nonterminals}
-use Rattle.grammar.specs.Refusals.{grammarRows, Accepted}
+use Rattle.grammar.specs.Refusals.{grammarRows}
 use Rattle.grammar.specs.Answers.{refusalNumber}
-use Rattle.grammar.specs.Index.{Indexed}
-use Rattle.counting.specs.Tables.{Rows, tooLarge}
+use Rattle.grammar.specs.Rules.{Holds, Roomy}
+use Rattle.counting.specs.Tables.{tooLarge}
+use Rattle.counting.specs.Counted.{Counted, Kept}
 use Rattle.counting.specs.declared.prepare.Prepared.{Prepared}
 use Rattle.counting.specs.declared.prepare.Prepared.the-variants.{Ready, Refused}
 use Rattle.counting.specs.declared.prepare.CountRefusal.{CountRefusal}
 use Rattle.counting.specs.declared.prepare.CountRefusal.the-variants.{Grammar, Length, TooLarge}
 
--- the lines 1 to 8, 9 and 10, in their order
+-- the lines 1 to 8 and 9, in their order
+abbrev pub openRows : List ℕ → ℕ → List Row
+openRows g n = grammarRows g ++ ((badLength n, 9) ∷ [])
+
+-- and 10
 abbrev pub preparedRows : List ℕ → ℕ → List Row
-preparedRows g n = grammarRows g ++ ((badLength n, 9) ∷ (tooLarge g n, 10) ∷ [])
+preparedRows g n = openRows g n ++ ((tooLarge g n, 10) ∷ [])
 
 -- the paper's number of each case
 abbrev pub countNumber : CountRefusal → ℕ
@@ -30,21 +37,37 @@ abbrev pub preparedNumber : Prepared → ℕ
 preparedNumber Ready = 0
 preparedNumber (Refused r) = countNumber r
 
--- the tables of a grammar and a length are there
-pub record Tabled (g : List ℕ) (n : ℕ) (index plain : List ℕ) : Type 0 where
-  pub accepted : Accepted g
+-- ---- 1 to 9
+
+-- the rules of a grammar are there, and the length is one
+pub record Opened (g : List ℕ) (n : ℕ) (rules : List (List ℕ)) : Type 0 where
+  pub holds : Holds g rules
   pub some : 1 ≤ n
   pub short : n ≤ 16
+
+-- what opening a grammar with a length answers: the refusal, or the rules; the rows from 4 on stay
+pub record Opens (g : List ℕ) (n : ℕ) (before after : List (List ℕ)) (r : Prepared) : Type 0 where
+  pub refusal : preparedNumber r ≡ firstThatApplies (openRows g n)
+  pub ready : r ≡ Ready → Opened g n after
+  pub kept : Kept 4 256 before after
+
+-- ---- 1 to 10
+
+-- the tables that preparing is lent: they may hold anything
+pub record Lent (rules totals : List (List ℕ)) : Type 0 where
+  pub rules-room : Roomy rules
+  pub long : 17 ≤ length totals
+  pub wide : Wide totals 32
+
+-- the tables of a grammar and a length are there
+pub record Tabled (g : List ℕ) (n : ℕ) (rules totals : List (List ℕ)) : Type 0 where
+  pub holds : Holds g rules
   pub fits : tooLarge g n ≡ false
-  pub indexed : Indexed g index (nonterminals g)
-  pub rows : Rows g plain n
+  pub counted : Counted rules totals n
 
--- what preparing a grammar and a length answers: the refusal, or the tables
-pub record Prepares (g : List ℕ) (n : ℕ) (index plain : List ℕ) (r : Prepared) : Type 0 where
+-- what preparing a grammar and a length answers: the refusal, or the tables; the rows that are not theirs stay
+pub record Prepares (g : List ℕ) (n : ℕ) (rules₀ rules totals₀ totals : List (List ℕ)) (r : Prepared) : Type 0 where
   pub refusal : preparedNumber r ≡ firstThatApplies (preparedRows g n)
-  pub ready : r ≡ Ready → Tabled g n index plain
-
--- what filling the plain table answers: whether all counts fit, and then the rows
-pub record Filled (g : List ℕ) (n : ℕ) (plain : List ℕ) (fits : Bool) : Type 0 where
-  pub says : fits ≡ not (tooLarge g n)
-  pub rows : fits ≡ true → Rows g plain n
+  pub ready : r ≡ Ready → Tabled g n rules totals
+  pub rules-kept : Kept 4 256 rules₀ rules
+  pub totals-kept : Kept 17 32 totals₀ totals

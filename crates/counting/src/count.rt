@@ -4,8 +4,8 @@ ghost use Rattle.counting.specs.Answers.{said, countOf};
 use crate::prepare;
 use crate::prepare::CountRefusal;
 use crate::prepare::Prepared;
-use crate::tables;
-use grammar::fields;
+use crate::tallies;
+use grammar::rules;
 
 pub enum CountAnswer {
     Counted(u64),
@@ -15,14 +15,14 @@ pub enum CountAnswer {
 pub fn count(g: &[u8], n: u64) -> CountAnswer
     ensures { λ r. ⌜ said r ≡ countOf (now (g .entry)) n ⌝ }
 {
-    let mut index = [0u8; 1024];
-    let mut plain = [0u64; 544];
-    let prepared = prepare::prepare(g, n, &mut index, &mut plain);
+    let mut rules = [[0u8; 256]; 4];
+    let mut totals = [[0u64; 32]; 17];
+    let prepared = prepare::prepare(g, n, &mut rules, &mut totals);
     match prepared {
         Prepared::Refused(r) => CountAnswer::Refused(r),
-        Prepared::Ready => CountAnswer::Counted(tables::plain_at(
-            &plain,
-            tables::wide(fields::start(g)),
+        Prepared::Ready => CountAnswer::Counted(tallies::count_at(
+            &totals,
+            rules::start(&rules),
             n as usize,
         )),
     }

@@ -1,5 +1,4 @@
 // Counting (document 01: T): the table of T by length, and *Count*.
 pub mod count;
-pub mod plain;
 pub mod prepare;
-pub mod tables;
+pub mod tallies;

@@ -1,8 +1,8 @@
-// What Count, Give and Number share: the refusals 1 to 8, 9 and 10, and then the tables.
+// What the calls with a grammar and a length share: the refusals 1 to 8 and 9 with the table of rules, and 10 with the table of totals.
 ghost use mathlib.Core.Path.{_≡_};
-ghost use lib.ListN.{length};
-ghost use Rattle.counting.specs.Prepared.{countNumber, Prepares};
-use crate::plain;
+ghost use Rattle.grammar.specs.Rules.{Roomy};
+ghost use Rattle.counting.specs.Prepared.{countNumber, Opens, Lent, Prepares};
+use crate::tallies;
 use grammar::checks;
 use grammar::checks::GrammarAnswer;
 use grammar::checks::GrammarRefusal;
@@ -29,11 +29,12 @@ pub fn refusal_number(r: CountRefusal) -> u8
     }
 }
 
-pub fn prepare(g: &[u8], n: u64, index: &mut [u8; 1024], plain: &mut [u64; 544]) -> Prepared
-    requires { ⌜ (length (now index) ≡ 1024) × (length (now plain) ≡ 544) ⌝ }
-    ensures { λ r. ⌜ Prepares (now (g .entry)) n (now (index .exit)) (now (plain .exit)) r ⌝ }
+// 1 to 9.
+pub fn open(g: &[u8], n: u64, rules: &mut [[u8; 256]]) -> Prepared
+    requires { ⌜ Roomy (now rules) ⌝ }
+    ensures { λ r. ⌜ Opens (now (g .entry)) n (now (rules .entry)) (now (rules .exit)) r ⌝ }
 {
-    let checked = checks::read(g, index);
+    let checked = checks::read(g, rules);
     match checked {
         GrammarAnswer::Refused(r) => return Prepared::Refused(CountRefusal::Grammar(r)),
         GrammarAnswer::Accepted {
@@ -47,7 +48,20 @@ pub fn prepare(g: &[u8], n: u64, index: &mut [u8; 1024], plain: &mut [u64; 544])
     if 16 < n {
         return Prepared::Refused(CountRefusal::Length);
     }
-    if plain::fill(g, index, n as usize, plain) {
+    Prepared::Ready
+}
+
+// 1 to 10.
+pub fn prepare(g: &[u8], n: u64, rules: &mut [[u8; 256]], totals: &mut [[u64; 32]]) -> Prepared
+    requires { ⌜ Lent (now rules) (now totals) ⌝ }
+    ensures { λ r. ⌜ Prepares (now (g .entry)) n (now (rules .entry)) (now (rules .exit)) (now (totals .entry)) (now (totals .exit)) r ⌝ }
+{
+    let opened = open(g, n, rules);
+    match opened {
+        Prepared::Refused(r) => return Prepared::Refused(r),
+        Prepared::Ready => {}
+    }
+    if tallies::fill(rules, n as usize, totals) {
         return Prepared::Ready;
     }
     Prepared::Refused(CountRefusal::TooLarge)

@@ -18,28 +18,39 @@ use Rattle.answers.proofs.Refusals.{answer-accepted, answer-refused}
 use Rattle.grammar.specs.Layout.{nonterminals, words, rules, sizeOf}
 use Rattle.grammar.specs.Chains.{met}
 use Rattle.grammar.specs.Refusals.{tooShort, wrongSize, headAbove, nextAbove, badLink, metTwice, onNoChain, grammarRows, grammarRefusal}
-use Rattle.grammar.specs.Index.{Indexed}
+use Rattle.grammar.specs.Rules.{Holds}
+use Rattle.grammar.specs.Entering.{Kept}
 use Rattle.grammar.specs.Answers.{refusalNumber, checkGrammar, Reads}
 use Rattle.grammar.specs.declared.checks.GrammarRefusal.{GrammarRefusal}
 use Rattle.grammar.specs.declared.checks.GrammarAnswer.the-variants.{Accepted, Refused}
-use Rattle.grammar.proofs.Indexing.{below-inside}
+use Rattle.grammar.proofs.Entering.{below-inside}
 
 -- the first k lines don't apply
 abbrev pub Passed : List ℕ → ℕ → Type 0
 Passed g k = grammarRefusal g ≡ firstThatApplies (drop k (grammarRows g))
 
-module _ (g index : List ℕ) where
-  pub refused : (r : GrammarRefusal) → grammarRefusal g ≡ refusalNumber r → 0 < refusalNumber r → Reads g index (Refused r)
+module _ {g : List ℕ} {old new : List (List ℕ)} (kept : Kept old new) where
+  pub refused : (r : GrammarRefusal) → grammarRefusal g ≡ refusalNumber r → 0 < refusalNumber r → Reads g old new (Refused r)
   unfolding checkGrammar
   refused r e h =
       record {
         says = rw e (sym (answer-refused (refusalNumber r) (nonterminals g ∷ words g ∷ []) [] [] h));
-        indexed = λ z. absurd (omega arith);
+        holds = λ z. absurd (omega arith);
+        long = kept .long;
+        wide = kept .wide;
+        rest = kept .rest;
       }
 
-  pub accepted : Passed g 8 → Indexed g index (nonterminals g) → Reads g index (Accepted (nonterminals g) (words g))
+  pub accepted : Passed g 8 → Holds g new → Reads g old new (Accepted (nonterminals g) (words g))
   unfolding checkGrammar firstThatApplies
-  accepted e i = record { says = sym (answer-accepted (nonterminals g ∷ words g ∷ []) [] [] e); indexed = λ z. i }
+  accepted e i =
+      record {
+        says = sym (answer-accepted (nonterminals g ∷ words g ∷ []) [] [] e);
+        holds = λ z. i;
+        long = kept .long;
+        wide = kept .wide;
+        rest = kept .rest;
+      }
 
 -- ---- each line's test, from what the code has tested
 

@@ -4,42 +4,35 @@
 -- Assumes nothing.
 use mathlib.Core.Path.{_≡_, refl, sym, ap, _∙_}
 use mathlib.Core.Logic.{inl, inr}
-use mathlib.Core.Bool.{Bool, true, false, _&&_, _||_, and-true, or-assoc}
-use mathlib.Core.List.{List, [], _∷_, map, map-id, List·Memᴰ·head, List·Memᴰ·tail, Memᴰ·map, Memᴰ·of-map}
+use mathlib.Core.Bool.{Bool, true, false, _||_, and-true, or-assoc}
+use mathlib.Core.List.{List, [], _∷_, map, map-map, List·Memᴰ·head, List·Memᴰ·tail, Memᴰ·map, Memᴰ·of-map}
 use Prim.Native.Nat.{ℕ, _+_, _*_, _-_, _≤_, _<_}
 use native.Mathlib.Omega.{arith}
 use native.Mathlib.Decide.{ℕ-discrete}
-use borrow.Author.Tests.{eqb-true, eq-eqb, ne-eqb}
+use borrow.Author.Tests.{eq-eqb, ne-eqb}
 use lib.Dec.{eqb}
 use lib.ListN.{length, getD, set, replicate, length-set}
-use Rattle.lists.specs.Joined.{_∈_}
+use Rattle.lists.specs.Joined.{_∈_, upFrom}
 use Rattle.lists.specs.Searched.{someOf, someBelow, times, repeats}
 use Rattle.lists.proofs.Members.{∈-upFrom}
-use Rattle.lists.proofs.Places.{getD-same, map-upFrom, upFrom-step, set-le}
-use Rattle.lists.proofs.Tests.{and-left, and-right, or-true, or-left, or-right, both-ways, some-never, some-stamped, below-at, below-hit, below-miss, below-none}
+use Rattle.lists.proofs.Places.{getD-same, upFrom-step, set-le}
+use Rattle.lists.proofs.Tests.{or-true, or-left, or-right, some-never, some-stamped, below-at, below-hit, below-miss, below-none}
 use Rattle.lists.proofs.Linked.{met-inside}
-use Rattle.grammar.specs.Layout.{nonterminals, words, rules, headOf, aOf, bOf, nextOf}
+use Rattle.grammar.specs.Layout.{nonterminals, rules, headOf, aOf, bOf, nextOf}
 use Rattle.grammar.specs.Chains.{Rule, word, pair, ruleOf, chainNumbers, rest, chain, wordsOf, pairsOf}
-use Rattle.grammar.specs.Refusals.{alike, twins, repeated, Accepted}
-use Rattle.grammar.specs.Checks.{Readable, pairNumber, entryAt, entriesFrom, entries, Stamping, Stamped}
-use Rattle.grammar.specs.Index.{wordFrom, pairFrom, beginsAt, Indexed}
-use Rattle.grammar.proofs.Acceptance.{known, readable}
-use Rattle.grammar.proofs.Walks.{rule-kind, rule-word, rule-pair, readable-inside}
-use Rattle.grammar.proofs.Indexing.{words-∈, pairs-∈}
+use Rattle.grammar.specs.Refusals.{alike, twins, repeated}
+use Rattle.grammar.specs.Checks.{Readable, beginsAt, entryAt, entriesFrom, entries, Stamping, Stamped}
+use Rattle.grammar.specs.Rules.{leftAt, rightAt, pairFrom, wordsIn, pairsIn}
+use Rattle.grammar.specs.Links.{both}
+use Rattle.grammar.specs.Entering.{Sorted}
+use Rattle.grammar.proofs.Ruling.{both-tells}
+use Rattle.grammar.proofs.Walks.{rule-kind, rule-word, rule-pair, readable-inside, words-∈, pairs-∈}
+
+-- the two nonterminals of a pair rule as one number
+abbrev pairNumber : ℕ × ℕ → ℕ
+pairNumber q = both (q .0) (q .1)
 
 -- ---- rules that are alike, by kind
-
--- the nonterminals of a pair rule are below 32, so their number tells them
-same-pair : (a b a′ b′ : ℕ) → b < 32 → b′ < 32 → (eqb a a′ && eqb b b′) ≡ eqb (pairNumber (a, b)) (pairNumber (a′, b′))
-same-pair a b a′ b′ h h′ =
-    both-ways (eqb a a′ && eqb b b′) (eqb (pairNumber (a, b)) (pairNumber (a′, b′)))
-    (λ e.
-    let ea = eqb-true a a′ (and-left (eqb a a′) (eqb b b′) e) in
-    let eb = eqb-true b b′ (and-right (eqb a a′) (eqb b b′) e) in
-    eq-eqb (pairNumber (a, b)) (pairNumber (a′, b′)) (omega arith))
-    (λ e.
-    let q : 32 * a + b ≡ 32 * a′ + b′ = eqb-true (pairNumber (a, b)) (pairNumber (a′, b′)) e in
-    rw (eq-eqb a a′ (omega arith), eq-eqb b b′ (omega arith)))
 
 or-past : (a b c : Bool) → (a || (b || c)) ≡ (b || (a || c))
 or-past true b c = sym (or-true b true refl)
@@ -100,7 +93,7 @@ module _ (g : List ℕ) (ok : Readable g) where
               | inl t ↦ rw (rule-pair g r (q .0), rule-word g s (t .0), q .0, t .0)
               | inr t ↦
                   rw (rule-pair g r (q .0), rule-pair g s (t .0), q .0, t .0)
-                  (same-pair (aOf g r) (bOf g r) (aOf g s) (bOf g s) (omega arith) (omega arith))
+                  (sym (both-tells (aOf g r) (bOf g r) (aOf g s) (bOf g s) (omega arith) (omega arith)))
             ]
       ]
 
@@ -123,53 +116,53 @@ abbrev stamped : (stamps : List ℕ) (stamp x : ℕ) → Bool
 stamped stamps stamp x = eqb (getD stamps x 0) stamp
 
 -- before the entry i: two of the entries are the same where one ahead finds its stamp, or two ahead are the same
-pub record Scanning (pairs : Bool) (index : List ℕ) (a stamp : ℕ) (stamps : List ℕ) (i : ℕ) : Type 0 where
-  pub reached : beginsAt pairs index a ≤ i
+pub record Scanning (pairs : Bool) (t : List (List ℕ)) (a stamp : ℕ) (stamps : List ℕ) (i : ℕ) : Type 0 where
+  pub reached : beginsAt pairs t a ≤ i
   pub long : length stamps ≡ 1024
   pub used : (q : ℕ) → getD stamps q 0 ≤ stamp
-  pub found : repeats (entries pairs index a)
-      ≡ (someOf (stamped stamps stamp) (entriesFrom pairs index a i) || repeats (entriesFrom pairs index a i))
+  pub found : repeats (entries pairs t a)
+      ≡ (someOf (stamped stamps stamp) (entriesFrom pairs t a i) || repeats (entriesFrom pairs t a i))
 
-module _ {pairs : Bool} {index : List ℕ} {a stamp : ℕ} where
-  pub scan-start : {stamps : List ℕ} {i : ℕ} → Stamping pairs index a stamp stamps → i ≡ beginsAt pairs index a
-      → Scanning pairs index a stamp stamps i
+module _ {pairs : Bool} {t : List (List ℕ)} {a stamp : ℕ} where
+  pub scan-start : {stamps : List ℕ} {i : ℕ} → Stamping pairs t a stamp stamps → i ≡ beginsAt pairs t a
+      → Scanning pairs t a stamp stamps i
   scan-start {stamps} s e =
       let new : (x : ℕ) → stamped stamps stamp x ≡ false = λ x. ne-eqb (getD stamps x 0) stamp (λ z. omega (arith, s .fresh x)) in
       record {
         reached = omega arith;
         long = s .long;
         used = λ q. omega (arith, s .fresh q);
-        found = rw (e, some-never (stamped stamps stamp) (entries pairs index a) new);
+        found = rw (e, some-never (stamped stamps stamp) (entries pairs t a) new);
       }
 
-  module _ {stamps : List ℕ} {i to : ℕ} (v : Scanning pairs index a stamp stamps i) (last : to ≡ beginsAt pairs index (a + 1)) where
-    pub scan-end : to ≤ i → Stamped pairs index a stamp stamps false
+  module _ {stamps : List ℕ} {i to : ℕ} (v : Scanning pairs t a stamp stamps i) (last : to ≡ beginsAt pairs t (a + 1)) where
+    pub scan-end : to ≤ i → Stamped pairs t a stamp stamps false
     scan-end h =
-        let e : beginsAt pairs index (a + 1) - i ≡ 0 = omega arith in
+        let e : beginsAt pairs t (a + 1) - i ≡ 0 = omega arith in
         record { same = sym (v .found ∙ rw e); long = v .long; used = v .used }
 
-    module _ (h : i < to) {e : ℕ} (here : e ≡ entryAt pairs index i) where
-      pub scan-low : {stamps₀ : List ℕ} → Stamping pairs index a stamp stamps₀ → e < 1024
+    module _ (h : i < to) {e : ℕ} (here : e ≡ entryAt pairs t i) where
+      pub scan-low : {stamps₀ : List ℕ} → Stamping pairs t a stamp stamps₀ → e < 1024
       scan-low s =
-          let from = beginsAt pairs index a in
-          let count = beginsAt pairs index (a + 1) - from in
-          rw here (s .low (entryAt pairs index i) (Memᴰ·map (entryAt pairs index) (∈-upFrom i from count (v .reached) (omega (arith, v .reached)))))
+          let from = beginsAt pairs t a in
+          let count = beginsAt pairs t (a + 1) - from in
+          rw here (s .low (entryAt pairs t i) (Memᴰ·map (entryAt pairs t) (∈-upFrom i from count (v .reached) (omega (arith, v .reached)))))
 
       module _ (low : e < 1024) where
         -- what the scan finds at the entry, and then ahead once its number is stamped
-        scan-on : repeats (entries pairs index a)
+        scan-on : repeats (entries pairs t a)
             ≡ (eqb (getD stamps e 0) stamp
-            || (someOf (stamped (set stamps e stamp) stamp) (entriesFrom pairs index a (i + 1)) || repeats (entriesFrom pairs index a (i + 1))))
+            || (someOf (stamped (set stamps e stamp) stamp) (entriesFrom pairs t a (i + 1)) || repeats (entriesFrom pairs t a (i + 1))))
         scan-on =
-            let next : entriesFrom pairs index a i ≡ e ∷ entriesFrom pairs index a (i + 1)
-            = ap (map (entryAt pairs index)) (upFrom-step i (beginsAt pairs index (a + 1)) (omega arith)) ∙ rw here in
+            let next : entriesFrom pairs t a i ≡ e ∷ entriesFrom pairs t a (i + 1)
+            = ap (map (entryAt pairs t)) (upFrom-step i (beginsAt pairs t (a + 1)) (omega arith)) ∙ rw here in
             v .found
-            ∙ rw (next, some-stamped (λ x. x) stamps e stamp (entriesFrom pairs index a (i + 1)) (omega (arith, v .long))) (simp or-assoc)
+            ∙ rw (next, some-stamped (λ x. x) stamps e stamp (entriesFrom pairs t a (i + 1)) (omega (arith, v .long))) (simp or-assoc)
 
-        pub scan-hit : getD stamps e 0 ≡ stamp → Stamped pairs index a stamp stamps true
+        pub scan-hit : getD stamps e 0 ≡ stamp → Stamped pairs t a stamp stamps true
         scan-hit z = record { same = sym (scan-on ∙ rw (eq-eqb (getD stamps e 0) stamp z)); long = v .long; used = v .used }
 
-        pub scan-next : (getD stamps e 0 ≡ stamp → ⊥) → Scanning pairs index a stamp (set stamps e stamp) (i + 1)
+        pub scan-next : (getD stamps e 0 ≡ stamp → ⊥) → Scanning pairs t a stamp (set stamps e stamp) (i + 1)
         scan-next n =
             record {
               reached = omega (arith, v .reached);
@@ -184,25 +177,17 @@ module _ {pairs : Bool} {index : List ℕ} {a stamp : ℕ} where
 abbrev twinned : List ℕ → ℕ → Bool
 twinned g A = twins g (chainNumbers g A)
 
-module _ {g index : List ℕ} {a : ℕ} (ok : Readable g) (x : Indexed g index (nonterminals g)) (inside : a < nonterminals g) where
+module _ {g : List ℕ} {t : List (List ℕ)} {a : ℕ} (ok : Readable g) (x : Sorted g t) (inside : a < nonterminals g) where
   chain-twins : twinned g a ≡ repeatsByKind (chain g a)
   unfolding rest
   chain-twins = twins-by-kind g ok (chainNumbers g a) (λ y m. met-inside (nextOf g) (rules g) (rules g + 1) (headOf g a) m)
 
-  chain-entries : (pairs : Bool) → entries pairs index a ≡ kindOnly pairs (chain g a)
-  chain-entries false =
-      let e : wordFrom index (a + 1) - wordFrom index a ≡ length (wordsOf (chain g a)) = omega (arith, x .word-count a inside) in
-      rw e
-      (map-upFrom (entryAt false index) (λ w. w) (wordFrom index a) (wordsOf (chain g a)) 0 (λ i h. x .words a i inside h)
-      ∙ map-id (wordsOf (chain g a)))
+  chain-entries : (pairs : Bool) → entries pairs t a ≡ kindOnly pairs (chain g a)
+  unfolding wordsIn pairsIn
+  chain-entries false = x .words-are a inside
   chain-entries true =
-      let e : pairFrom index (a + 1) - pairFrom index a ≡ length (pairsOf (chain g a)) = omega (arith, x .pair-count a inside) in
-      rw e
-      (map-upFrom (entryAt true index) pairNumber (pairFrom index a) (pairsOf (chain g a)) (0, 0)
-      (λ i h.
-      let el : 256 + (pairFrom index a + i) ≡ 256 + pairFrom index a + i = omega arith in
-      let er : 512 + (pairFrom index a + i) ≡ 512 + pairFrom index a + i = omega arith in
-      rw (el, er, x .lefts a i inside h, x .rights a i inside h)))
+      sym (map-map pairNumber (λ i. (leftAt t i, rightAt t i)) (upFrom (pairFrom t a) (pairFrom t (a + 1) - pairFrom t a)))
+      ∙ ap (map pairNumber) (x .pairs-are a inside)
 
   kind-low : (pairs : Bool) (y : ℕ) → y ∈ kindOnly pairs (chain g a) → y < 1024
   kind-low false y m = omega (arith, ok .spoken, readable-inside g ok (headOf g a) (words-∈ (chain g a) m))
@@ -212,16 +197,17 @@ module _ {g index : List ℕ} {a : ℕ} (ok : Readable g) (x : Indexed g index (
       omega (arith, ok .sized .few, q .0, q .1, z .2)
 
   pub chain-ready : (pairs : Bool) {stamp : ℕ} {stamps : List ℕ} → length stamps ≡ 1024 → ((q : ℕ) → getD stamps q 0 < stamp)
-      → Stamping pairs index a stamp stamps
+      → Stamping pairs t a stamp stamps
   chain-ready pairs long fresh =
       record {
+        table = x .roomy .long;
         inside = omega (arith, ok .sized .few);
         low = λ y m. kind-low pairs y (rw (chain-entries pairs) at m);
         long = long;
         fresh = fresh;
       }
 
-  chain-said : {pairs : Bool} {stamp : ℕ} {stamps : List ℕ} {found b : Bool} → Stamped pairs index a stamp stamps found → found ≡ b
+  chain-said : {pairs : Bool} {stamp : ℕ} {stamps : List ℕ} {found b : Bool} → Stamped pairs t a stamp stamps found → found ≡ b
       → repeats (kindOnly pairs (chain g a)) ≡ b
   chain-said {pairs} s e = sym (ap repeats (chain-entries pairs)) ∙ sym (s .same) ∙ e
 
@@ -247,35 +233,35 @@ rounds-start g e =
 pub rounds-end : {g stamps : List ℕ} {stamp a : ℕ} → a ≤ 0 → Rounds g stamps stamp a → false ≡ repeated g
 rounds-end {g} {a = a} h w = sym (w .found ∙ below-none (twinned g) a h)
 
-module _ {g index stamps : List ℕ} {stamp a : ℕ} (ok : Readable g) (x : Indexed g index (nonterminals g)) (w : Rounds g stamps stamp a) (some : 0 < a) where
+module _ {g stamps : List ℕ} {t : List (List ℕ)} {stamp a : ℕ} (ok : Readable g) (x : Sorted g t) (w : Rounds g stamps stamp a) (some : 0 < a) where
   inside : a - 1 < nonterminals g
   inside = omega (arith, w .turn, w .fresh 0)
 
   -- before the words, and before the pair rules
-  pub round-words : Stamping false index (a - 1) stamp stamps
+  pub round-words : Stamping false t (a - 1) stamp stamps
   round-words = chain-ready ok x inside false (w .long) (w .fresh)
 
-  pub round-pairs : {mid : List ℕ} {found : Bool} → Stamped false index (a - 1) stamp mid found → Stamping true index (a - 1) (stamp + 1) mid
+  pub round-pairs : {mid : List ℕ} {found : Bool} → Stamped false t (a - 1) stamp mid found → Stamping true t (a - 1) (stamp + 1) mid
   round-pairs s = chain-ready ok x inside true (s .long) (λ q. omega (arith, s .used q))
 
-  pub round-hit : {pairs : Bool} {t : ℕ} {after : List ℕ} {found : Bool} → Stamped pairs index (a - 1) t after found → found ≡ true → true ≡ repeated g
+  pub round-hit : {pairs : Bool} {now : ℕ} {after : List ℕ} {found : Bool} → Stamped pairs t (a - 1) now after found → found ≡ true → true ≡ repeated g
   round-hit {pairs} s e =
       let hit = kind-repeats pairs (chain g (a - 1)) (chain-said ok x inside s e) in
       sym (w .found ∙ below-hit (twinned g) a some (chain-twins ok x inside ∙ hit))
 
-  pub round-next : {mid after : List ℕ} {found found′ : Bool} → Stamped false index (a - 1) stamp mid found → found ≡ false
-      → Stamped true index (a - 1) (stamp + 1) after found′ → found′ ≡ false → Rounds g after (stamp + 2) (a - 1)
-  round-next s e t e′ =
+  pub round-next : {mid after : List ℕ} {found found′ : Bool} → Stamped false t (a - 1) stamp mid found → found ≡ false
+      → Stamped true t (a - 1) (stamp + 1) after found′ → found′ ≡ false → Rounds g after (stamp + 2) (a - 1)
+  round-next s e s′ e′ =
       record {
         turn = omega (arith, w .turn);
-        long = t .long;
-        fresh = λ q. omega (arith, t .used q);
+        long = s′ .long;
+        fresh = λ q. omega (arith, s′ .used q);
         found =
             w .found
-            ∙ below-miss (twinned g) a some (chain-twins ok x inside ∙ rw (chain-said ok x inside s e) (chain-said ok x inside t e′));
+            ∙ below-miss (twinned g) a some (chain-twins ok x inside ∙ rw (chain-said ok x inside s e) (chain-said ok x inside s′ e′));
       }
 
--- ---- an accepted grammar has no word twice on one chain
+-- ---- past 8 no word is twice on one chain
 
 none-times : (x : ℕ) (l : List ℕ) → someOf (eqb x) l ≡ false → times x l ≡ 0
 none-times x [] e = refl
@@ -290,11 +276,10 @@ repeats-once x (y ∷ l) e =
       | no z ↦ rw (ne-eqb x y z) (omega (arith, ahead))
     ]
 
-pub words-once : (g : List ℕ) → Accepted g → (a : ℕ) → a < nonterminals g → (x : ℕ) → times x (wordsOf (chain g a)) ≤ 1
+pub words-once : (g : List ℕ) → Readable g → repeated g ≡ false → (a : ℕ) → a < nonterminals g → (x : ℕ) → times x (wordsOf (chain g a)) ≤ 1
 unfolding repeated rest
-words-once g ok a inside x =
-    let k = known g ok in
-    let none = below-at (twinned g) (nonterminals g) a (k .apart) inside in
-    let kinds = twins-by-kind g (readable g k) (chainNumbers g a) (λ y m. met-inside (nextOf g) (rules g) (rules g + 1) (headOf g a) m) in
+words-once g ok apart a inside x =
+    let none = below-at (twinned g) (nonterminals g) a apart inside in
+    let kinds = twins-by-kind g ok (chainNumbers g a) (λ y m. met-inside (nextOf g) (rules g) (rules g + 1) (headOf g a) m) in
     repeats-once x (wordsOf (chain g a))
     (or-left (repeats (wordsOf (chain g a))) (repeats (kindOnly true (chain g a))) (sym kinds ∙ none))

@@ -9,7 +9,8 @@ use Rattle.lists.specs.Joined.{_∈_, upFrom}
 use Rattle.lists.specs.Searched.{someTo, repeats}
 use Rattle.grammar.specs.Layout.{nonterminals, words, rules}
 use Rattle.grammar.specs.Refusals.{badRule, nextAbove}
-use Rattle.grammar.specs.Index.{beginsAt}
+use Rattle.grammar.specs.Rules.{wordAt, wordFrom, pairFrom}
+use Rattle.grammar.specs.Links.{bothAt}
 
 -- the bytes have n nonterminals and r rules, as few as is allowed, and the size that is right for them
 pub record Sized (g : List ℕ) (n r : ℕ) : Type 0 where
@@ -34,31 +35,33 @@ pub record Finds (g : List ℕ) (rule link : Bool) : Type 0 where
 
 -- ---- 8: rules that are alike
 
--- the two nonterminals of a pair rule as one number
-abbrev pub pairNumber : ℕ × ℕ → ℕ
-pairNumber q = 32 * q .0 + q .1
+-- where the words of a begin, or its pair rules
+abbrev pub beginsAt : (pairs : Bool) (rules : List (List ℕ)) (a : ℕ) → ℕ
+beginsAt false rules a = wordFrom rules a
+beginsAt true rules a = pairFrom rules a
 
--- the entry at i of the index, as one number below 1,024: a word, or the two nonterminals of a pair rule
-abbrev pub entryAt : (pairs : Bool) (index : List ℕ) (i : ℕ) → ℕ
-entryAt false index i = getD index i 0
-entryAt true index i = pairNumber (getD index (256 + i) 0, getD index (512 + i) 0)
+-- the entry at i as one number below 1,024: a word, or the two nonterminals of a pair rule
+abbrev pub entryAt : (pairs : Bool) (rules : List (List ℕ)) (i : ℕ) → ℕ
+entryAt false rules i = wordAt rules i
+entryAt true rules i = bothAt rules i
 
 -- the entries of the nonterminal a, from the one at i on
-abbrev pub entriesFrom : (pairs : Bool) (index : List ℕ) (a i : ℕ) → List ℕ
-entriesFrom pairs index a i = map (entryAt pairs index) (upFrom i (beginsAt pairs index (a + 1) - i))
+abbrev pub entriesFrom : (pairs : Bool) (rules : List (List ℕ)) (a i : ℕ) → List ℕ
+entriesFrom pairs rules a i = map (entryAt pairs rules) (upFrom i (beginsAt pairs rules (a + 1) - i))
 
-abbrev pub entries : (pairs : Bool) (index : List ℕ) (a : ℕ) → List ℕ
-entries pairs index a = entriesFrom pairs index a (beginsAt pairs index a)
+abbrev pub entries : (pairs : Bool) (rules : List (List ℕ)) (a : ℕ) → List ℕ
+entries pairs rules a = entriesFrom pairs rules a (beginsAt pairs rules a)
 
 -- before the entries of a are looked at: none has its stamp
-pub record Stamping (pairs : Bool) (index : List ℕ) (a stamp : ℕ) (stamps : List ℕ) : Type 0 where
+pub record Stamping (pairs : Bool) (rules : List (List ℕ)) (a stamp : ℕ) (stamps : List ℕ) : Type 0 where
+  pub table : 4 ≤ length rules
   pub inside : a < 32
-  pub low : (x : ℕ) → x ∈ entries pairs index a → x < 1024
+  pub low : (x : ℕ) → x ∈ entries pairs rules a → x < 1024
   pub long : length stamps ≡ 1024
   pub fresh : (q : ℕ) → getD stamps q 0 < stamp
 
 -- after it: whether two of them are the same, and there is no later stamp
-pub record Stamped (pairs : Bool) (index : List ℕ) (a stamp : ℕ) (stamps : List ℕ) (found : Bool) : Type 0 where
-  pub same : found ≡ repeats (entries pairs index a)
+pub record Stamped (pairs : Bool) (rules : List (List ℕ)) (a stamp : ℕ) (stamps : List ℕ) (found : Bool) : Type 0 where
+  pub same : found ≡ repeats (entries pairs rules a)
   pub long : length stamps ≡ 1024
   pub used : (q : ℕ) → getD stamps q 0 ≤ stamp

@@ -1,10 +1,12 @@
 pub mod Layout
 pub mod Chains
 pub mod Refusals
-pub mod Checks
+pub mod Rules
+pub mod Links
 pub mod Answers
 pub mod Steps
-pub mod Index
-pub mod Indexing
+pub mod Checks
+pub mod Entering
+pub mod Linking
 pub mod Trees
 pub mod FullList

@@ -5,11 +5,13 @@ ghost use lib.ListN.{length};
 ghost use Rattle.lists.specs.Searched.{someBelow};
 ghost use Rattle.grammar.specs.Layout.{nonterminals};
 ghost use Rattle.grammar.specs.Refusals.{outOfRange, fits, headAbove, repeated};
-ghost use Rattle.grammar.specs.Checks.{Sized, Readable, Finds, entryAt, Stamping, Stamped};
-ghost use Rattle.grammar.specs.Index.{Indexed};
+ghost use Rattle.grammar.specs.Rules.{Roomy};
+ghost use Rattle.grammar.specs.Entering.{Sorted};
+ghost use Rattle.grammar.specs.Checks.{Sized, Readable, Finds, beginsAt, entryAt, Stamping, Stamped};
 ghost use Rattle.grammar.specs.Answers.{refusalNumber, said, checkGrammar, Reads};
-use crate::index;
-use crate::index::wide;
+use crate::entries;
+use crate::rules;
+use crate::rules::wide;
 
 pub enum GrammarRefusal {
     TooShort,
@@ -130,26 +132,37 @@ fn head_above(g: &[u8], n: usize, r: usize) -> bool
     false
 }
 
-// The entry at i of the index, as one number.
-fn entry(index: &[u8; 1024], pairs: bool, i: usize) -> usize
-    requires { ⌜ i < 256 ⌝ }
-    ensures { λ r. ⌜ r ≡ entryAt pairs (now (index .entry)) i ⌝ }
+// Where the words of a begin, or its pair rules.
+fn begins(rules: &[[u8; 256]], pairs: bool, a: usize) -> usize
+    requires { ⌜ (4 ≤ length (now rules)) × (a ≤ 32) ⌝ }
+    ensures { λ r. ⌜ (r ≡ beginsAt pairs (now (rules .entry)) a) × (r < 256) ⌝ }
 {
     if pairs {
-        return 32 * wide(index[256 + i]) + wide(index[512 + i]);
+        return rules::pairs_from(rules, a);
     }
-    wide(index[i])
+    rules::words_from(rules, a)
+}
+
+// The word at i, or the pair rule there, as one number.
+fn entry(rules: &[[u8; 256]], pairs: bool, i: usize) -> usize
+    requires { ⌜ (4 ≤ length (now rules)) × (i < 256) ⌝ }
+    ensures { λ r. ⌜ r ≡ entryAt pairs (now (rules .entry)) i ⌝ }
+{
+    if pairs {
+        return 32 * rules::left_at(rules, i) + rules::right_at(rules, i);
+    }
+    wide(rules::word_at(rules, i))
 }
 
 // Whether two of the words of a are the same, or two of its pair rules: then the second finds the stamp of the first.
-fn some_same(index: &[u8; 1024], pairs: bool, a: usize, stamp: u8, stamps: &mut [u8; 1024]) -> bool
-    requires { ⌜ Stamping pairs (now index) a stamp (now stamps) ⌝ }
-    ensures { λ b. ⌜ Stamped pairs (now (index .entry)) a stamp (now (stamps .exit)) b ⌝ }
+fn some_same(rules: &[[u8; 256]], pairs: bool, a: usize, stamp: u8, stamps: &mut [u8; 1024]) -> bool
+    requires { ⌜ Stamping pairs (now rules) a stamp (now stamps) ⌝ }
+    ensures { λ b. ⌜ Stamped pairs (now (rules .entry)) a stamp (now (stamps .exit)) b ⌝ }
 {
-    let to = index::begins(index, pairs, a + 1);
-    let mut i = index::begins(index, pairs, a);
+    let to = begins(rules, pairs, a + 1);
+    let mut i = begins(rules, pairs, a);
     while i < to {
-        let e = entry(index, pairs, i);
+        let e = entry(rules, pairs, i);
         if stamps[e] == stamp {
             return true;
         }
@@ -160,8 +173,8 @@ fn some_same(index: &[u8; 1024], pairs: bool, a: usize, stamp: u8, stamps: &mut 
 }
 
 // 8.
-fn some_twins(g: &[u8], index: &[u8; 1024]) -> bool
-    requires { ⌜ Readable (now g) × Indexed (now g) (now index) (nonterminals (now g)) ⌝ }
+fn some_twins(g: &[u8], rules: &[[u8; 256]]) -> bool
+    requires { ⌜ Readable (now g) × Sorted (now g) (now rules) ⌝ }
     ensures { λ b. ⌜ b ≡ repeated (now (g .entry)) ⌝ }
 {
     let mut stamps = [0u8; 1024];
@@ -169,10 +182,10 @@ fn some_twins(g: &[u8], index: &[u8; 1024]) -> bool
     let mut a = wide(g[0]);
     while 0 < a {
         a -= 1;
-        if some_same(index, false, a, stamp, &mut stamps) {
+        if some_same(rules, false, a, stamp, &mut stamps) {
             return true;
         }
-        if some_same(index, true, a, stamp + 1, &mut stamps) {
+        if some_same(rules, true, a, stamp + 1, &mut stamps) {
             return true;
         }
         stamp += 2;
@@ -180,10 +193,10 @@ fn some_twins(g: &[u8], index: &[u8; 1024]) -> bool
     false
 }
 
-// The refusals in their order. Past the last of them the index is there, in a table that may hold anything before.
-pub fn read(g: &[u8], index: &mut [u8; 1024]) -> GrammarAnswer
-    requires { ⌜ length (now index) ≡ 1024 ⌝ }
-    ensures { λ r. ⌜ Reads (now (g .entry)) (now (index .exit)) r ⌝ }
+// The refusals in their order. Past the last of them the rules are in the table, which may hold anything before.
+pub fn read(g: &[u8], rules: &mut [[u8; 256]]) -> GrammarAnswer
+    requires { ⌜ Roomy (now rules) ⌝ }
+    ensures { λ r. ⌜ Reads (now (g .entry)) (now (rules .entry)) (now (rules .exit)) r ⌝ }
 {
     if g.len() < 4 {
         return GrammarAnswer::Refused(GrammarRefusal::TooShort);
@@ -206,14 +219,14 @@ pub fn read(g: &[u8], index: &mut [u8; 1024]) -> GrammarAnswer
     if head_above(g, n, r) {
         return GrammarAnswer::Refused(GrammarRefusal::BadLink);
     }
-    if index::build(g, index) {
+    if entries::build(g, rules) {
         return GrammarAnswer::Refused(GrammarRefusal::MetTwice);
     }
     // fewer rules are met than there are
-    if index::begins(index, false, n) + index::begins(index, true, n) < r {
+    if rules::words_from(rules, n) + rules::pairs_from(rules, n) < r {
         return GrammarAnswer::Refused(GrammarRefusal::OnNoChain);
     }
-    if some_twins(g, index) {
+    if some_twins(g, rules) {
         return GrammarAnswer::Refused(GrammarRefusal::Repeated);
     }
     GrammarAnswer::Accepted {
@@ -225,6 +238,6 @@ pub fn read(g: &[u8], index: &mut [u8; 1024]) -> GrammarAnswer
 pub fn check(g: &[u8]) -> GrammarAnswer
     ensures { λ r. ⌜ said r ≡ checkGrammar (now (g .entry)) ⌝ }
 {
-    let mut index = [0u8; 1024];
-    read(g, &mut index)
+    let mut rules = [[0u8; 256]; 4];
+    read(g, &mut rules)
 }

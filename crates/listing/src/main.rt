@@ -11,6 +11,7 @@ use sampling::draw;
 use sampling::draw::DrawAnswer;
 use sampling::prepare;
 use sampling::prepare::Sampled;
+use sampling::question::Question;
 use sampling::skip::DrawNumber;
 
 fn wide(b: u8) -> u64 {
@@ -122,20 +123,19 @@ fn print_refusal(k: u8) {
 
 // The line of draw q. No draw below left is refused.
 fn put_drawn(
-    g: &[u8],
-    index: &[u8; 1024],
-    plain: &[u64; 544],
+    rules: &[[u8; 256]],
+    totals: &[[u64; 32]],
     n: usize,
     heard: &[u64],
     q: u64,
     out: &mut [u8; 4096],
     at: usize,
 ) -> usize
-    requires { ⌜ DrawSought (now g) (now index) (now plain) n (now heard) × (at ≤ 3584) ⌝ }
+    requires { ⌜ DrawSought (now rules) (now totals) n (now heard) × (at ≤ 3584) ⌝ }
     ensures { λ r. ⌜ r ≤ 4096 ⌝ }
 {
     let mut words = [0u8; 16];
-    let a = draw::draw_prepared(g, index, plain, n, heard, DrawNumber(q), &mut words);
+    let a = draw::draw_prepared(rules, totals, n, heard, DrawNumber(q), &mut words);
     match a {
         DrawAnswer::Drawn(_, d) => put_draw(out, at, q, d.0, &words[0..n]),
         _ => at,
@@ -143,50 +143,46 @@ fn put_drawn(
 }
 
 // A line for each draw below `count`.
-fn print_draws(
-    g: &[u8],
-    index: &[u8; 1024],
-    plain: &[u64; 544],
-    n: usize,
-    heard: &[u64],
-    count: u64,
-)
-    requires { ⌜ DrawSought (now g) (now index) (now plain) n (now heard) ⌝ }
+fn print_draws(rules: &[[u8; 256]], totals: &[[u64; 32]], n: usize, heard: &[u64], count: u64)
+    requires { ⌜ DrawSought (now rules) (now totals) n (now heard) ⌝ }
 {
     let mut out = [0u8; 4096];
     let mut at = 0;
     let mut q = 0;
     while q < count {
         let from = make_room(&out, at);
-        at = put_drawn(g, index, plain, n, heard, q, &mut out, from);
+        at = put_drawn(rules, totals, n, heard, q, &mut out, from);
         q += 1;
     }
     flush(&out, at);
 }
 
 // The figures, and a line for each draw, none past draw 999.
-fn print_list(g: &[u8], index: &[u8; 1024], plain: &[u64; 544], n: usize, heard: &[u64])
-    requires { ⌜ DrawSought (now g) (now index) (now plain) n (now heard) ⌝ }
+fn print_list(rules: &[[u8; 256]], totals: &[[u64; 32]], n: usize, heard: &[u64])
+    requires { ⌜ DrawSought (now rules) (now totals) n (now heard) ⌝ }
 {
-    let total = unrank::total(g, plain, n);
+    let total = unrank::total(rules, totals, n);
     let count = heard.len() as u64;
     let left = total - count;
     print_figures(n as u64, total, count, left);
     if left < 1000 {
-        print_draws(g, index, plain, n, heard, left);
+        print_draws(rules, totals, n, heard, left);
     } else {
-        print_draws(g, index, plain, n, heard, 1000);
+        print_draws(rules, totals, n, heard, 1000);
     }
 }
 
 fn list(n: u64, g: &[u8], h: &[u8]) {
-    let mut index = [0u8; 1024];
-    let mut plain = [0u64; 544];
+    let byte_row = [0u8; 256];
+    let mut rules = [byte_row; 4];
+    let row = [0u64; 32];
+    let mut totals = [row; 17];
     let mut numbers = [0u64; 1000];
-    let p = prepare::prepare(g, h, n, &mut index, &mut plain, &mut numbers);
+    let question = Question { length: n };
+    let p = prepare::prepare(g, h, question, &mut rules, &mut totals, &mut numbers);
     match p {
         Sampled::Refused(r) => print_refusal(prepare::refusal_number(r)),
-        Sampled::Ready(k) => print_list(g, &index, &plain, n as usize, &numbers[0..k]),
+        Sampled::Ready(k) => print_list(&rules, &totals, n as usize, &numbers[0..k]),
     }
 }
 

@@ -4,7 +4,11 @@ pub mod Members
 pub mod Places
 pub mod Orders
 pub mod Tests
+pub mod Owners
+pub mod Parts
+pub mod Products
+pub mod Struck
 pub mod Searches
 pub mod Strikes
-pub mod Parts
 pub mod Linked
+pub mod Tables

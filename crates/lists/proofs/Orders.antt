@@ -9,9 +9,9 @@ use native.Mathlib.Omega.{arith}
 use native.Mathlib.Decide.{decLt}
 use lib.ListN.{length, getD, take}
 use lib.Seq.{length-take-le}
-use Rattle.lists.specs.Joined.{_∈_, concatMap, combine}
+use Rattle.lists.specs.Joined.{_∈_, concatMap, combine, upFrom}
 use Rattle.lists.specs.Ordered.{Pairwise, none, more, Distinct, Exactly}
-use Rattle.lists.proofs.Members.{getD-∈, concat-∈, combine-∈}
+use Rattle.lists.proofs.Members.{getD-∈, concat-∈, combine-∈, upFrom-∈}
 
 module _ {X : Type 0} where
   pub pairwise-append : (R : X → X → Type 0) (a b : List X) → Pairwise R a → Pairwise R b
@@ -99,6 +99,10 @@ module _ {X Y Z : Type 0} where
       let p = Memᴰ·of-map (f x) r ma in
       let q = combine-∈ f l r mb in
       rw (← p .2, ← q .4) (c x (q .0) (List·Memᴰ·head refl) (List·Memᴰ·tail (q .2)) (g (q .0) (q .2)) (p .0) (q .1)))
+
+pub upFrom-rising : (k n : ℕ) → Pairwise _<_ (upFrom k n)
+upFrom-rising k zero = none
+upFrom-rising k (suc n) = more {x = k} (λ y m. upFrom-∈ (suc k) n m .0) (upFrom-rising (suc k) n)
 
 -- an order in which nothing stands before itself, and no two before each other
 module _ {X : Type 0} (R : X → X → Type 0) (asym : (x y : X) → R x y → R y x → ⊥) (irrefl : (x y : X) → R x y → x ≢ y) where

@@ -1,72 +1,102 @@
--- Looking for an element part by part: a part is gone through where it has too few elements that pass, and entered where it has enough.
+-- Looking for a ticket's owner part by part: a part whose total is at most what is left of the ticket is passed, and the first whose total is
+-- above it is entered. What owns the ticket in the part owns it in the whole.
 -- Assumes nothing.
 use mathlib.Core.Path.{_≡_, refl, sym, ap, _∙_}
-use mathlib.Core.Bool.{Bool}
-use mathlib.Core.List.{List, [], _++_, append-assoc}
+use mathlib.Core.List.{List, [], _∷_, _++_, append-assoc}
 use Prim.Native.Nat.{ℕ, _+_, _-_, _≤_, _<_}
 use native.Mathlib.Omega.{arith}
-use lib.ListN.{length, getD, length-append}
-use lib.Seq.{getD-append-add}
-use Rattle.lists.specs.Searched.{bit, howMany, placeOf}
+use Rattle.lists.specs.Joined.{sumOver, concatMap}
+use Rattle.lists.specs.Tickets.{Owns}
 use Rattle.lists.specs.Parts.{Passed, Part}
-use Rattle.lists.proofs.Sums.{sum-append}
-use Rattle.lists.proofs.Places.{getD-left}
-use Rattle.lists.proofs.Searches.{place-left, place-right, place-lt}
+use Rattle.lists.proofs.Sums.{sum-append, sum-concat, concat-append}
+use Rattle.lists.proofs.Owners.{owns-left, owns-right}
 
 module _ {X : Type 0} where
-  pub many-append : (P : X → Bool) (a b : List X) → howMany P (a ++ b) ≡ howMany P a + howMany P b
-  many-append P a b = sum-append (λ x. bit (P x)) a b
+  pub passed-none : (v u : X → ℕ) (l : List X) (t : ℕ) → Passed v u l l t 0 t
+  passed-none v u l t = record { done = []; whole-is = refl; before-is = refl; left-is = omega arith }
 
-  pub passed-none : (P : X → Bool) (l : List X) (d : ℕ) → Passed P l l d 0 d
-  passed-none P l d = record { done = []; whole-is = refl; before-is = refl; left-is = omega arith }
+module _ {X : Type 0} {v u : X → ℕ} {whole rest : List X} {t before left : ℕ} (p : Passed v u whole rest t before left) where
+  -- what is passed and what is to come make the whole
+  pub passed-size : before + sumOver u rest ≡ sumOver u whole
+  passed-size = omega (arith, ap (sumOver u) (p .whole-is), sum-append u (p .done) rest, p .before-is)
 
-module _ {X : Type 0} {P : X → Bool} {whole rest : List X} {d before left : ℕ} (p : Passed P whole rest d before left) where
-  -- how much is gone through and how much is not
-  pub passed-size : before + length rest ≡ length whole
-  passed-size = omega (arith, ap length (p .whole-is), length-append (p .done) rest, p .before-is)
+  pub passed-many : left + sumOver v whole ≡ t + sumOver v rest
+  passed-many = omega (arith, ap (sumOver v) (p .whole-is), sum-append v (p .done) rest, p .left-is)
 
-  pub passed-many : left + howMany P whole ≡ d + howMany P rest
-  passed-many = omega (arith, ap (howMany P) (p .whole-is), many-append P (p .done) rest, p .left-is)
+  -- what owns it in the rest owns it in the whole
+  pub passed-owns : {x : X} {n o : ℕ} → Owns v u rest left x n o → Owns v u whole t x (before + n) o
+  passed-owns {x} {n} {o} r =
+      let e : t - sumOver v (p .done) ≡ left = omega (arith, p .left-is) in
+      rw (p .whole-is, p .before-is) (owns-right (p .done) rest (omega (arith, p .left-is)) (rw e r))
 
-module _ {X : Type 0} {P : X → Bool} {whole : List X} {d before left : ℕ} (a b : List X) (p : Passed P whole (a ++ b) d before left) where
-  -- one part more is gone through
-  pub passed-more : (x y : ℕ) → x ≡ before + length a → y + howMany P a ≡ left → Passed P whole b d x y
+module _ {X : Type 0} {v u : X → ℕ} {whole : List X} {t before left : ℕ} (a b : List X) (p : Passed v u whole (a ++ b) t before left) where
+  -- one part more is passed
+  pub passed-more : (x y : ℕ) → x ≡ before + sumOver u a → y + sumOver v a ≡ left → Passed v u whole b t x y
   passed-more x y e f =
       record {
         done = p .done ++ a;
         whole-is = p .whole-is ∙ sym (append-assoc (p .done) a b);
-        before-is = omega (arith, p .before-is, length-append (p .done) a);
-        left-is = omega (arith, p .left-is, many-append P (p .done) a);
+        before-is = omega (arith, p .before-is, sum-append u (p .done) a);
+        left-is = omega (arith, p .left-is, sum-append v (p .done) a);
       }
 
-  -- the element lies in the next part
-  pub passed-part : (z : X) → left < howMany P a → Part P z whole a d before left
-  passed-part z h =
-      let q : howMany P (p .done) ≤ d = omega (arith, p .left-is) in
-      let l : d - howMany P (p .done) ≡ left = omega (arith, p .left-is) in
-      record {
-        some = omega (arith, passed-many p, many-append P a b);
-        inside = h;
-        size = omega (arith, passed-size p, length-append a b);
-        place = rw (p .whole-is) (place-right P (p .done) (a ++ b) d q ∙ rw (l, place-left P a b left h, p .before-is));
-        entry = λ e k. rw (p .whole-is, p .before-is) (getD-append-add (p .done) (a ++ b) e z ∙ getD-left a b e z k);
-      }
+  -- the next part holds the ticket
+  pub passed-part : left < sumOver v a → Part v u whole a t before left
+  passed-part h = record { rest = b; passed = p; inside = h }
 
--- a part of a part
-module _ {X : Type 0} {P : X → Bool} {z : X} {whole part inner : List X} {d before left before′ left′ : ℕ} (p : Part P z whole part d before left) (q : Part P z part inner left before′ left′) where
-  pub part-within : (x : ℕ) → x ≡ before + before′ → Part P z whole inner d x left′
-  part-within x e =
+module _ {X : Type 0} {v u : X → ℕ} {whole : List X} {t before left : ℕ} (x : X) (rest : List X) (p : Passed v u whole (x ∷ rest) t before left) where
+  -- the next element owns the ticket
+  pub passed-here : left < v x → Owns v u whole t x before left
+  passed-here h =
+      let e : before + 0 ≡ before = omega arith in
+      rw e at (passed-owns p (record { before = []; after = rest; list = refl; ticket = omega arith; own = h; place = refl }))
+
+  -- or it is passed
+  pub passed-over : v x ≤ left → Passed v u whole rest t (before + u x) (left - v x)
+  passed-over h = passed-more (x ∷ []) rest p (before + u x) (left - v x) (omega arith) (omega arith)
+
+module _ {X : Type 0} {v u : X → ℕ} {whole part : List X} {t before left : ℕ} (p : Part v u whole part t before left) where
+  pub part-size : before + sumOver u part ≤ sumOver u whole
+  part-size = omega (arith, passed-size (p .passed), sum-append u part (p .rest))
+
+  pub part-total : sumOver v part ≤ sumOver v whole
+  part-total = omega (arith, passed-many (p .passed), sum-append v part (p .rest), p .passed .left-is)
+
+  pub part-some : t < sumOver v whole
+  part-some = omega (arith, passed-many (p .passed), sum-append v part (p .rest), p .inside)
+
+  -- what owns it in the part owns it in the whole
+  pub part-owns : {x : X} {n o : ℕ} → Owns v u part left x n o → Owns v u whole t x (before + n) o
+  part-owns r = passed-owns (p .passed) (owns-left part (p .rest) r)
+
+  -- a part of a part
+  pub part-within : {inner : List X} {before′ left′ : ℕ} → Part v u part inner left before′ left′ → (x : ℕ) → x ≡ before + before′ → Part v u whole inner t x left′
+  part-within {inner} q x e =
       record {
-        some = p .some;
+        rest = q .rest ++ p .rest;
+        passed = record {
+          done = p .passed .done ++ q .passed .done;
+          whole-is =
+              p .passed .whole-is
+              ∙ ap (λ (l : List X). p .passed .done ++ (l ++ p .rest)) (q .passed .whole-is)
+              ∙ ap (λ (l : List X). p .passed .done ++ l) (append-assoc (q .passed .done) (inner ++ q .rest) (p .rest) ∙ ap (λ (l : List X). q .passed .done ++ l) (append-assoc inner (q .rest) (p .rest)))
+              ∙ sym (append-assoc (p .passed .done) (q .passed .done) (inner ++ (q .rest ++ p .rest)));
+          before-is = omega (arith, p .passed .before-is, q .passed .before-is, sum-append u (p .passed .done) (q .passed .done));
+          left-is = omega (arith, p .passed .left-is, q .passed .left-is, sum-append v (p .passed .done) (q .passed .done));
+        };
         inside = q .inside;
-        size = omega (arith, p .size, q .size);
-        place = omega (arith, p .place, q .place);
-        entry = λ i k.
-            let r : x + i ≡ before + (before′ + i) = omega arith in
-            rw r (p .entry (before′ + i) (omega (arith, q .size)) ∙ q .entry i k);
       }
 
-module _ {X : Type 0} {P : X → Bool} {z : X} {whole part : List X} {d before left : ℕ} (p : Part P z whole part d before left) where
-  -- what stands at the place sought
-  pub part-entry : getD whole (placeOf P whole d) z ≡ getD part (placeOf P part left) z
-  part-entry = ap (λ (n : ℕ). getD whole n z) (p .place) ∙ p .entry (placeOf P part left) (place-lt P part left (p .inside))
+module _ {X Y : Type 0} (f : X → List Y) {v u : Y → ℕ} {l : List X} {t : ℕ} {x : X} {n o : ℕ} where
+  -- Each x weighs and measures what the elements of f x do together. Where x owns t, f x is the part that holds t, as the ticket o.
+  pub block-part : Owns (λ x. sumOver v (f x)) (λ x. sumOver u (f x)) l t x n o → Part v u (concatMap f l) (f x) t n o
+  block-part r = record {
+    rest = concatMap f (r .after);
+    passed = record {
+      done = concatMap f (r .before);
+      whole-is = ap (concatMap f) (r .list) ∙ concat-append f (r .before) (x ∷ r .after);
+      before-is = r .place ∙ sym (sum-concat f u (r .before));
+      left-is = omega (arith, r .ticket, sum-concat f v (r .before));
+    };
+    inside = r .own;
+  }

@@ -1,13 +1,14 @@
--- The entry at an index of `++`, replicate, set, map, combine and a run of numbers.
+-- The entry at an index of `++`, replicate, set, map and a run of numbers.
 -- Assumes nothing.
 use mathlib.Core.Path.{_≡_, refl, ap, _∙_}
 use mathlib.Core.List.{List, [], _∷_, _++_, map}
-use Prim.Native.Nat.{ℕ, zero, suc, _+_, _*_, _-_, _≤_, _<_}
+use Prim.Native.Nat.{ℕ, zero, suc, _+_, _-_, _≤_, _<_}
 use native.Mathlib.Omega.{arith}
 use native.Mathlib.Numerals.{add-one}
 use lib.Seq.{getD-append-add}
 use lib.ListN.{length, getD, set, replicate, length-map, List·getD-append}
-use Rattle.lists.specs.Joined.{combine, upFrom}
+use Rattle.lists.specs.Joined.{upFrom}
+use Rattle.lists.proofs.Sums.{length-upFrom}
 
 module _ {X : Type 0} where
   pub getD-left : (a b : List X) (n : ℕ) (d : X) → n < length a → getD (a ++ b) n d ≡ getD a n d
@@ -36,22 +37,18 @@ module _ {X Y : Type 0} where
   getD-map f (a ∷ l) zero x y h = refl
   getD-map f (a ∷ l) (suc n) x y h = getD-map f l n x y (omega arith)
 
-module _ {X Y Z : Type 0} where
-  pub getD-combine-at : (f : X → Y → Z) (l : List X) (r : List Y) (a b : ℕ) (x : X) (y : Y) (z : Z) → a < length l → b < length r
-      → getD (combine f l r) (a * length r + b) z ≡ f (getD l a x) (getD r b y)
-  getD-combine-at f [] r a b x y z h h′ = absurd (omega arith)
-  getD-combine-at f (c ∷ l) r zero b x y z h h′ =
-      let e : 0 * length r + b ≡ b = omega arith in
-      let g : b < length (map (f c) r) = omega (arith, length-map r (f c)) in
-      rw e (getD-left (map (f c) r) (combine f l r) b z g ∙ getD-map (f c) r b y z h′)
-  getD-combine-at f (c ∷ l) r (suc a) b x y z h h′ =
-      let e : suc a * length r + b ≡ length (map (f c) r) + (a * length r + b) = omega (arith, length-map r (f c)) in
-      rw e (getD-append-add (map (f c) r) (combine f l r) (a * length r + b) z ∙ getD-combine-at f l r a b x y z (omega arith) h′)
-
 pub getD-upFrom : (k n i d : ℕ) → i < n → getD (upFrom k n) i d ≡ k + i
 getD-upFrom k zero i d h = absurd (omega arith)
 getD-upFrom k (suc n) zero d h = omega arith
 getD-upFrom k (suc n) (suc i) d h = omega (arith, getD-upFrom (suc k) n i d (omega arith))
+
+-- what f makes of a run of numbers
+module _ {Y : Type 0} (f : ℕ → Y) (k n : ℕ) where
+  pub run-length : length (map f (upFrom k n)) ≡ n
+  run-length = length-map (upFrom k n) f ∙ length-upFrom k n
+
+  pub run-at : (i : ℕ) (d : Y) → i < n → getD (map f (upFrom k n)) i d ≡ f (k + i)
+  run-at i d h = getD-map f (upFrom k n) i 0 d (omega (arith, length-upFrom k n)) ∙ ap f (getD-upFrom k n i 0 h)
 
 module _ {X Y : Type 0} where
   -- what f makes of the places of a list, where it is what g makes of the elements there

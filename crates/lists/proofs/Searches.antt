@@ -1,162 +1,69 @@
--- How many elements pass a test, and the places of those that do, over `++`, map and combine; and counting a list of numbers by its
--- values.
+-- How many elements pass a test, and the places of those that do: what the laws of owners (Owners) say where an element owns one ticket if it
+-- passes, and else none. And counting a list of numbers by its values.
 -- Assumes nothing.
 use mathlib.Core.Path.{_≡_, refl, sym, ap, _∙_}
-use mathlib.Core.Bool.{Bool, true, false, _&&_}
+use mathlib.Core.Bool.{Bool, true, false}
 use mathlib.Core.List.{List, [], _∷_, _++_, map, List·Memᴰ·head, List·Memᴰ·tail}
-use Prim.Native.Nat.{ℕ, zero, suc, _+_, _*_, _-_, _/_, _%_, _≤_, _<_}
+use Prim.Native.Nat.{ℕ, zero, suc, _+_, _≤_, _<_}
 use native.Mathlib.Omega.{arith}
-use native.Mathlib.Nat.{div-add-mod', mod-lt, div-lt-iff-lt-mul}
 use native.Mathlib.Decide.{ℕ-discrete, decLe}
 use borrow.Author.Tests.{eq-eqb, ne-eqb}
 use lib.Dec.{eqb}
-use lib.ListN.{length, getD, set, length-map}
-use lib.Seq.{getD-set-same, getD-set-other}
-use Rattle.lists.specs.Joined.{_∈_, sumOver, concatMap, combine, upFrom}
+use lib.ListN.{length, getD, set, take, drop}
+use lib.Seq.{getD-set-same, getD-set-other, split-at, length-take-le}
+use Rattle.lists.specs.Joined.{_∈_, sumOver, concatMap, upFrom}
 use Rattle.lists.specs.Ordered.{Distinct, none, more}
-use Rattle.lists.specs.Searched.{bit, howMany, placeNext, placeOf, times}
-use Rattle.lists.proofs.Sums.{sum-append, sum-ext, sum-map, sum-combine, sum-plus, sum-const, sum-le, length-upFrom}
-use Rattle.lists.proofs.Tests.{bit-le, bit-and}
+use Rattle.lists.specs.Tickets.{ahead, owner, Owns}
+use Rattle.lists.specs.Searched.{bit, howMany, placeOf, times}
+use Rattle.lists.proofs.Sums.{sum-append, sum-ext, sum-map, sum-plus, sum-const, sum-one, sum-le, sum-single, length-upFrom}
+use Rattle.lists.proofs.Tests.{bit-le}
+use Rattle.lists.proofs.Owners.{owned, owns-place, place-inside, owns-only, owns-ext, ahead-map, owner-at}
 
 -- ---- how many
 
 module _ {X : Type 0} where
-  pub many-ext : (P Q : X → Bool) (l : List X) → ((x : X) → x ∈ l → P x ≡ Q x) → howMany P l ≡ howMany Q l
-  many-ext P Q l h = sum-ext (λ x. bit (P x)) (λ x. bit (Q x)) l (λ x m. ap bit (h x m))
-
-  pub many-le : (P : X → Bool) (l : List X) → howMany P l ≤ length l
-  many-le P l = omega (arith, sum-le (λ x. bit (P x)) (λ x. 1) l (λ x m. bit-le (P x)), sum-const 1 l)
-
-  pub many-never : (l : List X) → howMany (λ x. false) l ≡ 0
-  many-never l = omega (arith, sum-const 0 l)
-
   -- an element that passes is one of them
   pub many-at : (P : X → Bool) (l : List X) (i : ℕ) (z : X) → i < length l → P (getD l i z) ≡ true → 1 ≤ howMany P l
   many-at P [] i z h e = absurd (omega arith)
   many-at P (x ∷ l) zero z h e = rw e (omega arith)
   many-at P (x ∷ l) (suc i) z h e = omega (arith, many-at P l i z (omega arith) e)
 
-module _ {X Y Z : Type 0} where
-  pub many-combine : (f : X → Y → Z) (P : Z → Bool) (p : X → Bool) (q : Y → Bool) (l : List X) (r : List Y)
-      → ((x : X) → x ∈ l → (y : Y) → y ∈ r → P (f x y) ≡ p x && q y) → howMany P (combine f l r) ≡ howMany p l * howMany q r
-  many-combine f P p q l r h =
-      sum-combine f (λ z. bit (P z)) (λ x. bit (p x)) (λ y. bit (q y)) l r (λ x mx y my. ap bit (h x mx y my) ∙ bit-and (p x) (q y))
-
 -- ---- the place of one that passes
 
-left-go : (b : Bool) (n m : ℕ → ℕ) (c d : ℕ) → ((e : ℕ) → e < c → n e ≡ m e) → d < bit b + c → placeNext b n d ≡ placeNext b m d
-left-go true n m c zero ih h = refl
-left-go true n m c (suc d) ih h = ap suc (ih d (omega arith))
-left-go false n m c d ih h = ap suc (ih d (omega arith))
-
-right-go : (b : Bool) (n m : ℕ → ℕ) (k c d : ℕ) → ((e : ℕ) → c ≤ e → n e ≡ k + m (e - c)) → bit b + c ≤ d → placeNext b n d ≡ suc k + m (d - (bit b + c))
-right-go true n m k c zero ih h = absurd (omega arith)
-right-go true n m k c (suc d) ih h =
-    let e : suc d - (1 + c) ≡ d - c = omega arith in
-    rw e (omega (arith, ih d (omega arith)))
-right-go false n m k c d ih h =
-    let e : d - (0 + c) ≡ d - c = omega arith in
-    rw e (omega (arith, ih d (omega arith)))
-
-lt-go : (b : Bool) (n : ℕ → ℕ) (k c d : ℕ) → ((e : ℕ) → e < c → n e < k) → d < bit b + c → placeNext b n d < suc k
-lt-go true n k c zero ih h = omega arith
-lt-go true n k c (suc d) ih h = omega (arith, ih d (omega arith))
-lt-go false n k c d ih h = omega (arith, ih d (omega arith))
-
-same-go : (b : Bool) (n m : ℕ → ℕ) (d : ℕ) → ((e : ℕ) → n e ≡ m e) → placeNext b n d ≡ placeNext b m d
-same-go true n m zero h = refl
-same-go true n m (suc d) h = ap suc (h d)
-same-go false n m d h = ap suc (h d)
+bit-true : (b : Bool) → 0 < bit b → b ≡ true
+bit-true true h = refl
+bit-true false h = absurd (omega arith)
 
 module _ {X : Type 0} where
-  pub place-left : (P : X → Bool) (a b : List X) (d : ℕ) → d < howMany P a → placeOf P (a ++ b) d ≡ placeOf P a d
-  place-left P [] b d h = absurd (omega arith)
-  place-left P (x ∷ a) b d h = left-go (P x) (placeOf P (a ++ b)) (placeOf P a) (howMany P a) d (place-left P a b) h
-
-  pub place-right : (P : X → Bool) (a b : List X) (d : ℕ) → howMany P a ≤ d → placeOf P (a ++ b) d ≡ length a + placeOf P b (d - howMany P a)
-  place-right P [] b d h = let e : d - 0 ≡ d = omega arith in rw e (omega arith)
-  place-right P (x ∷ a) b d h = right-go (P x) (placeOf P (a ++ b)) (placeOf P b) (length a) (howMany P a) d (place-right P a b) h
-
   pub place-lt : (P : X → Bool) (l : List X) (d : ℕ) → d < howMany P l → placeOf P l d < length l
   place-lt P [] d h = absurd (omega arith)
-  place-lt P (x ∷ l) d h = lt-go (P x) (placeOf P l) (length l) (howMany P l) d (place-lt P l) h
-
-  pub place-ext : (P Q : X → Bool) (l : List X) → ((x : X) → x ∈ l → P x ≡ Q x) → (d : ℕ) → placeOf P l d ≡ placeOf Q l d
-  place-ext P Q [] h d = refl
-  place-ext P Q (x ∷ l) h d =
-      rw (h x (List·Memᴰ·head refl)) (same-go (Q x) (placeOf P l) (placeOf Q l) d (place-ext P Q l (λ y m. h y (List·Memᴰ·tail m))))
-
-  hit-go : (P : X → Bool) (x : X) (l : List X) (z : X) (b : Bool) (d : ℕ) → P x ≡ b
-      → ((e : ℕ) → e < howMany P l → P (getD l (placeOf P l e) z) ≡ true) → d < bit b + howMany P l
-      → P (getD (x ∷ l) (placeNext b (placeOf P l) d) z) ≡ true
-  hit-go P x l z true zero e ih h = e
-  hit-go P x l z true (suc d) e ih h = ih d (omega arith)
-  hit-go P x l z false d e ih h = ih d (omega arith)
+  place-lt P (x ∷ l) d h =
+      let r = owned {v = λ y. bit (P y)} {u = λ y. 1} (x ∷ l) d x h in
+      omega (arith, place-inside r, sum-one l)
 
   -- what stands there passes
   pub place-hit : (P : X → Bool) (l : List X) (d : ℕ) (z : X) → d < howMany P l → P (getD l (placeOf P l d) z) ≡ true
-  place-hit P [] d z h = absurd (omega arith)
-  place-hit P (x ∷ l) d z h = hit-go P x l z (P x) d refl (λ e k. place-hit P l e z k) h
-
-  only-go : (P : X → Bool) (l : List X) (i : ℕ) (z : X) (b : Bool) → bit b + howMany P l ≡ 1 → i < length l → P (getD l i z) ≡ true
-      → (howMany P l ≡ 1 → i ≡ placeOf P l 0) → suc i ≡ placeNext b (placeOf P l) 0
-  only-go P l i z true o h e ih = absurd (omega (arith, many-at P l i z h e))
-  only-go P l i z false o h e ih = ap suc (ih (omega arith))
+  place-hit P l d z h =
+      let r = owned {v = λ x. bit (P x)} {u = λ x. 1} l d z h in
+      ap P (sym (owner-at (λ x. bit (P x)) l d z)) ∙ bit-true (P (owner (λ x. bit (P x)) l d z)) (omega (arith, r .own))
 
   -- where just one element passes, that is its place
   pub place-only : (P : X → Bool) (l : List X) (i : ℕ) (z : X) → howMany P l ≡ 1 → i < length l → P (getD l i z) ≡ true → i ≡ placeOf P l 0
-  place-only P [] i z o h e = absurd (omega arith)
-  place-only P (x ∷ l) zero z o h e = rw e
-  place-only P (x ∷ l) (suc i) z o h e = only-go P l i z (P x) o (omega arith) e (λ c. place-only P l i z c (omega arith) e)
-
-  -- where all pass, every place is its own
-  pub place-all : (P : X → Bool) (l : List X) (d : ℕ) → ((x : X) → x ∈ l → P x ≡ true) → d < length l → placeOf P l d ≡ d
-  place-all P [] d h k = absurd (omega arith)
-  place-all P (x ∷ l) zero h k = rw (h x (List·Memᴰ·head refl))
-  place-all P (x ∷ l) (suc d) h k = rw (h x (List·Memᴰ·head refl)) (ap suc (place-all P l d (λ y m. h y (List·Memᴰ·tail m)) (omega arith)))
+  place-only P l i z o h e =
+      let b : bit (P (getD l i z)) ≡ 1 = ap bit e in
+      let r = owns-only {v = λ x. bit (P x)} {u = λ x. 1} (take i l) (getD l i z) (drop (suc i) l) (split-at l i z h) (omega arith) (omega arith) in
+      omega (arith, owns-place r, sum-one (take i l), length-take-le i l (omega arith))
 
 module _ {X Y : Type 0} where
   pub place-map : (P : Y → Bool) (f : X → Y) (l : List X) (d : ℕ) → placeOf P (map f l) d ≡ placeOf (λ x. P (f x)) l d
-  place-map P f [] d = refl
-  place-map P f (x ∷ l) d = same-go (P (f x)) (placeOf P (map f l)) (placeOf (λ y. P (f y)) l) d (place-map P f l)
+  place-map P f l d = ap (sumOver (λ x. 1)) (ahead-map f (λ y. bit (P y)) l d) ∙ sum-map f (λ y. 1) (ahead (λ x. bit (P (f x))) l d)
 
-module _ {X Y Z : Type 0} where
-  combine-go : (f : X → Y → Z) (P : Z → Bool) (p : X → Bool) (q : Y → Bool) (x : X) (l : List X) (r : List Y) (b : Bool) → p x ≡ b
-      → ((y : Y) → y ∈ r → P (f x y) ≡ b && q y)
-      → ((a e : ℕ) → a < howMany p l → e < howMany q r → placeOf P (combine f l r) (a * howMany q r + e) ≡ placeOf p l a * length r + placeOf q r e)
-      → (a e : ℕ) → a < bit b + howMany p l → e < howMany q r
-      → placeOf P (map (f x) r ++ combine f l r) (a * howMany q r + e) ≡ placeNext b (placeOf p l) a * length r + placeOf q r e
-  combine-go f P p q x l r true e h ih zero c ha hc =
-      let k : howMany P (map (f x) r) ≡ howMany q r = sum-map (f x) (λ z. bit (P z)) r ∙ many-ext (λ y. P (f x y)) q r h in
-      let z : 0 * howMany q r + c ≡ c = omega arith in
-      let w : placeOf P (map (f x) r) c ≡ placeOf q r c = place-map P (f x) r c ∙ place-ext (λ y. P (f x y)) q r h c in
-      rw z (place-left P (map (f x) r) (combine f l r) c (omega arith) ∙ w ∙ omega arith)
-  combine-go f P p q x l r true e h ih (suc a) c ha hc =
-      let k : howMany P (map (f x) r) ≡ howMany q r = sum-map (f x) (λ z. bit (P z)) r ∙ many-ext (λ y. P (f x y)) q r h in
-      let z : suc a * howMany q r + c - howMany P (map (f x) r) ≡ a * howMany q r + c = omega arith in
-      place-right P (map (f x) r) (combine f l r) (suc a * howMany q r + c) (omega arith)
-      ∙ rw z (omega (arith, ih a c (omega arith) hc, length-map r (f x)))
-  combine-go f P p q x l r false e h ih a c ha hc =
-      let k : howMany P (map (f x) r) ≡ 0 = sum-map (f x) (λ z. bit (P z)) r ∙ many-ext (λ y. P (f x y)) (λ y. false) r h ∙ many-never r in
-      let z : a * howMany q r + c - howMany P (map (f x) r) ≡ a * howMany q r + c = omega arith in
-      place-right P (map (f x) r) (combine f l r) (a * howMany q r + c) (omega arith)
-      ∙ rw z (omega (arith, ih a c (omega arith) hc, length-map r (f x)))
+-- ---- owners where an element weighs 1 if it passes, and else 0
 
-  -- where a combination passes if both its parts do: the places of the parts tell its place
-  place-combine-at : (f : X → Y → Z) (P : Z → Bool) (p : X → Bool) (q : Y → Bool) (l : List X) (r : List Y)
-      → ((x : X) → x ∈ l → (y : Y) → y ∈ r → P (f x y) ≡ p x && q y) → (a e : ℕ) → a < howMany p l → e < howMany q r
-      → placeOf P (combine f l r) (a * howMany q r + e) ≡ placeOf p l a * length r + placeOf q r e
-  place-combine-at f P p q [] r h a e ha he = absurd (omega arith)
-  place-combine-at f P p q (x ∷ l) r h a e ha he =
-      combine-go f P p q x l r (p x) refl (h x (List·Memᴰ·head refl)) (place-combine-at f P p q l r (λ z m. h z (List·Memᴰ·tail m))) a e ha he
-
-  -- the quotient chooses on the left, the remainder on the right
-  pub place-combine : (f : X → Y → Z) (P : Z → Bool) (p : X → Bool) (q : Y → Bool) (l : List X) (r : List Y)
-      → ((x : X) → x ∈ l → (y : Y) → y ∈ r → P (f x y) ≡ p x && q y) → (d : ℕ) → 0 < howMany q r → d < howMany p l * howMany q r
-      → placeOf P (combine f l r) d ≡ placeOf p l (d / howMany q r) * length r + placeOf q r (d % howMany q r)
-  place-combine f P p q l r h d hq hd =
-      ap (placeOf P (combine f l r)) (sym (div-add-mod' d (howMany q r)))
-      ∙ place-combine-at f P p q l r h (d / howMany q r) (d % howMany q r) (div-lt-iff-lt-mul hq .1 hd) (mod-lt d hq)
+module _ {X : Type 0} {v u : X → ℕ} {l : List X} {t : ℕ} {x : X} {n o : ℕ} (r : Owns v u l t x n o) (P : X → Bool) (h : (y : X) → y ∈ l → v y ≡ bit (P y)) where
+  -- where every element measures 1, the owner of t is the one that passes after t others
+  pub by-index : ((y : X) → y ∈ l → u y ≡ 1) → n ≡ placeOf P l t
+  by-index k = sym (owns-place (owns-ext (λ y. bit (P y)) (λ y. 1) h k r))
 
 -- ---- a list of numbers, counted by its values
 
@@ -166,19 +73,6 @@ same-bit r = ap bit (eq-eqb r r refl)
 other-bit : (r x : ℕ) → (r ≡ x → ⊥) → bit (eqb r x) ≡ 0
 other-bit r x h = ap bit (ne-eqb r x h)
 
--- a number outside a run is none of the run's numbers, and one inside is one of them
-none-is : (x k n : ℕ) → x < k → sumOver (λ r. bit (eqb r x)) (upFrom k n) ≡ 0
-none-is x k zero h = refl
-none-is x k (suc n) h = omega (arith, other-bit k x (λ e. omega arith), none-is x (suc k) n (omega arith))
-
-one-is : (x k n : ℕ) → k ≤ x → x < k + n → sumOver (λ r. bit (eqb r x)) (upFrom k n) ≡ 1
-one-is x k zero h h′ = absurd (omega arith)
-one-is x k (suc n) h h′ =
-    elim (ℕ-discrete k x) [
-      | yes e ↦ let b : bit (eqb k x) ≡ 1 = ap bit (eq-eqb k x e) in omega (arith, none-is x (suc k) n (omega arith))
-      | no ne ↦ omega (arith, other-bit k x ne, one-is x (suc k) n (omega arith) (omega arith))
-    ]
-
 -- the values' counts add up to the length
 pub times-sum : (k n : ℕ) (l : List ℕ) → ((x : ℕ) → x ∈ l → (k ≤ x) × (x < k + n)) → sumOver (λ r. times r l) (upFrom k n) ≡ length l
 times-sum k n [] h = omega (arith, sum-const 0 (upFrom k n))
@@ -187,7 +81,7 @@ times-sum k n (x ∷ l) h =
     omega (
       arith,
       sum-plus (λ r. bit (eqb r x)) (λ r. times r l) (upFrom k n),
-      one-is x k n (q .0) (q .1),
+      sum-single (λ r. eqb r x) (λ r. 1) (eq-eqb x x refl) (λ r e. ne-eqb r x e) k n (q .0) (q .1),
       times-sum k n l (λ y m. h y (List·Memᴰ·tail m)),
     )
 

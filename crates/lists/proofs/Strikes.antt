@@ -1,59 +1,32 @@
--- The struck places, the skip over them, and the list of what a skip finds: the kept elements, each with its place.
+-- Struck places: what the laws of struck elements (Struck) say where every element weighs 1. A struck entry is then a place with the weight 1,
+-- and the ticket list of what is kept is what is kept. First what is kept at all, by induction on the list.
 -- Assumes nothing.
 use mathlib.Core.Path.{_≡_, refl, sym, ap, _∙_}
-use mathlib.Core.Logic.{inl, inr, _↔_, _≢_}
+use mathlib.Core.Logic.{_↔_, _≢_}
 use mathlib.Core.Bool.{Bool, true, false, cond}
-use mathlib.Core.List.{List, [], _∷_, map, List·Memᴰ·head, List·Memᴰ·tail, List·Memᴰ·not-nil, List·Memᴰ·cases-cons, Memᴰ·map, Memᴰ·of-map}
+use mathlib.Core.List.{List, [], _∷_, map, List·Memᴰ·head, List·Memᴰ·tail, List·Memᴰ·not-nil, Memᴰ·map, Memᴰ·of-map}
 use Prim.Native.Nat.{ℕ, zero, suc, _+_, _-_, _≤_, _<_}
 use native.Mathlib.Omega.{arith}
-use lib.Dec.{leb, leb·zero, leb·suc-suc, leb·suc-zero}
-use borrow.Author.Tests.{le-leb, lt-leb}
-use lib.Seq.{ext-getD}
-use lib.ListN.{length, getD, length-map}
-use Rattle.lists.specs.Joined.{_∈_, upFrom}
-use Rattle.lists.specs.Ordered.{Pairwise, none, more, Distinct, Exactly}
-use Rattle.lists.specs.Searched.{bit, howMany, placeNext, placeOf}
+use lib.Seq.{split-at, getD-at, length-take-le}
+use lib.ListN.{length, getD, take, drop, length-map, length-append, List·getD-map}
+use Rattle.lists.specs.Joined.{_∈_, sumOver, upFrom}
+use Rattle.lists.specs.Ordered.{Pairwise, more, Distinct, Exactly}
+use Rattle.lists.specs.Searched.{bit, howMany}
+use Rattle.lists.specs.Tickets.{place, struckFrom, skipOver}
 use Rattle.lists.specs.Struck.{keep, struck, numbered, skip}
-use Rattle.lists.proofs.Sums.{length-upFrom}
-use Rattle.lists.proofs.Members.{getD-∈}
-use Rattle.lists.proofs.Places.{getD-map, getD-upFrom}
+use Rattle.lists.proofs.Sums.{sum-one, sum-map, map-ext}
+use Rattle.lists.proofs.Members.{upFrom-∈}
 use Rattle.lists.proofs.Orders.{pairwise-map, order-unique}
+use Rattle.lists.proofs.Owners.{owner-at, place-plain, tickets-plain, tickets-length}
+use Rattle.lists.proofs.Struck.{unstruck-sum, skip-over-lt, tickets-keep, tickets-keep-at, struck-alike, numbered-sum, drawn, drawn-at, Apart, Below, struck-∈, struck-below, gone, apart-gap, skip-over-at}
+use Rattle.lists.proofs.Struck as all
 
--- ---- skip
+abbrev single : ℕ → ℕ × ℕ
+single h = (h, 1)
 
-skip-suc : (q : ℕ) (bad : List ℕ) → skip (suc q) (map suc bad) ≡ suc (skip q bad)
-skip-suc q [] = refl
-skip-suc q (h ∷ bad) = rw (leb·suc-suc h q) (go (leb h q) (skip-suc (suc q) bad))
-  where
-    go : (b : Bool) → skip (suc (suc q)) (map suc bad) ≡ suc (skip (suc q) bad)
-        → cond b (skip (suc (suc q)) (map suc bad)) (suc q) ≡ suc (cond b (skip (suc q) bad) q)
-    go true e = e
-    go false e = refl
-
-skip-zero : (bad : List ℕ) → skip 0 (map suc bad) ≡ 0
-skip-zero [] = refl
-skip-zero (h ∷ bad) = rw (leb·suc-zero h)
+-- ---- what is kept
 
 module _ {X : Type 0} where
-  -- what is kept and what is struck make the whole
-  pub keep-length : (P : X → Bool) (l : List X) → length (keep P l) + length (struck P l) ≡ length l
-  keep-length P [] = refl
-  keep-length P (x ∷ l) = go (P x) (keep-length P l)
-    where
-      go : (b : Bool) → length (keep P l) + length (struck P l) ≡ length l
-          → length (cond b (x ∷ keep P l) (keep P l)) + length (cond b (map suc (struck P l)) (0 ∷ map suc (struck P l))) ≡ suc (length l)
-      go true e = omega (arith, length-map (struck P l) suc)
-      go false e = omega (arith, length-map (struck P l) suc)
-
-  -- the kept elements are those that pass, in the order that they had
-  pub keep-many : (P : X → Bool) (l : List X) → length (keep P l) ≡ howMany P l
-  keep-many P [] = refl
-  keep-many P (x ∷ l) = go (P x) (keep-many P l)
-    where
-      go : (b : Bool) → length (keep P l) ≡ howMany P l → length (cond b (x ∷ keep P l) (keep P l)) ≡ bit b + howMany P l
-      go true e = omega arith
-      go false e = omega arith
-
   pub keep-∈ : (P : X → Bool) (l : List X) (u : X) → u ∈ keep P l → (u ∈ l) × (P u ≡ true)
   keep-∈ P [] u m = absurd (List·Memᴰ·not-nil m)
   keep-∈ P (x ∷ l) u m = go (P x) refl (λ n. keep-∈ P l u n) m
@@ -80,6 +53,25 @@ module _ {X : Type 0} where
       go true k = more (λ y m. f y (keep-∈ P l y m .0)) k
       go false k = k
 
+  pub keep-ext : (P Q : X → Bool) (l : List X) → ((x : X) → x ∈ l → P x ≡ Q x) → keep P l ≡ keep Q l
+  keep-ext P Q [] h = refl
+  keep-ext P Q (x ∷ l) h = rw (h x (List·Memᴰ·head refl), keep-ext P Q l (λ y m. h y (List·Memᴰ·tail m)))
+
+  -- a sum of what is 0 where the test fails
+  pub sum-keep : (P : X → Bool) (f : X → ℕ) (l : List X) → ((x : X) → x ∈ l → P x ≡ false → f x ≡ 0) → sumOver f (keep P l) ≡ sumOver f l
+  sum-keep P f [] h = refl
+  sum-keep P f (x ∷ l) h = go (P x) (h x (List·Memᴰ·head refl)) (sum-keep P f l (λ y m. h y (List·Memᴰ·tail m)))
+    where
+      go : (b : Bool) → (b ≡ false → f x ≡ 0) → sumOver f (keep P l) ≡ sumOver f l → sumOver f (cond b (x ∷ keep P l) (keep P l)) ≡ f x + sumOver f l
+      go true z e = omega arith
+      go false z e = omega (arith, z refl)
+
+  -- as many as pass
+  keep-many : (P : X → Bool) (l : List X) → length (keep P l) ≡ howMany P l
+  keep-many P l =
+      ap length (sym (tickets-plain (keep P l)) ∙ tickets-keep P (λ x. 1) l)
+      ∙ tickets-length (λ x. bit (P x)) l
+
   -- as many things of a list without repetition pass as are counted
   pub exactly-many : (P : X → Bool) (l : List X) → Distinct l → Exactly (howMany P l) (λ u. (u ∈ l) × (P u ≡ true))
   exactly-many P l s =
@@ -90,157 +82,149 @@ module _ {X : Type 0} where
         all = λ u. (λ q. ∈-keep P l u (q .0) (q .1), keep-∈ P l u);
       }
 
+-- the numbers of a run, each one more
+pub keep-later : (P : ℕ → Bool) (k n : ℕ) → keep P (upFrom (suc k) n) ≡ map suc (keep (λ a. P (suc a)) (upFrom k n))
+keep-later P k zero = refl
+keep-later P k (suc n) = go (P (suc k)) _ _ (keep-later P (suc k) n)
+  where
+    go : (b : Bool) (x y : List ℕ) → x ≡ map suc y → cond b (suc k ∷ x) x ≡ map suc (cond b (k ∷ y) y)
+    go true x y e = ap (λ (l : List ℕ). suc k ∷ l) e
+    go false x y e = e
+
+-- ---- the skip over the struck places
+
+module _ {X : Type 0} (P : X → Bool) where
+  singles : (k : ℕ) (l : List X) → struckFrom P (λ x. 1) k l ≡ map single (map (λ (e : ℕ × ℕ). e .0) (struckFrom P (λ x. 1) k l))
+  singles k [] = refl
+  singles k (x ∷ l) = go (P x) (struckFrom P (λ y. 1) (k + 1) l) (singles (k + 1) l)
+    where
+      go : (b : Bool) (s : List (ℕ × ℕ)) → s ≡ map single (map (λ (e : ℕ × ℕ). e .0) s)
+          → cond b s (single k ∷ s) ≡ map single (map (λ (e : ℕ × ℕ). e .0) (cond b s (single k ∷ s)))
+      go true s e = e
+      go false s e = ap (λ (m : List (ℕ × ℕ)). single k ∷ m) e
+
+  skip-struck : (l : List X) (q : ℕ) → skipOver q (struckFrom P (λ x. 1) 0 l) ≡ skip q (struck P l)
+  skip-struck l q = ap (skipOver q) (singles 0 l)
+
+  -- what is kept and what is struck make the whole
+  pub keep-length : (l : List X) → length (keep P l) + length (struck P l) ≡ length l
+  keep-length l =
+      omega (
+        arith,
+        keep-many P l,
+        unstruck-sum P (λ x. 1) 0 l,
+        ap (sumOver (λ (e : ℕ × ℕ). e .1)) (singles 0 l),
+        sum-map single (λ (e : ℕ × ℕ). e .1) (struck P l),
+        sum-one (struck P l),
+        sum-one l,
+      )
+
+  pub skip-lt : (l : List X) (q : ℕ) → q < length (keep P l) → skip q (struck P l) < length l
+  skip-lt l q h = omega (arith, skip-struck l q, sum-one l, skip-over-lt P (λ x. 1) l q (omega (arith, keep-many P l)))
+
   -- entry q of what is kept is the whole list's entry at the skip of q
-  pub keep-at : (P : X → Bool) (l : List X) (q : ℕ) (d : X) → getD (keep P l) q d ≡ getD l (skip q (struck P l)) d
-  keep-at P [] q d = refl
-  keep-at P (x ∷ l) q d = go (P x) q (λ n. keep-at P l n d)
-    where
-      go : (b : Bool) (q : ℕ) → ((n : ℕ) → getD (keep P l) n d ≡ getD l (skip n (struck P l)) d)
-          → getD (cond b (x ∷ keep P l) (keep P l)) q d ≡ getD (x ∷ l) (skip q (cond b (map suc (struck P l)) (0 ∷ map suc (struck P l)))) d
-      go true zero ih = rw (skip-zero (struck P l))
-      go true (suc q) ih = rw (skip-suc q (struck P l)) (ih q)
-      go false q ih = let z : leb 0 q ≡ true = leb·zero q in rw (z, skip-suc q (struck P l)) (ih q)
-
-  place-go : (P : X → Bool) (l : List X) (b : Bool) (d : ℕ) → ((e : ℕ) → e < howMany P l → placeOf P l e ≡ skip e (struck P l)) → d < bit b + howMany P l
-      → placeNext b (placeOf P l) d ≡ skip d (cond b (map suc (struck P l)) (0 ∷ map suc (struck P l)))
-  place-go P l true zero ih h = sym (skip-zero (struck P l))
-  place-go P l true (suc d) ih h = rw (skip-suc d (struck P l), ih d (omega arith))
-  place-go P l false d ih h = rw (leb·zero d, skip-suc d (struck P l), ih d (omega arith))
-
-  -- the skip of d is the place of the element that passes after d others that do
-  pub place-skip : (P : X → Bool) (l : List X) (d : ℕ) → d < howMany P l → placeOf P l d ≡ skip d (struck P l)
-  place-skip P [] d h = absurd (omega arith)
-  place-skip P (x ∷ l) d h = place-go P l (P x) d (place-skip P l) h
-
-  pub skip-lt : (P : X → Bool) (l : List X) (q : ℕ) → q < length (keep P l) → skip q (struck P l) < length l
-  skip-lt P [] q h = absurd (omega arith)
-  skip-lt P (x ∷ l) q h = go (P x) q (skip-lt P l) h
-    where
-      go : (b : Bool) (q : ℕ) → ((n : ℕ) → n < length (keep P l) → skip n (struck P l) < length l) → q < length (cond b (x ∷ keep P l) (keep P l))
-          → skip q (cond b (map suc (struck P l)) (0 ∷ map suc (struck P l))) < suc (length l)
-      go true zero ih h = rw (skip-zero (struck P l)) (omega arith)
-      go true (suc q) ih h = rw (skip-suc q (struck P l)) (omega (arith, ih q (omega arith)))
-      go false q ih h = rw (leb·zero q, skip-suc q (struck P l)) (omega (arith, ih q h))
+  pub keep-at : (l : List X) (q : ℕ) (d : X) → getD (keep P l) q d ≡ getD l (skip q (struck P l)) d
+  keep-at l q d = rw (tickets-plain (keep P l), tickets-plain l, skip-struck l q) at (tickets-keep-at P (λ x. 1) l q d)
 
   -- ---- the struck places
 
-  pub struck-ext : (P Q : X → Bool) (l : List X) → ((x : X) → x ∈ l → P x ≡ Q x) → struck P l ≡ struck Q l
-  struck-ext P Q [] h = refl
-  struck-ext P Q (x ∷ l) h = rw (h x (List·Memᴰ·head refl), struck-ext P Q l (λ y m. h y (List·Memᴰ·tail m)))
+  pub struck-rising : (l : List X) → Pairwise _<_ (struck P l)
+  struck-rising l =
+      pairwise-map Below _<_ (λ (e : ℕ × ℕ). e .0) (struckFrom P (λ x. 1) 0 l) (struck-below P (λ x. 1) l (λ x m f. omega arith)) (λ a b h. h)
 
-  pub struck-rising : (P : X → Bool) (l : List X) → Pairwise _<_ (struck P l)
-  struck-rising P [] = none
-  struck-rising P (x ∷ l) = go (P x) (pairwise-map _<_ _<_ suc (struck P l) (struck-rising P l) (λ m n h. omega arith))
-    where
-      go : (b : Bool) → Pairwise _<_ (map suc (struck P l)) → Pairwise _<_ (cond b (map suc (struck P l)) (0 ∷ map suc (struck P l)))
-      go true s = s
-      go false s = more {x = 0} (λ y m. let q = Memᴰ·of-map suc (struck P l) m in omega (arith, q .2)) s
+  pub struck-fails : (l : List X) (i : ℕ) (z : X) → i ∈ struck P l → (i < length l) × (P (getD l i z) ≡ false)
+  struck-fails l i z m =
+      let q = Memᴰ·of-map (λ (e : ℕ × ℕ). e .0) (struckFrom P (λ x. 1) 0 l) m in
+      let r = struck-∈ P (λ x. 1) l (q .0) .0 (q .1) in
+      let n : length (r .before) ≡ i = omega (arith, q .2, ap (λ (e : ℕ × ℕ). e .0) (r .entry), sum-one (r .before)) in
+      let at : getD l i z ≡ r .at = ap (λ (c : List X). getD c i z) (r .list) ∙ getD-at (r .before) (r .at) (r .after) z i n in
+      (omega (arith, ap length (r .list), length-append (r .before) (r .at ∷ r .after)), ap P at ∙ r .fails)
 
-  pub struck-fails : (P : X → Bool) (l : List X) (i : ℕ) (z : X) → i ∈ struck P l → (i < length l) × (P (getD l i z) ≡ false)
-  struck-fails P [] i z m = absurd (List·Memᴰ·not-nil m)
-  struck-fails P (x ∷ l) i z m = go (P x) refl (λ j n. struck-fails P l j z n) m
-    where
-      later : ((j : ℕ) → j ∈ struck P l → (j < length l) × (P (getD l j z) ≡ false)) → i ∈ map suc (struck P l)
-          → (i < suc (length l)) × (P (getD (x ∷ l) i z) ≡ false)
-      later ih n =
-          let q = Memᴰ·of-map suc (struck P l) n in
-          let r = ih (q .0) (q .1) in
-          rw (← q .2) (omega arith, r .1)
-
-      go : (b : Bool) → P x ≡ b → ((j : ℕ) → j ∈ struck P l → (j < length l) × (P (getD l j z) ≡ false))
-          → i ∈ cond b (map suc (struck P l)) (0 ∷ map suc (struck P l)) → (i < suc (length l)) × (P (getD (x ∷ l) i z) ≡ false)
-      go true e ih n = later ih n
-      go false e ih n = elim (List·Memᴰ·cases-cons n) [ inl p ↦ rw p (omega arith, e) | inr q ↦ later ih q ]
-
-  pub fails-struck : (P : X → Bool) (l : List X) (i : ℕ) (z : X) → i < length l → P (getD l i z) ≡ false → i ∈ struck P l
-  fails-struck P [] i z h e = absurd (omega arith)
-  fails-struck P (x ∷ l) zero z h e = rw e (List·Memᴰ·head refl)
-  fails-struck P (x ∷ l) (suc i) z h e = go (P x) (Memᴰ·map suc (fails-struck P l i z (omega arith) e))
-    where
-      go : (b : Bool) → suc i ∈ map suc (struck P l) → suc i ∈ cond b (map suc (struck P l)) (0 ∷ map suc (struck P l))
-      go true m = m
-      go false m = List·Memᴰ·tail m
+  pub fails-struck : (l : List X) (i : ℕ) (z : X) → i < length l → P (getD l i z) ≡ false → i ∈ struck P l
+  fails-struck l i z h e =
+      let n : sumOver (λ x. 1) (take i l) ≡ i = sum-one (take i l) ∙ length-take-le i l (omega arith) in
+      Memᴰ·map (λ (e : ℕ × ℕ). e .0)
+      (struck-∈ P (λ x. 1) l (single i) .1
+      (record { before = take i l; at = getD l i z; after = drop (suc i) l; list = split-at l i z h; fails = e; entry = rw n }))
 
   -- any rising list of just the failing places is that of the struck ones
-  pub struck-unique : (P : X → Bool) (l : List X) (z : X) (bad : List ℕ) → Pairwise _<_ bad
+  pub struck-unique : (l : List X) (z : X) (bad : List ℕ) → Pairwise _<_ bad
       → ((i : ℕ) → i ∈ bad ↔ ((i < length l) × (P (getD l i z) ≡ false))) → bad ≡ struck P l
-  struck-unique P l z bad s h =
-      order-unique _<_ (λ x y a b. omega arith) (λ x y a e. omega arith) bad (struck P l) s (struck-rising P l)
-      (λ i m. let q = h i .0 m in fails-struck P l i z (q .0) (q .1)) (λ i m. h i .1 (struck-fails P l i z m))
+  struck-unique l z bad s h =
+      order-unique _<_ (λ x y a b. omega arith) (λ x y a e. omega arith) bad (struck P l) s (struck-rising l)
+      (λ i m. let q = h i .0 m in fails-struck l i z (q .0) (q .1)) (λ i m. h i .1 (struck-fails l i z m))
 
--- ---- the list of draws
+  -- ---- what the draws find
 
-module _ {X : Type 0} where
-  getD-numbered : (k : ℕ) (l : List X) (i : ℕ) (z : X) (e : ℕ × X) → i < length l → getD (numbered k l) i e ≡ (k + i, getD l i z)
-  getD-numbered k [] i z e h = absurd (omega arith)
-  getD-numbered k (x ∷ l) zero z e h = let q : k + 0 ≡ k = omega arith in rw q
-  getD-numbered k (x ∷ l) (suc i) z e h =
-      let q : k + suc i ≡ suc k + i = omega arith in rw q (getD-numbered (suc k) l i z e (omega arith))
+  pub keep-numbered : (k : ℕ) (l : List X) → length (keep (λ (e : ℕ × X). P (e .1)) (numbered k l)) ≡ length (keep P l)
+  keep-numbered k l = keep-many (λ (e : ℕ × X). P (e .1)) (numbered k l) ∙ numbered-sum (λ x. bit (P x)) k l ∙ sym (keep-many P l)
 
-  struck-numbered : (P : X → Bool) (k : ℕ) (l : List X) → struck (λ (e : ℕ × X). P (e .1)) (numbered k l) ≡ struck P l
-  struck-numbered P k [] = refl
-  struck-numbered P k (x ∷ l) = rw (struck-numbered P (suc k) l)
+  -- the skip of q, and what stands there
+  abbrev found : List X → X → ℕ → ℕ × X
+  found l z q = (skip q (struck P l), getD l (skip q (struck P l)) z)
 
-  pub keep-numbered : (P : X → Bool) (k : ℕ) (l : List X) → length (keep (λ (e : ℕ × X). P (e .1)) (numbered k l)) ≡ length (keep P l)
-  keep-numbered P k [] = refl
-  keep-numbered P k (x ∷ l) = go (P x) (keep-numbered P (suc k) l)
-    where
-      go : (b : Bool) → length (keep (λ (e : ℕ × X). P (e .1)) (numbered (suc k) l)) ≡ length (keep P l)
-          → length (cond b ((k, x) ∷ keep (λ (e : ℕ × X). P (e .1)) (numbered (suc k) l)) (keep (λ (e : ℕ × X). P (e .1)) (numbered (suc k) l))) ≡ length (cond b (x ∷ keep P l) (keep P l))
-      go true e = ap suc e
-      go false e = e
+  drawn-found : (l : List X) (q : ℕ) (z : X) → q < howMany P l → drawn P (λ x. 1) l z q ≡ found l z q
+  drawn-found l q z h =
+      let t = skipOver q (struckFrom P (λ x. 1) 0 l) in
+      let e : place (λ x. 1) (λ x. 1) l t ≡ skip q (struck P l)
+      = place-plain l t (omega (arith, skip-over-lt P (λ x. 1) l q h, sum-one l)) ∙ skip-struck l q in
+      rw (owner-at (λ x. 1) l t z, e)
 
-  -- entry q of what is kept, each with its place: the skip of q, and what stands there
-  pub kept-at : (P : X → Bool) (l : List X) (q : ℕ) (z : X) → q < length (keep P l)
+  -- entry q of what is kept, each with its place
+  pub kept-at : (l : List X) (q : ℕ) (z : X) → q < length (keep P l)
       → getD (keep (λ (e : ℕ × X). P (e .1)) (numbered 0 l)) q (0, z) ≡ (skip q (struck P l), getD l (skip q (struck P l)) z)
-  kept-at P l q z h =
-      let e : 0 + skip q (struck P l) ≡ skip q (struck P l) = omega arith in
-      keep-at (λ (e : ℕ × X). P (e .1)) (numbered 0 l) q (0, z)
-      ∙ rw (struck-numbered P 0 l) (getD-numbered 0 l (skip q (struck P l)) z (0, z) (skip-lt P l q h) ∙ rw e)
+  kept-at l q z h =
+      let k : q < howMany P l = omega (arith, keep-many P l) in
+      ap (λ (m : List (ℕ × X)). getD m q (0, z)) (sym (tickets-plain (keep (λ (e : ℕ × X). P (e .1)) (numbered 0 l))))
+      ∙ drawn-at P (λ x. 1) l z q k
+      ∙ drawn-found l q z k
 
   -- what the skips of 0, 1, .. find, one after another, is what is kept, each with its place
-  pub draws : (P : X → Bool) (l : List X) (z : X)
+  pub draws : (l : List X) (z : X)
       → map (λ q. (skip q (struck P l), getD l (skip q (struck P l)) z)) (upFrom 0 (length l - length (struck P l)))
       ≡ keep (λ (e : ℕ × X). P (e .1)) (numbered 0 l)
-  draws P l z =
-      let n : length l - length (struck P l) ≡ length (keep P l) = omega (arith, keep-length P l) in
-      rw n (ext-getD (0, z) (map f (upFrom 0 (length (keep P l)))) (keep P′ (numbered 0 l))
-      (omega (arith, length-map (upFrom 0 (length (keep P l))) f, length-upFrom 0 (length (keep P l)), keep-numbered P 0 l))
-      (λ i h. at i (omega (arith, length-map (upFrom 0 (length (keep P l))) f, length-upFrom 0 (length (keep P l))))))
-    where
-      f : ℕ → ℕ × X
-      f q = (skip q (struck P l), getD l (skip q (struck P l)) z)
+  draws l z =
+      let n : length l - length (struck P l) ≡ howMany P l = omega (arith, keep-length l, keep-many P l) in
+      rw n
+      (sym (map-ext (drawn P (λ x. 1) l z) (found l z) (upFrom 0 (howMany P l)) (λ q m. drawn-found l q z (omega (arith, upFrom-∈ 0 (howMany P l) m .1))))
+      ∙ all.draws P (λ x. 1) l z
+      ∙ tickets-plain (keep (λ (e : ℕ × X). P (e .1)) (numbered 0 l)))
 
-      P′ : ℕ × X → Bool
-      P′ e = P (e .1)
+module _ {X : Type 0} where
+  pub struck-ext : (P Q : X → Bool) (l : List X) → ((x : X) → x ∈ l → P x ≡ Q x) → struck P l ≡ struck Q l
+  struck-ext P Q l h = ap (map (λ (e : ℕ × ℕ). e .0)) (struck-alike P Q (λ x. 1) 0 l h)
 
-      at : (i : ℕ) → i < length (keep P l) → getD (map f (upFrom 0 (length (keep P l)))) i (0, z) ≡ getD (keep P′ (numbered 0 l)) i (0, z)
-      at i h =
-          let u : i < length (upFrom 0 (length (keep P l))) = omega (arith, length-upFrom 0 (length (keep P l))) in
-          let e₁ : getD (upFrom 0 (length (keep P l))) i 0 ≡ i = omega (arith, getD-upFrom 0 (length (keep P l)) i 0 h) in
-          getD-map f (upFrom 0 (length (keep P l))) i 0 (0, z) u ∙ ap f e₁ ∙ sym (kept-at P l i z h)
+-- ---- the skip over a rising list, as a search by halves meets it
 
--- ---- the skip over a rising list, by its places
+gone-singles : (k : ℕ) (l : List ℕ) → k ≤ length l → gone k (map single l) ≡ k
+gone-singles zero l h = refl
+gone-singles (suc k) [] h = absurd (omega arith)
+gone-singles (suc k) (x ∷ l) h = omega (arith, gone-singles k l (omega arith))
+
+single-at : (l : List ℕ) (i : ℕ) → getD (map single l) i (single 0) .0 ≡ getD l i 0
+single-at l i = ap (λ (e : ℕ × ℕ). e .0) (List·getD-map single l i 0)
 
 -- a rising list rises by at least one each place
 pub rising-gap : (l : List ℕ) (i j : ℕ) → Pairwise _<_ l → i ≤ j → j < length l → getD l i 0 + (j - i) ≤ getD l j 0
-rising-gap [] i j s h k = absurd (omega arith)
-rising-gap (x ∷ l) zero zero s h k = omega arith
-rising-gap (x ∷ l) zero (suc zero) (more f s) h k = omega (arith, f (getD l 0 0) (getD-∈ l 0 0 (omega arith)))
-rising-gap (x ∷ l) zero (suc (suc j)) (more f s) h k =
-    omega (arith, f (getD l 0 0) (getD-∈ l 0 0 (omega arith)), rising-gap l 0 (suc j) s (omega arith) (omega arith))
-rising-gap (x ∷ l) (suc i) zero s h k = absurd (omega arith)
-rising-gap (x ∷ l) (suc i) (suc j) (more f s) h k =
-    let e : suc j - suc i ≡ j - i = omega arith in
-    rw e (rising-gap l i j s (omega arith) (omega arith))
+rising-gap l i j s h k =
+    let n = length-map l single in
+    omega (
+      arith,
+      apart-gap (map single l) (single 0) i j (pairwise-map _<_ Apart single l s (λ a b r. omega arith)) h (omega arith),
+      single-at l i,
+      single-at l j,
+      gone-singles i l (omega arith),
+      gone-singles j l (omega arith),
+    )
 
 -- where the first k entries, each less its place, are at most q, and the next one is not, the skip passes just these
 pub skip-at : (l : List ℕ) (q k : ℕ) → k ≤ length l → ((i : ℕ) → i < k → getD l i 0 ≤ q + i) → (k < length l → q + k < getD l k 0) → skip q l ≡ q + k
-skip-at [] q k h f g = omega arith
-skip-at (x ∷ l) q zero h f g = rw (lt-leb x q (omega (arith, g (omega arith)))) (omega arith)
-skip-at (x ∷ l) q (suc k) h f g =
-    rw (le-leb x q (omega (arith, f 0 (omega arith))))
-    (omega (
+skip-at l q k h f g =
+    let n = length-map l single in
+    omega (
       arith,
-      skip-at l (suc q) k (omega arith) (λ i m. omega (arith, f (suc i) (omega arith))) (λ m. omega (arith, g (omega arith))),
-    ))
+      gone-singles k l h,
+      skip-over-at (map single l) (single 0) q k (omega arith)
+          (λ i m. omega (arith, f i m, single-at l i, gone-singles i l (omega arith)))
+          (λ m. omega (arith, g (omega arith), single-at l k, gone-singles k l h)),
+    )

@@ -1,9 +1,11 @@
 -- Sums, lengths and maps over `++`, concatMap and combine. Each by induction on the list.
 -- Assumes nothing.
-use mathlib.Core.Path.{_≡_, refl, sym, _∙_}
+use mathlib.Core.Path.{_≡_, refl, sym, ap, _∙_}
+use mathlib.Core.Bool.{Bool, true, false, cond}
 use mathlib.Core.List.{List, [], _∷_, _++_, map, append-assoc, List·Memᴰ·head, List·Memᴰ·tail}
-use Prim.Native.Nat.{ℕ, zero, suc, _+_, _*_, _≤_}
+use Prim.Native.Nat.{ℕ, zero, suc, _+_, _*_, _≤_, _<_}
 use native.Mathlib.Omega.{arith}
+use native.Mathlib.Decide.{ℕ-discrete}
 use lib.ListN.{length, length-append, length-map}
 use Rattle.lists.specs.Joined.{_∈_, sumOver, concatMap, combine, upFrom}
 
@@ -32,6 +34,15 @@ module _ {X : Type 0} where
   pub sum-const : (c : ℕ) (l : List X) → sumOver (λ x. c) l ≡ length l * c
   sum-const c [] = omega arith
   sum-const c (x ∷ l) = omega (arith, sum-const c l)
+
+  -- a sum of nothing
+  pub sum-none : (f : X → ℕ) (l : List X) → ((x : X) → x ∈ l → f x ≡ 0) → sumOver f l ≡ 0
+  sum-none f l h = omega (arith, sum-ext f (λ x. 0) l h, sum-const 0 l)
+
+  -- no part is more than the whole
+  pub sum-part : (f : X → ℕ) {x : X} (l : List X) → x ∈ l → f x ≤ sumOver f l
+  sum-part f (y ∷ l) (List·Memᴰ·head e) = omega (arith, ap f e)
+  sum-part f (y ∷ l) (List·Memᴰ·tail m) = omega (arith, sum-part f l m)
 
   pub sum-one : (l : List X) → sumOver (λ x. 1) l ≡ length l
   sum-one l = omega (arith, sum-const 1 l)
@@ -103,6 +114,20 @@ module _ {X Y Z : Type 0} where
         sum-scale (a x) b r,
         sum-combine f g a b l r (λ z m. h z (List·Memᴰ·tail m)),
       )
+
+-- a sum over a run of numbers, where only one of them counts
+module _ (t : ℕ → Bool) (h : ℕ → ℕ) {c : ℕ} (here : t c ≡ true) (other : (r : ℕ) → (r ≡ c → ⊥) → t r ≡ false) where
+  single-past : (k n : ℕ) → c < k → sumOver (λ r. cond (t r) (h r) 0) (upFrom k n) ≡ 0
+  single-past k zero u = refl
+  single-past k (suc n) u = rw (other k (λ e. omega arith)) (omega (arith, single-past (suc k) n (omega arith)))
+
+  pub sum-single : (k n : ℕ) → k ≤ c → c < k + n → sumOver (λ r. cond (t r) (h r) 0) (upFrom k n) ≡ h c
+  sum-single k zero l u = absurd (omega arith)
+  sum-single k (suc n) l u =
+      elim (ℕ-discrete k c) [
+        | yes e ↦ rw (e, here) (omega (arith, single-past (suc c) n (omega arith)))
+        | no e ↦ rw (other k e) (omega (arith, sum-single (suc k) n (omega arith) (omega arith)))
+      ]
 
 pub length-upFrom : (k n : ℕ) → length (upFrom k n) ≡ n
 length-upFrom k zero = refl

@@ -3,6 +3,7 @@
 -- Assumes nothing.
 use mathlib.Core.Path.{_≡_, refl, sym, ap, _∙_}
 use mathlib.Core.Bool.{Bool, true, false, not, _&&_, _||_, or-false, false≢true}
+use mathlib.Core.Logic.{_⊎_, inl, inr}
 use mathlib.Core.List.{List, [], _∷_, List·Memᴰ·head, List·Memᴰ·tail}
 use Prim.Native.Nat.{ℕ, zero, suc, _-_, _*_, _≤_, _<_}
 use native.Mathlib.Omega.{arith}
@@ -41,6 +42,13 @@ or-left false b e = refl
 pub or-right : (a b : Bool) → (a || b) ≡ false → b ≡ false
 or-right true b e = let z : b ≡ false = cc in z
 or-right false b e = e
+
+pub or-first : (a b : Bool) → a ≡ true → (a || b) ≡ true
+or-first a b e = rw e
+
+pub or-cases : (a b : Bool) → (a || b) ≡ true → (a ≡ true) ⊎ (b ≡ true)
+or-cases true b e = inl refl
+or-cases false b e = inr e
 
 pub or-true : (a b : Bool) → b ≡ true → (a || b) ≡ true
 or-true true b e = refl
@@ -182,12 +190,7 @@ module _ (f : ℕ → Bool) where
   pub to-miss : (n : ℕ) → 0 < n → f n ≡ false → someTo f n ≡ someTo f (n - 1)
   to-miss n h e = to-step n h ∙ ap (λ (b : Bool). b || someTo f (n - 1)) e
 
-pub below-ext : (f g : ℕ → Bool) (n : ℕ) → ((i : ℕ) → f i ≡ g i) → someBelow f n ≡ someBelow g n
-unfolding someBelow
-below-ext f g zero h = refl
-below-ext f g (suc n) h = rw (h n, below-ext f g n h)
-
--- the same where they agree below the bound
+-- tests that agree below the bound
 pub below-within : (f g : ℕ → Bool) (n : ℕ) → ((i : ℕ) → i < n → f i ≡ g i) → someBelow f n ≡ someBelow g n
 unfolding someBelow
 below-within f g zero h = refl

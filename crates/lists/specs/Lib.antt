@@ -1,6 +1,8 @@
 pub mod Joined
 pub mod Ordered
+pub mod Tickets
+pub mod Parts
 pub mod Searched
 pub mod Struck
-pub mod Parts
 pub mod Linked
+pub mod Tables

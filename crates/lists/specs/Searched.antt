@@ -1,34 +1,28 @@
 -- Tests on numbers and over lists: whether a number is within bounds, how many elements pass, the place of one that does, whether some number below a bound does.
 -- Assumes nothing: these are definitions.
-use mathlib.Core.Bool.{Bool, true, false, _&&_, _||_}
+use mathlib.Core.Bool.{Bool, true, false, cond, _&&_, _||_}
 use mathlib.Core.List.{List, [], _∷_}
 use Prim.Native.Nat.{ℕ, zero, suc}
 use lib.Dec.{leb, eqb}
 use Rattle.lists.specs.Joined.{sumOver}
+use Rattle.lists.specs.Tickets.{place}
 
 -- x is from lo to hi
 abbrev pub within : (lo hi x : ℕ) → Bool
 within lo hi x = leb lo x && leb x hi
 
+-- 1 where the test passes, and else 0
 abbrev pub bit : Bool → ℕ
-bit true = 1
-bit false = 0
-
--- one element further: whether it passes, and the places among the others
-abbrev pub placeNext : Bool → (ℕ → ℕ) → ℕ → ℕ
-placeNext true place zero = 0
-placeNext true place (suc d) = suc (place d)
-placeNext false place d = suc (place d)
+bit b = cond b 1 0
 
 module _ {X : Type 0} where
   -- how many elements pass
   abbrev pub howMany : (X → Bool) → List X → ℕ
   howMany P l = sumOver (λ x. bit (P x)) l
 
-  -- the place of the element that passes after d others that do
+  -- the place of the element that passes after d others that do: the owner of the ticket d, where each that passes has one
   abbrev pub placeOf : (X → Bool) → List X → ℕ → ℕ
-  placeOf P [] d = 0
-  placeOf P (x ∷ l) d = placeNext (P x) (placeOf P l) d
+  placeOf P l d = place (λ x. bit (P x)) (λ x. 1) l d
 
   -- some element passes
   abbrev pub someOf : (X → Bool) → List X → Bool

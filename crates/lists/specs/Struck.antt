@@ -1,9 +1,9 @@
--- What is left of a list when the elements that fail a test are struck, by places.
+-- What is left of a list when the elements that fail a test are struck, by places: the tickets of elements that weigh 1 each.
 -- Assumes nothing: these are definitions.
 use mathlib.Core.Bool.{Bool, cond}
 use mathlib.Core.List.{List, [], _∷_, map}
 use Prim.Native.Nat.{ℕ, suc}
-use lib.Dec.{leb}
+use Rattle.lists.specs.Tickets.{struckFrom, skipOver}
 
 module _ {X : Type 0} where
   -- the elements that pass, in their order
@@ -13,8 +13,7 @@ module _ {X : Type 0} where
 
   -- the places of the elements that fail, rising
   abbrev pub struck : (X → Bool) → List X → List ℕ
-  struck P [] = []
-  struck P (x ∷ l) = cond (P x) (map suc (struck P l)) (0 ∷ map suc (struck P l))
+  struck P l = map (λ (e : ℕ × ℕ). e .0) (struckFrom P (λ x. 1) 0 l)
 
   -- each element with its place, the first of them at k
   abbrev pub numbered : ℕ → List X → List (ℕ × X)
@@ -23,5 +22,4 @@ module _ {X : Type 0} where
 
 -- q, moved up by one for each place of the rising list that is not above what is reached
 abbrev pub skip : ℕ → List ℕ → ℕ
-skip q [] = q
-skip q (h ∷ bad) = cond (leb h q) (skip (suc q) bad) q
+skip q bad = skipOver q (map (λ h. (h, 1)) bad)

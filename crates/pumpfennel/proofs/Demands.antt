@@ -20,7 +20,7 @@ use Rattle.history.specs.Answers.{checkHistory, appendRows, appendOf}
 use Rattle.ranking.specs.Answers.{totalOf, entryOf, numberOf, unrankRows, unrankOf, rankRows, rankOf}
 use Rattle.ranking.proofs.Demand2.{demand-2}
 use Rattle.sampling.specs.Unheard.{heardOf, leftOf}
-use Rattle.sampling.specs.Answers.{drawn, remainingRows, remainingOf, drawRows, drawOf}
+use Rattle.sampling.specs.Answers.{drawn, remainingRows, remainingTo, drawRows, drawTo}
 use Rattle.sampling.proofs.Premises.{premises}
 use Rattle.sampling.proofs.Demand3.{demand-3, once, alike}
 use Rattle.sampling.proofs.Examples.{examples, example-premises}
@@ -39,15 +39,15 @@ refuses rows figures before after e =
     }
 
 demand-1 : Demand1
-unfolding checkGrammar checkHistory countOf unrankOf rankOf remainingOf drawOf appendOf
+unfolding checkGrammar checkHistory countOf unrankOf rankOf remainingTo drawTo appendOf
 demand-1 = record {
   check-bank = λ g. refuses (grammarRows g) (nonterminals g ∷ words g ∷ []) [] [] refl;
   check-diary = λ h. refuses (historyRows h) (recordsOf h ∷ []) [] [] refl;
   count = λ g n. refuses (preparedRows g n) (totalOf g n ∷ []) [] [] refl;
   give = λ g n d out. refuses (unrankRows g n d out) (totalOf g n ∷ []) out (entryOf g n d ++ drop n out) refl;
   number = λ g s. refuses (rankRows g s) (numberOf g s ∷ totalOf g (length s) ∷ []) [] [] refl;
-  left = λ g h n. refuses (remainingRows g h n) (totalOf g n ∷ heardOf g h n ∷ leftOf g h n ∷ []) [] [] refl;
-  draw = λ g h n q out. refuses (drawRows g h n q out) (leftOf g h n ∷ drawn g h n q .0 ∷ []) out (sentence (drawn g h n q .1) ++ drop n out) refl;
+  left = λ g h a. refuses (remainingRows g h a) (totalOf g (a .length) ∷ heardOf g h a ∷ leftOf g h a ∷ []) [] [] refl;
+  draw = λ g h a q out. refuses (drawRows g h a q out) (leftOf g h a ∷ drawn g h a q .0 ∷ []) out (sentence (drawn g h a q .1) ++ drop (a .length) out) refl;
   log = λ h s. refuses (appendRows h s) (suc (recordsOf h) ∷ []) h (appended h s) refl;
 }
 
@@ -55,10 +55,10 @@ pub demands : Demands
 demands = record {
   one = demand-1;
   two = demand-2;
-  three = demand-3;
-  once = once;
-  alike = alike;
-  premises = premises;
+  three = λ g h a. demand-3 g h (a .length);
+  once = λ g h a. once g h (a .length);
+  alike = λ g h h′ a. alike g h h′ (a .length);
+  premises = λ g h a. premises g h (a .length);
   instance = example-premises;
   examples = examples;
 }

@@ -15,7 +15,8 @@ use Rattle.history.specs.Refusals.{historyRows}
 use Rattle.history.specs.Answers.{checkHistory, appendRows, appendOf}
 use Rattle.ranking.specs.Answers.{unrankRows, unrankOf, rankRows, rankOf}
 use Rattle.ranking.specs.Demand2.{Demand2}
-use Rattle.sampling.specs.Answers.{remainingRows, remainingOf, drawRows, drawOf}
+use Rattle.sampling.specs.Question.{Question, plainly}
+use Rattle.sampling.specs.Answers.{remainingRows, remainingTo, drawRows, drawTo}
 use Rattle.sampling.specs.Demand3.{Single, Premises, Demand3, Once, SameBarred, Alike}
 use Rattle.sampling.specs.Examples.{Examples, F, heard01}
 
@@ -33,8 +34,8 @@ pub record Demand1 : Type 0 where
   pub count : (g : List ℕ) (n : ℕ) → Refuses (preparedRows g n) 1 [] (countOf g n)
   pub give : (g : List ℕ) (n d : ℕ) (out : List ℕ) → Refuses (unrankRows g n d out) 1 out (unrankOf g n d out)
   pub number : (g s : List ℕ) → Refuses (rankRows g s) 2 [] (rankOf g s)
-  pub left : (g h : List ℕ) (n : ℕ) → Refuses (remainingRows g h n) 3 [] (remainingOf g h n)
-  pub draw : (g h : List ℕ) (n q : ℕ) (out : List ℕ) → Refuses (drawRows g h n q out) 2 out (drawOf g h n q out)
+  pub left : (g h : List ℕ) (a : Question) → Refuses (remainingRows g h a) 3 [] (remainingTo g h a)
+  pub draw : (g h : List ℕ) (a : Question) (q : ℕ) (out : List ℕ) → Refuses (drawRows g h a q out) 2 out (drawTo g h a q out)
   pub log : (h s : List ℕ) → Refuses (appendRows h s) 1 h (appendOf h s)
 
 -- ---- all of them
@@ -42,14 +43,14 @@ pub record Demand1 : Type 0 where
 pub record Demands : Type 0 where
   pub one : Demand1
   pub two : (g : List ℕ) → Demand2 g
-  pub three : (g h : List ℕ) (n : ℕ) → Premises g h n → Demand3 g h n
+  pub three : (g h : List ℕ) (a : Question) → Premises g h a → Demand3 g h a
   -- where no sentence of the length has two derivations, each unheard derivable sentence comes exactly once
-  pub once : (g h : List ℕ) (n : ℕ) → Premises g h n → ((s : List ℕ) → length s ≡ n → Single g s)
-      → (out : ℕ → List ℕ) → ((q : ℕ) → n ≤ length (out q)) → Once g h n out
+  pub once : (g h : List ℕ) (a : Question) → Premises g h a → ((s : List ℕ) → length s ≡ a .length → Single g s)
+      → (out : ℕ → List ℕ) → ((q : ℕ) → a .length ≤ length (out q)) → Once g h a out
   -- histories that bar the same sentences give the same answers
-  pub alike : (g h h′ : List ℕ) (n : ℕ) → Premises g h n → Premises g h′ n → SameBarred g h h′ n → Alike g h h′ n
+  pub alike : (g h h′ : List ℕ) (a : Question) → Premises g h a → Premises g h′ a → SameBarred g h h′ a → Alike g h h′ a
   -- the premises are no more than that *Left* isn't refused, and there is such a grammar, history and length
-  pub premises : (g h : List ℕ) (n : ℕ) → (Premises g h n ↔ (remainingOf g h n .refusal ≡ 0))
-  pub instance : Premises F heard01 2
+  pub premises : (g h : List ℕ) (a : Question) → (Premises g h a ↔ (remainingTo g h a .refusal ≡ 0))
+  pub instance : Premises F heard01 (plainly 2)
   -- P1 to P10
   pub examples : Examples

@@ -29,7 +29,7 @@ use Rattle.counting.proofs.Sentences.{sentence-length}
 use Rattle.counting.proofs.Counts.{T-counts, T-length, T-sentences}
 use Rattle.ranking.specs.Answers.{fullList, totalOf, entryOf, unrankRows, unrankOf, derives, readingsOf, numberOf, rankRows, rankOf}
 use Rattle.ranking.specs.Demand2.{Derivation, HasNumber, OneDerivation, told, written, Demand2}
-use Rattle.ranking.proofs.Same.{entry-is}
+use Rattle.ranking.proofs.Inside.{entry-of}
 
 module _ (g : List ℕ) where
   -- ---- trees
@@ -94,7 +94,7 @@ module _ (g : List ℕ) where
     entry-length : length (entryOf g n d) ≡ n
     entry-length =
         sentence-length (chain g) (start g) n (entryOf g n d)
-        (rw (← entry-is g n d give-inside)
+        (rw (← entry-of g n d give-inside)
         (getD-∈ (sentences (chain g) (start g) n) d [] (omega (arith, give-inside, T-sentences (chain g) (start g) n))))
 
   module _ (s : List ℕ) (ok : rankOf g s .refusal ≡ 0) where

@@ -1,10 +1,6 @@
--- The laws of ranking, for the crates above.
-pub mod Fitting
-pub mod Walking
-pub mod Choosing
-pub mod Halving
-pub mod Joined
-pub mod Same
+-- The laws of *Give* and *Number*, and demand 2.
+pub mod Inside
+pub mod Weighing
+pub mod Finding
 pub mod Answering
-pub mod Giving
 pub mod Demand2

@@ -1,5 +1,4 @@
-pub mod Located
 pub mod Answers
+pub mod Inside
 pub mod Ranking
-pub mod Giving
 pub mod Demand2

@@ -4,22 +4,40 @@ use mathlib.Core.Path.{_≡_}
 use mathlib.Core.List.{List}
 use Prim.Native.Nat.{ℕ, _≤_}
 use lib.ListN.{length}
-use Rattle.readings.specs.Plan.{Ready}
-use Rattle.readings.specs.Rows.{room}
-use Rattle.ranking.specs.Answers.{readingsOf, numberOf}
+use Rattle.lists.specs.Tables.{entry, Wide}
+use Rattle.grammar.specs.Links.{Unlinked}
+use Rattle.charts.specs.Maps.{Everywhere}
+use Rattle.charts.specs.Plan.{room}
+use Rattle.charts.specs.Chart.{Blank}
+use Rattle.charts.specs.Ready.{Ready}
+use Rattle.ranking.specs.Inside.{readingsIn, numberIn}
 use Rattle.ranking.specs.declared.rank.Found.{Found}
 use Rattle.ranking.specs.declared.rank.Found.the-variants.{None, One, Many}
 
--- the tables for the sentence's length, their plan, and room for the sentence's rows
-pub record FindSought (g index plain plan sentence cells : List ℕ) : Type 0 where
-  pub ready : Ready g index plain (length sentence) plan
-  pub room : room (length sentence) ≤ length cells
+-- what all sentences of the length share, and the map of the counts
+pub record FindSought (rules plan map counts : List (List ℕ)) (s : List ℕ) (totals : List (List ℕ)) : Type 0 where
+  pub ready : Ready rules plan map totals (length s)
+  pub everywhere : Everywhere counts
 
 -- what each case says of the sentence s
-abbrev pub Says : (g s : List ℕ) → Found → Type 0
-Says g s None = readingsOf g s ≡ 0
-Says g s (One d) = (readingsOf g s ≡ 1) × (d .0 ≡ numberOf g s)
-Says g s Many = 2 ≤ readingsOf g s
+abbrev pub Says : (rules : List (List ℕ)) (s : List ℕ) → Found → Type 0
+Says rules s None = readingsIn rules s ≡ 0
+Says rules s (One d) = (readingsIn rules s ≡ 1) × (d .0 ≡ numberIn rules s)
+Says rules s Many = 2 ≤ readingsIn rules s
 
-pub record FoundAs (g s : List ℕ) (f : Found) : Type 0 where
-  pub says : Says g s f
+-- that, and the tables for the next sentence
+pub record FoundAs (rules plan map : List (List ℕ)) (s : List ℕ) (totals : List (List ℕ)) (f : Found) : Type 0 where
+  pub says : Says rules s f
+  pub ready : Ready rules plan map totals (length s)
+
+-- room for the chart of n positions, in a table of zeros
+pub record Roomy (n : ℕ) (totals : List (List ℕ)) : Type 0 where
+  pub wide : Wide totals 32
+  pub zeros : (r A : ℕ) → entry totals r A ≡ 0
+  pub long : n ≤ 16 → room n ≤ length totals
+  pub counts : 18 ≤ length totals
+
+-- the counts, with room for the sentence's chart, and rules whose links aren't made yet
+pub record NumberSought (rules : List (List ℕ)) (s : List ℕ) (totals : List (List ℕ)) : Type 0 where
+  pub blank : Blank rules totals (length s)
+  pub unlinked : Unlinked rules

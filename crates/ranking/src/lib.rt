@@ -1,4 +1,3 @@
 // Ranking (document 01: Give and Number): from a derivation number to its sentence and back.
-pub mod locate;
 pub mod rank;
 pub mod unrank;

@@ -1,16 +1,17 @@
 // *Give*: the sentence with a derivation number.
 ghost use mathlib.Core.Path.{_≡_};
-ghost use Rattle.counting.specs.Prepared.{Tabled};
 ghost use mathlib.Core.List.{_++_};
 ghost use lib.ListN.{drop};
-ghost use Rattle.ranking.specs.Answers.{totalOf, entryOf, unrankSaid, unrankOf};
-ghost use Rattle.ranking.specs.Giving.{Summed, WriteSought};
-use crate::locate;
+ghost use Rattle.counting.specs.Counted.{Counted};
+ghost use Rattle.ranking.specs.Answers.{unrankSaid, unrankOf};
+ghost use Rattle.ranking.specs.Inside.{totalIn, entryIn, WriteSought, unrankIn};
+use charts::maps;
 use counting::prepare;
 use counting::prepare::CountRefusal;
 use counting::prepare::Prepared;
-use counting::tables;
-use grammar::fields;
+use counting::tallies;
+use grammar::rules;
+use walk::nodes::Node;
 
 // How many derivations stand before one (document 01: derivation number). No draw number is one.
 pub struct DerivationNumber(pub u64);
@@ -23,75 +24,73 @@ pub enum UnrankAnswer {
 }
 
 // T(S, n), from the table.
-pub fn total(g: &[u8], plain: &[u64; 544], n: usize) -> u64
-    requires { ⌜ Summed (now g) n (now plain) ⌝ }
-    ensures { λ t. ⌜ t ≡ totalOf (now (g .entry)) n ⌝ }
+pub fn total(rules: &[[u8; 256]], totals: &[[u64; 32]], n: usize) -> u64
+    requires { ⌜ Counted (now rules) (now totals) n ⌝ }
+    ensures { λ t. ⌜ t ≡ totalIn (now (rules .entry)) n ⌝ }
 {
-    tables::plain_at(plain, tables::wide(fields::start(g)), n)
+    tallies::count_at(totals, rules::start(rules), n)
 }
 
-// The sentence with the derivation number d into the first bytes of `out`.
+// The sentence with the derivation number d into the first bytes of `out`: choice and measure are the counts, so that ticket d is entry d.
 pub fn write(
-    g: &[u8],
-    index: &[u8; 1024],
-    plain: &[u64; 544],
+    rules: &[[u8; 256]],
+    totals: &[[u64; 32]],
     n: usize,
     number: DerivationNumber,
     out: &mut [u8],
 )
-    requires { ⌜ WriteSought (now g) (now index) (now plain) n (number .0) (now out) ⌝ }
-    ensures { λ _. ⌜ now (out .exit) ≡ entryOf (now (g .entry)) n (number .0) ++ drop n (now (out .entry)) ⌝ }
+    requires { ⌜ WriteSought (now rules) (now totals) n (number .0) (now out) ⌝ }
+    ensures { λ _. ⌜ now (out .exit) ≡ entryIn (now (rules .entry)) n (number .0) ++ drop n (now (out .entry)) ⌝ }
 {
-    let d = number.0;
-    let s = tables::wide(fields::start(g));
-    let plan = [0u8; 1];
-    let blanks = [0u8; 1];
-    let cells = [0u64; 1];
-    locate::choose(
-        g,
-        index,
-        plain,
-        &plan,
-        &blanks[0..0],
-        s,
-        0,
-        d,
-        &cells,
+    let counts = maps::EVERYWHERE;
+    let node = Node {
+        a: rules::start(rules),
+        p: 0,
+        m: n,
+    };
+    walk::choose(
+        rules,
+        totals,
+        &counts,
+        &counts,
+        node,
+        number.0,
         &mut out[0..n],
     );
 }
 
 // With the tables at hand.
 fn give(
-    g: &[u8],
-    index: &[u8; 1024],
-    plain: &[u64; 544],
+    rules: &[[u8; 256]],
+    totals: &[[u64; 32]],
     n: usize,
     number: DerivationNumber,
     out: &mut [u8],
 ) -> UnrankAnswer
-    requires { ⌜ Tabled (now g) n (now index) (now plain) ⌝ }
-    ensures { λ r. ⌜ unrankSaid r (now (out .exit)) ≡ unrankOf (now (g .entry)) n (number .0) (now (out .entry)) ⌝ }
+    requires { ⌜ Counted (now rules) (now totals) n ⌝ }
+    ensures { λ r. ⌜ unrankSaid r (now (out .exit)) ≡ unrankIn (now (rules .entry)) n (number .0) (now (out .entry)) ⌝ }
 {
-    let t = total(g, plain, n);
+    let t = total(rules, totals, n);
     if t <= number.0 {
         return UnrankAnswer::Beyond;
     }
     if out.len() < n {
         return UnrankAnswer::Short;
     }
-    write(g, index, plain, n, number, out);
+    write(rules, totals, n, number, out);
     UnrankAnswer::Given(t)
 }
 
 pub fn unrank(g: &[u8], n: u64, number: DerivationNumber, out: &mut [u8]) -> UnrankAnswer
     ensures { λ r. ⌜ unrankSaid r (now (out .exit)) ≡ unrankOf (now (g .entry)) n (number .0) (now (out .entry)) ⌝ }
 {
-    let mut index = [0u8; 1024];
-    let mut plain = [0u64; 544];
-    let p = prepare::prepare(g, n, &mut index, &mut plain);
+    let byte_row = [0u8; 256];
+    let mut rules = [byte_row; 4];
+    let row = [0u64; 32];
+    let mut totals = [row; 17];
+    let p = prepare::prepare(g, n, &mut rules, &mut totals);
     match p {
         Prepared::Refused(r) => UnrankAnswer::NotGiven(r),
-        Prepared::Ready => give(g, &index, &plain, n as usize, number, out),
+        Prepared::Ready => give(&rules, &totals, n as usize, number, out),
     }
 }

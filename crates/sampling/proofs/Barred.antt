@@ -29,6 +29,7 @@ use Rattle.ranking.proofs.Demand2.{listed-total, number-inside, number-says, nu
 use Rattle.history.specs.Refusals as history
 use Rattle.history.specs.Heard.{sentences, heard}
 use Rattle.history.proofs.Chain.{heard-sentences}
+use Rattle.sampling.specs.Question.{plainly}
 use Rattle.sampling.specs.Unheard.{outside, unheard, barred, distinct, ofLength, heardOf, leftOf, ambiguous}
 use Rattle.sampling.specs.Answers.{drawn}
 
@@ -111,15 +112,15 @@ module _ (g h : List ℕ) (n : ℕ) where
   abbrev oneReading : List (List ℕ)
   oneReading = keep (λ s. eqb (readingsOf g s) 1) (ofLength n h)
 
-  pub unheard-length : length (unheard g h n) ≡ length (keep (outside h) (fullList g n))
+  pub unheard-length : length (unheard g h (plainly n)) ≡ length (keep (outside h) (fullList g n))
   unfolding unheard
   unheard-length = keep-numbered (outside h) 0 (fullList g n)
 
-  pub unheard-all : length (unheard g h n) + length (barred g h n) ≡ totalOf g n
+  pub unheard-all : length (unheard g h (plainly n)) + length (barred g h (plainly n)) ≡ totalOf g n
   unheard-all = omega (arith, unheard-length, keep-length (outside h) (fullList g n), listed-total g n)
 
   -- entry q is what the skip of q over the struck places finds
-  pub unheard-at : (q : ℕ) → q < length (unheard g h n) → drawn g h n q ≡ (skip q (barred g h n), getD (fullList g n) (skip q (barred g h n)) (leaf 0 0))
+  pub unheard-at : (q : ℕ) → q < length (unheard g h (plainly n)) → drawn g h (plainly n) q ≡ (skip q (barred g h (plainly n)), getD (fullList g n) (skip q (barred g h (plainly n))) (leaf 0 0))
   unfolding unheard
   unheard-at q l = kept-at (outside h) (fullList g n) q (leaf 0 0) (omega (arith, unheard-length))
 
@@ -152,7 +153,7 @@ module _ (g h : List ℕ) (n : ℕ) (diary : history.Accepted h) where
       let q = length-∈ s m in
       (number-listed g n s (q .1) one, ap (λ (u : List ℕ). not (heard h u)) (number-entry g n s (q .1) one) ∙ ap not (q .0))
 
-  module _ (clear : ambiguous g h n ≡ false) where
+  module _ (clear : ambiguous g h (plainly n) ≡ false) where
     pub few-readings : (s : List ℕ) → s ∈ ofLength n h → readingsOf g s < 2
     unfolding ambiguous
     few-readings s m = leb-false 2 (readingsOf g s) (none-∈ (λ s. leb 2 (readingsOf g s)) (ofLength n h) clear s m)
@@ -170,7 +171,7 @@ module _ (g h : List ℕ) (n : ℕ) (diary : history.Accepted h) where
     pub collected : (l : List ℕ) → Pairwise _<_ l
         → ((d : ℕ) → d ∈ l → (s : List ℕ) × (s ∈ ofLength n h) × (readingsOf g s ≡ 1) × (numberOf g s ≡ d))
         → ((s : List ℕ) → s ∈ ofLength n h → readingsOf g s ≡ 1 → numberOf g s ∈ l)
-        → l ≡ barred g h n
+        → l ≡ barred g h (plainly n)
     collected l rising from into =
         struck-unique (outside h) (fullList g n) (leaf 0 0) l rising
         (λ d. (
@@ -191,39 +192,39 @@ module _ (g h : List ℕ) (n : ℕ) (diary : history.Accepted h) where
         ∈-distinct (oneReading g h n) s (∈-keep (λ s. eqb (readingsOf g s) 1) (ofLength n h) s m (eq-eqb (readingsOf g s) 1 one))
 
     -- their numbers are the struck places
-    counted-struck : (d : ℕ) → d ∈ map (numberOf g) (distinct (oneReading g h n)) → d ∈ barred g h n
+    counted-struck : (d : ℕ) → d ∈ map (numberOf g) (distinct (oneReading g h n)) → d ∈ barred g h (plainly n)
     counted-struck d m =
         let p = Memᴰ·of-map (numberOf g) (distinct (oneReading g h n)) m in
         let q = counted-∈ (p .0) (p .1) in
         let r = number-fails (p .0) (q .0) (q .1) in
         Memᴰ·cast (sym (p .2)) (fails-struck (outside h) (fullList g n) (numberOf g (p .0)) (leaf 0 0) (r .0) (r .1))
 
-    struck-counted : (d : ℕ) → d ∈ barred g h n → d ∈ map (numberOf g) (distinct (oneReading g h n))
+    struck-counted : (d : ℕ) → d ∈ barred g h (plainly n) → d ∈ map (numberOf g) (distinct (oneReading g h n))
     struck-counted d m =
         let p = struck-fails (outside h) (fullList g n) d (leaf 0 0) m in
         let q = fails-number d (p .0) (p .1) in
         Memᴰ·cast (sym (q .3)) (Memᴰ·map (numberOf g) (∈-counted (q .0) (q .1) (q .2)))
 
-    pub heard-length : heardOf g h n ≡ length (barred g h n)
+    pub heard-length : heardOf g h (plainly n) ≡ length (barred g h (plainly n))
     unfolding heardOf
     heard-length =
         sym (length-map (distinct (oneReading g h n)) (numberOf g))
-        ∙ distinct-length (length (fullList g n)) (map (numberOf g) (distinct (oneReading g h n))) (barred g h n)
+        ∙ distinct-length (length (fullList g n)) (map (numberOf g) (distinct (oneReading g h n))) (barred g h (plainly n))
         (numbers-once g n (distinct (oneReading g h n))
         (λ s m. let q = counted-∈ s m in (length-∈ s (q .0) .1, q .1)) (distinct-once (oneReading g h n)))
-        (pairwise-distinct _<_ (λ x y l e. omega arith) (barred g h n) (struck-rising (outside h) (fullList g n)))
+        (pairwise-distinct _<_ (λ x y l e. omega arith) (barred g h (plainly n)) (struck-rising (outside h) (fullList g n)))
         (λ d m. struck-fails (outside h) (fullList g n) d (leaf 0 0) m .0)
         counted-struck
         struck-counted
 
     -- left is the length of the unheard list
-    pub left-length : leftOf g h n ≡ length (unheard g h n)
+    pub left-length : leftOf g h (plainly n) ≡ length (unheard g h (plainly n))
     left-length = omega (arith, heard-length, unheard-all g h n)
 
     -- so "left = T - heard" is no cut-off difference
-    pub heard-left : heardOf g h n + leftOf g h n ≡ totalOf g n
+    pub heard-left : heardOf g h (plainly n) + leftOf g h (plainly n) ≡ totalOf g n
     heard-left = omega (arith, heard-length, unheard-all g h n)
 
-    pub left-at : (q : ℕ) → q < leftOf g h n
-        → drawn g h n q ≡ (skip q (barred g h n), getD (fullList g n) (skip q (barred g h n)) (leaf 0 0))
+    pub left-at : (q : ℕ) → q < leftOf g h (plainly n)
+        → drawn g h (plainly n) q ≡ (skip q (barred g h (plainly n)), getD (fullList g n) (skip q (barred g h (plainly n))) (leaf 0 0))
     left-at q l = unheard-at g h n q (omega (arith, left-length))

@@ -31,8 +31,9 @@ use Rattle.grammar.proofs.Order as order
 use Rattle.ranking.specs.Answers.{fullList, totalOf}
 use Rattle.ranking.specs.Demand2.{written}
 use Rattle.history.specs.Heard.{heard}
+use Rattle.sampling.specs.Question.{plainly}
 use Rattle.sampling.specs.Unheard.{Entry, outside, unheard, barred, heardOf, leftOf, ambiguous}
-use Rattle.sampling.specs.Answers.{remainingRows, remainingOf, drawn, drawOf}
+use Rattle.sampling.specs.Answers.{remainingRows, remainingOf, drawn, drawOf, remainingTo, drawTo}
 use Rattle.sampling.specs.Demand3.{Single, Premises, shown, put, refused, Demand3, Derivable, Once, SameBarred, Alike}
 use Rattle.sampling.proofs.Barred.{listed-length, unheard-length, unheard-at, heard-length, left-length}
 use Rattle.sampling.proofs.Premises.{heard-single, premises-pass}
@@ -87,100 +88,100 @@ module _ (g h : List ℕ) (n : ℕ) where
   unstruck-once = keep-pairwise _≢_ (outside h) (fullList g n) (order.distinct (chain g) (start g) n)
 
   -- the entries' trees are these
-  entry-tree : (q : ℕ) → q < length (unheard g h n) → drawn g h n q .1 ≡ getD unstruck q (leaf 0 0)
+  entry-tree : (q : ℕ) → q < length (unheard g h (plainly n)) → drawn g h (plainly n) q .1 ≡ getD unstruck q (leaf 0 0)
   entry-tree q k = ap (λ (e : Entry). e .1) (unheard-at g h n q k) ∙ sym (keep-at (outside h) (fullList g n) q (leaf 0 0))
 
   -- each is listed, and its sentence is unheard
-  entry-left : (q : ℕ) → q < length (unheard g h n) → (drawn g h n q .1 ∈ fullList g n) × (outside h (drawn g h n q .1) ≡ true)
+  entry-left : (q : ℕ) → q < length (unheard g h (plainly n)) → (drawn g h (plainly n) q .1 ∈ fullList g n) × (outside h (drawn g h (plainly n) q .1) ≡ true)
   entry-left q k =
       rw (entry-tree q k)
       (keep-∈ (outside h) (fullList g n) (getD unstruck q (leaf 0 0)) (getD-∈ unstruck q (leaf 0 0) (omega (arith, unheard-length g h n))))
 
-  entry-long : (q : ℕ) → q < length (unheard g h n) → length (sentence (drawn g h n q .1)) ≡ n
-  entry-long q k = listed-length g n (drawn g h n q .1) (entry-left q k .0)
+  entry-long : (q : ℕ) → q < length (unheard g h (plainly n)) → length (sentence (drawn g h (plainly n) q .1)) ≡ n
+  entry-long q k = listed-length g n (drawn g h (plainly n) q .1) (entry-left q k .0)
 
   -- the struck places decide the whole list
   abbrev found : List ℕ → ℕ → Entry
   found bad q = (skip q bad, getD (fullList g n) (skip q bad) (leaf 0 0))
 
-  unheard-found : unheard g h n ≡ map (found (barred g h n)) (upFrom 0 (length (fullList g n) - length (barred g h n)))
+  unheard-found : unheard g h (plainly n) ≡ map (found (barred g h (plainly n))) (upFrom 0 (length (fullList g n) - length (barred g h (plainly n))))
   unfolding unheard
   unheard-found = sym (draws (outside h) (fullList g n) (leaf 0 0))
 
 -- ---- demand 3
 
-module _ (g h : List ℕ) (n : ℕ) (p : Premises g h n) where
-  clear : ambiguous g h n ≡ false
+module _ (g h : List ℕ) (n : ℕ) (p : Premises g h (plainly n)) where
+  clear : ambiguous g h (plainly n) ≡ false
   clear = heard-single g h n (p .diary) .1 (p .single)
 
-  passed : firstThatApplies (remainingRows g h n) ≡ 0
+  passed : firstThatApplies (remainingRows g h (plainly n)) ≡ 0
   passed = premises-pass g h n p
 
-  left-is : leftOf g h n ≡ length (unheard g h n)
+  left-is : leftOf g h (plainly n) ≡ length (unheard g h (plainly n))
   left-is = left-length g h n (p .diary) clear
 
-  remaining-is : remainingOf g h n ≡ written (totalOf g n ∷ heardOf g h n ∷ length (unheard g h n) ∷ []) []
-  unfolding remainingOf
+  remaining-is : remainingOf g h n ≡ written (totalOf g n ∷ heardOf g h (plainly n) ∷ length (unheard g h (plainly n)) ∷ []) []
+  unfolding remainingTo
   remaining-is =
-      answer-accepted (totalOf g n ∷ heardOf g h n ∷ leftOf g h n ∷ []) [] [] passed
-      ∙ ap (λ (m : ℕ). written (totalOf g n ∷ heardOf g h n ∷ m ∷ []) []) left-is
+      answer-accepted (totalOf g n ∷ heardOf g h (plainly n) ∷ leftOf g h (plainly n) ∷ []) [] [] passed
+      ∙ ap (λ (m : ℕ). written (totalOf g n ∷ heardOf g h (plainly n) ∷ m ∷ []) []) left-is
 
-  draw-is : (q : ℕ) (out : List ℕ) → drawOf g h n q out ≡ drawFrom n q out (unheard g h n)
-  unfolding drawOf
+  draw-is : (q : ℕ) (out : List ℕ) → drawOf g h n q out ≡ drawFrom n q out (unheard g h (plainly n))
+  unfolding drawTo
   draw-is q out =
-      ap (λ (r : ℕ). answerOf r (leftOf g h n ∷ drawn g h n q .0 ∷ []) out (sentence (drawn g h n q .1) ++ drop n out))
-      (rows-pass (remainingRows g h n) ((leb (leftOf g h n) q, 16) ∷ (ltb (length out) n, 20) ∷ []) refl passed)
-      ∙ ap (λ (m : ℕ). answer ((leb m q, 16) ∷ (ltb (length out) n, 20) ∷ []) (m ∷ drawn g h n q .0 ∷ []) out (sentence (drawn g h n q .1) ++ drop n out))
+      ap (λ (r : ℕ). answerOf r (leftOf g h (plainly n) ∷ drawn g h (plainly n) q .0 ∷ []) out (sentence (drawn g h (plainly n) q .1) ++ drop n out))
+      (rows-pass (remainingRows g h (plainly n)) ((leb (leftOf g h (plainly n)) q, 16) ∷ (ltb (length out) n, 20) ∷ []) refl passed)
+      ∙ ap (λ (m : ℕ). answer ((leb m q, 16) ∷ (ltb (length out) n, 20) ∷ []) (m ∷ drawn g h (plainly n) q .0 ∷ []) out (sentence (drawn g h (plainly n) q .1) ++ drop n out))
       left-is
 
-  draw-accepted : (q : ℕ) (out : List ℕ) → q < length (unheard g h n) → n ≤ length out
-      → drawOf g h n q out ≡ written (length (unheard g h n) ∷ drawn g h n q .0 ∷ []) (sentence (drawn g h n q .1) ++ drop n out)
-  draw-accepted q out k l = draw-is q out ∙ from-accepted n q out (unheard g h n) (from-passed n q out (unheard g h n) k l)
+  draw-accepted : (q : ℕ) (out : List ℕ) → q < length (unheard g h (plainly n)) → n ≤ length out
+      → drawOf g h n q out ≡ written (length (unheard g h (plainly n)) ∷ drawn g h (plainly n) q .0 ∷ []) (sentence (drawn g h (plainly n) q .1) ++ drop n out)
+  draw-accepted q out k l = draw-is q out ∙ from-accepted n q out (unheard g h (plainly n)) (from-passed n q out (unheard g h (plainly n)) k l)
 
-  draw-figures : (q : ℕ) (out : List ℕ) → drawOf g h n q out .refusal ≡ 0 → (d : ℕ) × (drawOf g h n q out .figures ≡ length (unheard g h n) ∷ d ∷ [])
+  draw-figures : (q : ℕ) (out : List ℕ) → drawOf g h n q out .refusal ≡ 0 → (d : ℕ) × (drawOf g h n q out .figures ≡ length (unheard g h (plainly n)) ∷ d ∷ [])
   draw-figures q out ok =
-      let e = sym (from-refusal n q out (unheard g h n)) ∙ ap (λ (a : Answer). a .refusal) (sym (draw-is q out)) ∙ ok in
-      (drawn g h n q .0, ap (λ (a : Answer). a .figures) (draw-is q out ∙ from-accepted n q out (unheard g h n) e))
+      let e = sym (from-refusal n q out (unheard g h (plainly n))) ∙ ap (λ (a : Answer). a .refusal) (sym (draw-is q out)) ∙ ok in
+      (drawn g h (plainly n) q .0, ap (λ (a : Answer). a .figures) (draw-is q out ∙ from-accepted n q out (unheard g h (plainly n)) e))
 
   -- the words that a draw writes
-  draw-words : (q : ℕ) (out : List ℕ) → q < length (unheard g h n) → n ≤ length out → take n (drawOf g h n q out .buffer) ≡ sentence (drawn g h n q .1)
+  draw-words : (q : ℕ) (out : List ℕ) → q < length (unheard g h (plainly n)) → n ≤ length out → take n (drawOf g h n q out .buffer) ≡ sentence (drawn g h (plainly n) q .1)
   draw-words q out k l =
       ap (λ (a : Answer). take n (a .buffer)) (draw-accepted q out k l)
-      ∙ take-at (sentence (drawn g h n q .1)) (drop n out) n (entry-long g h n q k)
+      ∙ take-at (sentence (drawn g h (plainly n) q .1)) (drop n out) n (entry-long g h n q k)
 
-  draw-shown : (q : ℕ) (out : List ℕ) → q < length (unheard g h n) → n ≤ length out → shown n (drawOf g h n q out) ≡ put (drawn g h n q)
+  draw-shown : (q : ℕ) (out : List ℕ) → q < length (unheard g h (plainly n)) → n ≤ length out → shown n (drawOf g h n q out) ≡ put (drawn g h (plainly n) q)
   draw-shown q out k l = rw (draw-words q out k l, draw-accepted q out k l)
 
   draw-kept : (q : ℕ) (out : List ℕ) → drop n (drawOf g h n q out .buffer) ≡ drop n out
   draw-kept q out =
-      elim (decLe (length (unheard g h n)) q) [
-        | yes b ↦ ap (λ (a : Answer). drop n (a .buffer)) (draw-is q out ∙ from-beyond n q out (unheard g h n) b)
+      elim (decLe (length (unheard g h (plainly n))) q) [
+        | yes b ↦ ap (λ (a : Answer). drop n (a .buffer)) (draw-is q out ∙ from-beyond n q out (unheard g h (plainly n)) b)
         | no b ↦
             elim (decLe n (length out)) [
               | yes l ↦
                   ap (λ (a : Answer). drop n (a .buffer)) (draw-accepted q out (omega arith) l)
-                  ∙ drop-at (sentence (drawn g h n q .1)) (drop n out) n (entry-long g h n q (omega arith))
-              | no l ↦ ap (λ (a : Answer). drop n (a .buffer)) (draw-is q out ∙ from-short n q out (unheard g h n) (omega arith) (omega arith))
+                  ∙ drop-at (sentence (drawn g h (plainly n) q .1)) (drop n out) n (entry-long g h n q (omega arith))
+              | no l ↦ ap (λ (a : Answer). drop n (a .buffer)) (draw-is q out ∙ from-short n q out (unheard g h (plainly n)) (omega arith) (omega arith))
             ]
       ]
 
-  pub demand-3 : Demand3 g h n
+  pub demand-3 : Demand3 g h (plainly n)
   demand-3 =
       record {
         left = remaining-is;
         figures = draw-figures;
         accepted = λ q out k l. ap (λ (a : Answer). a .refusal) (draw-accepted q out k l);
-        draws = λ out l. map-upFrom (λ q. shown n (drawOf g h n q (out q))) put 0 (unheard g h n) (0, leaf 0 0)
+        draws = λ out l. map-upFrom (λ q. shown n (drawOf g h n q (out q))) put 0 (unheard g h (plainly n)) (0, leaf 0 0)
             (λ q k. let e : 0 + q ≡ q = omega arith in rw e (draw-shown q (out q) k (l q)));
         kept = draw-kept;
-        beyond = λ q out b. draw-is q out ∙ from-beyond n q out (unheard g h n) b;
+        beyond = λ q out b. draw-is q out ∙ from-beyond n q out (unheard g h (plainly n)) b;
       }
 
   -- ---- sentences that come once
 
   module _ (single : (s : List ℕ) → length s ≡ n → Single g s) (out : ℕ → List ℕ) (long : (q : ℕ) → n ≤ length (out q)) where
     once-each : (s : List ℕ) → length s ≡ n → Derivable g s → heard h s ≡ false
-        → Exactly 1 (λ q. (q < length (unheard g h n)) × (take n (drawOf g h n q (out q) .buffer) ≡ s))
+        → Exactly 1 (λ q. (q < length (unheard g h (plainly n))) × (take n (drawOf g h n q (out q) .buffer) ≡ s))
     once-each s e (t, d, says) u =
         record {
           listed = place .0 ∷ [];
@@ -197,7 +198,7 @@ module _ (g h : List ℕ) (n : ℕ) (p : Premises g h n) where
         is : getD (unstruck g h n) (place .0) (leaf 0 0) ≡ t
         is = At-getD (unstruck g h n) (place .0) t (leaf 0 0) (place .2)
 
-        inside : place .0 < length (unheard g h n)
+        inside : place .0 < length (unheard g h (plainly n))
         inside = omega (arith, place .1, unheard-length g h n)
 
         here : take n (drawOf g h n (place .0) (out (place .0)) .buffer) ≡ s
@@ -206,17 +207,17 @@ module _ (g h : List ℕ) (n : ℕ) (p : Premises g h n) where
             ∙ ap sentence (entry-tree g h n (place .0) inside ∙ is)
             ∙ says
 
-        only : (q : ℕ) → q < length (unheard g h n) → take n (drawOf g h n q (out q) .buffer) ≡ s → q ≡ place .0
+        only : (q : ℕ) → q < length (unheard g h (plainly n)) → take n (drawOf g h n q (out q) .buffer) ≡ s → q ≡ place .0
         only q k w =
-            let said : sentence (drawn g h n q .1) ≡ s = sym (draw-words q (out q) k (long q)) ∙ w in
-            let same = single s e (drawn g h n q .1) t (rw e (sound (chain g) (start g) n (drawn g h n q .1) (entry-left g h n q k .0))) d said says in
+            let said : sentence (drawn g h (plainly n) q .1) ≡ s = sym (draw-words q (out q) k (long q)) ∙ w in
+            let same = single s e (drawn g h (plainly n) q .1) t (rw e (sound (chain g) (start g) n (drawn g h (plainly n) q .1) (entry-left g h n q k .0))) d said says in
             distinct-place (unstruck g h n) q (place .0) (leaf 0 0) (unstruck-once g h n)
             (omega (arith, unheard-length g h n)) (place .1) (sym (entry-tree g h n q k) ∙ same ∙ sym is)
 
-    once-other : (q : ℕ) → q < length (unheard g h n)
+    once-other : (q : ℕ) → q < length (unheard g h (plainly n))
         → (s : List ℕ) × (take n (drawOf g h n q (out q) .buffer) ≡ s) × (length s ≡ n) × Derivable g s × (heard h s ≡ false)
     once-other q k =
-        let t = drawn g h n q .1 in
+        let t = drawn g h (plainly n) q .1 in
         let l = entry-long g h n q k in (
           sentence t,
           draw-words q (out q) k (long q),
@@ -225,34 +226,34 @@ module _ (g h : List ℕ) (n : ℕ) (p : Premises g h n) where
           not-true (heard h (sentence t)) (entry-left g h n q k .1),
         )
 
-    pub once : Once g h n out
+    pub once : Once g h (plainly n) out
     once = record { each = once-each; other = once-other }
 
 -- ---- two histories
 
-module _ (g h h′ : List ℕ) (n : ℕ) (p : Premises g h n) (p′ : Premises g h′ n) (bars : SameBarred g h h′ n) where
+module _ (g h h′ : List ℕ) (n : ℕ) (p : Premises g h (plainly n)) (p′ : Premises g h′ (plainly n)) (bars : SameBarred g h h′ (plainly n)) where
   outside-same : (t : Tree) → t ∈ fullList g n → outside h t ≡ outside h′ t
   outside-same t m =
       let l = listed-length g n t m in
       let d : Derivable g (sentence t) = (t, rw l (sound (chain g) (start g) n t m), refl) in
       ap not (both-ways (heard h (sentence t)) (heard h′ (sentence t)) (λ e. bars (sentence t) l .0 (e, d) .0) (λ e. bars (sentence t) l .1 (e, d) .0))
 
-  barred-same : barred g h n ≡ barred g h′ n
+  barred-same : barred g h (plainly n) ≡ barred g h′ (plainly n)
   barred-same = struck-ext (outside h) (outside h′) (fullList g n) outside-same
 
-  unheard-same : unheard g h n ≡ unheard g h′ n
+  unheard-same : unheard g h (plainly n) ≡ unheard g h′ (plainly n)
   unheard-same =
       unheard-found g h n
       ∙ ap (λ (bad : List ℕ). map (found g h n bad) (upFrom 0 (length (fullList g n) - length bad))) barred-same
       ∙ sym (unheard-found g h′ n)
 
-  heard-same : heardOf g h n ≡ heardOf g h′ n
+  heard-same : heardOf g h (plainly n) ≡ heardOf g h′ (plainly n)
   heard-same =
       heard-length g h n (p .diary) (clear g h n p)
       ∙ ap length barred-same
       ∙ sym (heard-length g h′ n (p′ .diary) (clear g h′ n p′))
 
-  pub alike : Alike g h h′ n
+  pub alike : Alike g h h′ (plainly n)
   alike =
       record {
         left = remaining-is g h n p ∙ rw (heard-same, unheard-same) (sym (remaining-is g h′ n p′));

@@ -32,8 +32,9 @@ use Rattle.history.specs.Layout.{twoAt, wordsOf}
 use Rattle.history.specs.Chain.{numbersFrom}
 use Rattle.history.specs.Heard.{heard}
 use Rattle.history.specs.Refusals as history
+use Rattle.sampling.specs.Question.{plainly}
 use Rattle.sampling.specs.Unheard.{unheard, heardOf, leftOf, ambiguous}
-use Rattle.sampling.specs.Answers.{remainingRows, remainingOf, drawn, drawRows, drawOf}
+use Rattle.sampling.specs.Answers.{remainingRows, remainingOf, drawn, drawRows, drawOf, remainingTo, drawTo}
 use Rattle.sampling.specs.Demand3.{Premises, refused}
 use Rattle.sampling.specs.Examples.{F, G, heard01, Examples}
 use Rattle.sampling.proofs.Premises.{prepared-pass, heard-single, premises-pass}
@@ -147,12 +148,12 @@ heard01-accepted : history.Accepted heard01
 unfolding firstThatApplies history.badSize history.misfit history.badRecord history.badLink history.badChain badLength someBelow twoAt numbersFrom metFrom
 heard01-accepted = refl
 
-heard01-clear : ambiguous F heard01 2 ≡ false
+heard01-clear : ambiguous F heard01 (plainly 2) ≡ false
 unfolding ambiguous twoAt wordsOf numbersFrom trees treesTo metFrom rest
 heard01-clear = refl
 
 -- the premises of demand 3 hold of F, this history and length 2
-pub example-premises : Premises F heard01 2
+pub example-premises : Premises F heard01 (plainly 2)
 example-premises =
     record {
       bank = F-accepted;
@@ -163,37 +164,37 @@ example-premises =
       single = heard-single F heard01 2 heard01-accepted .0 heard01-clear;
     }
 
-heard-one : heardOf F heard01 2 ≡ 1
+heard-one : heardOf F heard01 (plainly 2) ≡ 1
 unfolding heardOf twoAt wordsOf numbersFrom trees treesTo metFrom rest
 heard-one = refl
 
-left-three : leftOf F heard01 2 ≡ 3
+left-three : leftOf F heard01 (plainly 2) ≡ 3
 left-three = omega (arith, heard-one, T-doubled 0)
 
-unheard-three : unheard F heard01 2 ≡ (0, node 0 (leaf 0 0) (leaf 0 0)) ∷ (2, node 0 (leaf 1 1) (leaf 0 0)) ∷ (3, node 0 (leaf 1 1) (leaf 1 1)) ∷ []
+unheard-three : unheard F heard01 (plainly 2) ≡ (0, node 0 (leaf 0 0) (leaf 0 0)) ∷ (2, node 0 (leaf 1 1) (leaf 0 0)) ∷ (3, node 0 (leaf 1 1) (leaf 1 1)) ∷ []
 unfolding unheard heard someBelow twoAt wordsOf trees treesTo metFrom rest
 unheard-three = refl
 
-passes : firstThatApplies (remainingRows F heard01 2) ≡ 0
+passes : firstThatApplies (remainingRows F heard01 (plainly 2)) ≡ 0
 passes = premises-pass F heard01 2 example-premises
 
 left-of-two : remainingOf F heard01 2 ≡ told (4 ∷ 1 ∷ 3 ∷ [])
-unfolding remainingOf
+unfolding remainingTo
 left-of-two =
-    answer-accepted (T (chain F) 0 2 ∷ heardOf F heard01 2 ∷ leftOf F heard01 2 ∷ []) [] [] passes
-    ∙ ap (λ (x : ℕ). told (x ∷ heardOf F heard01 2 ∷ leftOf F heard01 2 ∷ [])) (T-doubled 0)
-    ∙ ap (λ (x : ℕ). told (4 ∷ x ∷ leftOf F heard01 2 ∷ [])) heard-one
+    answer-accepted (T (chain F) 0 2 ∷ heardOf F heard01 (plainly 2) ∷ leftOf F heard01 (plainly 2) ∷ []) [] [] passes
+    ∙ ap (λ (x : ℕ). told (x ∷ heardOf F heard01 (plainly 2) ∷ leftOf F heard01 (plainly 2) ∷ [])) (T-doubled 0)
+    ∙ ap (λ (x : ℕ). told (4 ∷ x ∷ leftOf F heard01 (plainly 2) ∷ [])) heard-one
     ∙ ap (λ (x : ℕ). told (4 ∷ 1 ∷ x ∷ [])) left-three
 
 draw-below : (q : ℕ) (out : List ℕ) → q < 3 → 2 ≤ length out
-    → drawOf F heard01 2 q out ≡ written (3 ∷ drawn F heard01 2 q .0 ∷ []) (sentence (drawn F heard01 2 q .1) ++ drop 2 out)
-unfolding drawOf firstThatApplies
+    → drawOf F heard01 2 q out ≡ written (3 ∷ drawn F heard01 (plainly 2) q .0 ∷ []) (sentence (drawn F heard01 (plainly 2) q .1) ++ drop 2 out)
+unfolding drawTo firstThatApplies
 draw-below q out h l =
-    answer-accepted (leftOf F heard01 2 ∷ drawn F heard01 2 q .0 ∷ []) out (sentence (drawn F heard01 2 q .1) ++ drop 2 out)
-    (rows-pass (remainingRows F heard01 2) ((leb (leftOf F heard01 2) q, 16) ∷ (ltb (length out) 2, 20) ∷ []) refl passes
-    ∙ row-passed 16 ((ltb (length out) 2, 20) ∷ []) (lt-leb (leftOf F heard01 2) q (omega (arith, left-three)))
+    answer-accepted (leftOf F heard01 (plainly 2) ∷ drawn F heard01 (plainly 2) q .0 ∷ []) out (sentence (drawn F heard01 (plainly 2) q .1) ++ drop 2 out)
+    (rows-pass (remainingRows F heard01 (plainly 2)) ((leb (leftOf F heard01 (plainly 2)) q, 16) ∷ (ltb (length out) 2, 20) ∷ []) refl passes
+    ∙ row-passed 16 ((ltb (length out) 2, 20) ∷ []) (lt-leb (leftOf F heard01 (plainly 2)) q (omega (arith, left-three)))
     ∙ row-passed 20 [] (le-ltb (length out) 2 l))
-    ∙ ap (λ (x : ℕ). written (x ∷ drawn F heard01 2 q .0 ∷ []) (sentence (drawn F heard01 2 q .1) ++ drop 2 out)) left-three
+    ∙ ap (λ (x : ℕ). written (x ∷ drawn F heard01 (plainly 2) q .0 ∷ []) (sentence (drawn F heard01 (plainly 2) q .1) ++ drop 2 out)) left-three
 
 draws-three : (out : List ℕ) → 2 ≤ length out
     → map (λ q. drawOf F heard01 2 q out) (upFrom 0 3)
@@ -202,12 +203,12 @@ draws-three out l =
     rw (draw-below 0 out (omega arith) l, draw-below 1 out (omega arith) l, draw-below 2 out (omega arith) l, unheard-three)
 
 draw-beyond : (out : List ℕ) → drawOf F heard01 2 3 out ≡ refused 16 out
-unfolding drawOf
+unfolding drawTo
 draw-beyond out =
-    let e : firstThatApplies (drawRows F heard01 2 3 out) ≡ 16
-    = rows-pass (remainingRows F heard01 2) ((leb (leftOf F heard01 2) 3, 16) ∷ (ltb (length out) 2, 20) ∷ []) refl passes
-    ∙ row-applies 16 ((ltb (length out) 2, 20) ∷ []) (le-leb (leftOf F heard01 2) 3 (omega (arith, left-three))) in
-    rw e (answer-refused 16 (leftOf F heard01 2 ∷ drawn F heard01 2 3 .0 ∷ []) out (sentence (drawn F heard01 2 3 .1) ++ drop 2 out) (omega arith))
+    let e : firstThatApplies (drawRows F heard01 (plainly 2) 3 out) ≡ 16
+    = rows-pass (remainingRows F heard01 (plainly 2)) ((leb (leftOf F heard01 (plainly 2)) 3, 16) ∷ (ltb (length out) 2, 20) ∷ []) refl passes
+    ∙ row-applies 16 ((ltb (length out) 2, 20) ∷ []) (le-leb (leftOf F heard01 (plainly 2)) 3 (omega (arith, left-three))) in
+    rw e (answer-refused 16 (leftOf F heard01 (plainly 2) ∷ drawn F heard01 (plainly 2) 3 .0 ∷ []) out (sentence (drawn F heard01 (plainly 2) 3 .1) ++ drop 2 out) (omega arith))
 
 -- ---- the grammar G
 

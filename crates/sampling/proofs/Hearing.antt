@@ -4,20 +4,21 @@
 use mathlib.Core.Path.{_≡_, refl, sym, ap, _∙_}
 use mathlib.Core.Bool.{Bool, true, false, cond, _&&_, _||_}
 use mathlib.Core.List.{List, [], _∷_, _++_, map, append-nil, append-assoc}
-use Prim.Native.Nat.{ℕ, suc, _+_, _≤_, _<_}
+use Prim.Native.Nat.{ℕ, suc, _+_, _-_, _≤_, _<_}
 use native.Mathlib.Omega.{arith}
-use native.Mathlib.Numerals.{add-one}
 use borrow.Author.Tests.{eq-eqb, ne-eqb, le-leb, lt-leb}
-use lib.ListN.{length, set, take, length-set}
-use lib.Seq.{take-suc, take-set-le, getD-set-same}
+use lib.ListN.{length, set, take, drop, length-drop}
+use lib.Seq.{length-take-le, take-append-le, take-append-add}
+use borrow.Rule.Slice.PartMut.{putMid, same-len-mid}
 use lib.Dec.{leb, eqb}
 use Rattle.lists.specs.Joined.{concatMap}
 use Rattle.lists.specs.Searched.{someOf}
 use Rattle.lists.specs.Struck.{keep}
-use Rattle.readings.specs.Plan.{Ready}
-use Rattle.readings.specs.Rows.{room}
-use Rattle.ranking.specs.Answers.{readingsOf, numberOf}
+use Rattle.charts.specs.Plan.{lengthIn}
+use Rattle.charts.specs.Ready.{Ready}
+use Rattle.ranking.specs.Inside.{readingsIn, numberIn}
 use Rattle.ranking.specs.Ranking.{FindSought, FoundAs}
+use Rattle.ranking.specs.declared.rank.Found.{Found}
 use Rattle.ranking.specs.declared.rank.Found.the-variants.{None, One, Many}
 use Rattle.ranking.specs.declared.unrank.DerivationNumber.{DerivationNumber}
 use Rattle.history.specs.Layout.{headOf, wordsOf}
@@ -28,84 +29,89 @@ use Rattle.history.specs.Heard.{sentences}
 use Rattle.history.proofs.Acceptance.{known}
 use Rattle.history.proofs.Chain.{chained}
 use Rattle.history.proofs.Reading.{read-end, read-record}
-use Rattle.sampling.specs.Unheard.{ambiguous}
-use Rattle.sampling.specs.Hearing.{numbersIn, manyIn, Tells, ToldAs, Collects, Holds, CollectedAs}
+use Rattle.sampling.specs.Hearing.{numbersIn, manyIn, ambiguousIn, Tells, ToldAs, Collects, Holds, CollectedAs}
 use Rattle.sampling.specs.declared.heard.Collected.{Collected}
 use Rattle.sampling.specs.declared.heard.Collected.the-variants.{Numbers, Ambiguous}
 
 -- ---- what a sentence adds
 
-module _ (g : List ℕ) (n : ℕ) (s : List ℕ) where
-  other-none : (length s ≡ n → ⊥) → (manyIn g n s ≡ false) × (numbersIn g n s ≡ [])
+module _ (rules : List (List ℕ)) (n : ℕ) (s : List ℕ) where
+  other-none : (length s ≡ n → ⊥) → (manyIn rules n s ≡ false) × (numbersIn rules n s ≡ [])
   other-none h = let e = ne-eqb (length s) n h in (rw e, rw e)
 
   module _ (e : length s ≡ n) where
-    read-none : readingsOf g s ≡ 0 → (manyIn g n s ≡ false) × (numbersIn g n s ≡ [])
+    read-none : readingsIn rules s ≡ 0 → (manyIn rules n s ≡ false) × (numbersIn rules n s ≡ [])
     read-none z =
         let l = eq-eqb (length s) n e in
-        let m = lt-leb 2 (readingsOf g s) (omega arith) in
-        let o = ne-eqb (readingsOf g s) 1 (λ f. omega arith) in
+        let m = lt-leb 2 (readingsIn rules s) (omega arith) in
+        let o = ne-eqb (readingsIn rules s) 1 (λ f. omega arith) in
         (rw (l, m), rw (l, o))
 
-    read-one : readingsOf g s ≡ 1 → (manyIn g n s ≡ false) × (numbersIn g n s ≡ numberOf g s ∷ [])
+    read-one : readingsIn rules s ≡ 1 → (manyIn rules n s ≡ false) × (numbersIn rules n s ≡ numberIn rules s ∷ [])
     read-one z =
         let l = eq-eqb (length s) n e in
-        let m = lt-leb 2 (readingsOf g s) (omega arith) in
-        let o = eq-eqb (readingsOf g s) 1 z in
+        let m = lt-leb 2 (readingsIn rules s) (omega arith) in
+        let o = eq-eqb (readingsIn rules s) 1 z in
         (rw (l, m), rw (l, o))
 
-    read-many : 2 ≤ readingsOf g s → manyIn g n s ≡ true
-    read-many h = rw (eq-eqb (length s) n e, le-leb 2 (readingsOf g s) h)
+    read-many : 2 ≤ readingsIn rules s → manyIn rules n s ≡ true
+    read-many h = rw (eq-eqb (length s) n e, le-leb 2 (readingsIn rules s) h)
 
-  few-in : length (numbersIn g n s) ≤ 1
-  few-in = go (eqb (length s) n && eqb (readingsOf g s) 1)
+  few-in : length (numbersIn rules n s) ≤ 1
+  few-in = go (eqb (length s) n && eqb (readingsIn rules s) 1)
     where
-      go : (b : Bool) → length (cond b (numberOf g s ∷ []) []) ≤ 1
+      go : (b : Bool) → length (cond b (numberIn rules s ∷ []) []) ≤ 1
       go true = omega arith
       go false = omega arith
 
 -- ---- one sentence
 
--- a number more
-take-put : (l : List ℕ) (i x : ℕ) → i < length l → take (i + 1) (set l i x) ≡ take i l ++ (x ∷ [])
-take-put l i x h =
-    rw (add-one i)
-    (take-suc (set l i x) i 0 (omega (arith, length-set l i x))
-    ∙ rw (take-set-le i l i x (omega arith), getD-set-same l i x 0 h))
+-- a number in front
+take-put : (l : List ℕ) (x : ℕ) → 1 ≤ length l → take 1 (set l 0 x) ≡ x ∷ []
+take-put [] x h = absurd (omega arith)
+take-put (y ∷ l) x h = refl
 
-module _ {g index plain s : List ℕ} {n : ℕ} {plan : List ℕ} {count : ℕ} {cells numbers : List ℕ} (w : Tells g index plain n plan count cells numbers) where
-  -- none
-  adds-nothing : (manyIn g n s ≡ false) × (numbersIn g n s ≡ []) → ToldAs g s n count numbers numbers (Numbers count)
-  adds-nothing q = record { adds = (q .0, rw (q .1) (omega arith), rw (q .1) (sym (append-nil (take count numbers)))) }
+module _ {rules plan map counts totals : List (List ℕ)} {room : List ℕ} (w : Tells rules plan map counts totals room) {s : List ℕ} where
+  pub told-other : (length s ≡ lengthIn plan → ⊥) → ToldAs rules plan map s totals room (Numbers 0)
+  told-other f =
+      let q = other-none rules (lengthIn plan) s f in
+      record { adds = (q .0, rw (q .1) refl, rw (q .1) refl); ready = w .ready }
 
-  pub told-other : (length s ≡ n → ⊥) → ToldAs g s n count numbers numbers (Numbers count)
-  told-other f = adds-nothing (other-none g n s f)
+  module _ (e : length s ≡ lengthIn plan) where
+    pub told-sought : FindSought rules plan map counts s totals
+    told-sought = record { ready = rw e (w .ready); everywhere = w .everywhere }
 
-  module _ (e : length s ≡ n) where
-    pub told-sought : FindSought g index plain plan s cells
-    told-sought = record { ready = rw e (w .ready); room = rw e (w .rows) }
+    module _ {map′ totals′ : List (List ℕ)} where
+      pub told-none : FoundAs rules plan map′ s totals′ None → ToldAs rules plan map′ s totals′ room (Numbers 0)
+      told-none f =
+          let q = read-none rules (lengthIn plan) s e (f .says) in
+          record { adds = (q .0, rw (q .1) refl, rw (q .1) refl); ready = rw e at (f .ready) }
 
-    pub told-none : FoundAs g s None → ToldAs g s n count numbers numbers (Numbers count)
-    told-none q = adds-nothing (read-none g n s e (q .says))
+      pub told-many : FoundAs rules plan map′ s totals′ Many → ToldAs rules plan map′ s totals′ room Ambiguous
+      told-many f = record { adds = read-many rules (lengthIn plan) s e (f .says); ready = rw e at (f .ready) }
 
-    pub told-many : FoundAs g s Many → ToldAs g s n count numbers numbers Ambiguous
-    told-many q = record { adds = read-many g n s e (q .says) }
+      pub told-one : (d : DerivationNumber) → FoundAs rules plan map′ s totals′ (One d)
+          → ToldAs rules plan map′ s totals′ (set room 0 (d .0)) (Numbers 1)
+      told-one d f =
+          let q = read-one rules (lengthIn plan) s e (f .says .0) in
+          record { adds = (q .0, rw (q .1) refl, rw (q .1) (take-put room (d .0) (w .some) ∙ rw (f .says .1))); ready = rw e at (f .ready) }
 
-    pub told-one : (d : DerivationNumber) → FoundAs g s (One d) → ToldAs g s n count numbers (set numbers count (d .0)) (Numbers (count + 1))
-    told-one d q =
-        let a = read-one g n s e (q .says .0) in
-        record { adds = (a .0, rw (a .1) (omega arith), rw (a .1) (take-put numbers count (d .0) (w .room) ∙ rw (q .says .1))) }
+-- what is found, once its case is known
+pub found-as : {rules plan map : List (List ℕ)} {s : List ℕ} {totals : List (List ℕ)} {f d : Found} → FoundAs rules plan map s totals f → f ≡ d
+    → FoundAs rules plan map s totals d
+found-as q e = rw e at q
 
 -- ---- the whole chain
 
 -- a heard sentence with two or more derivations, by the test of a sentence
-many-ambiguous : (g : List ℕ) (n : ℕ) (l : List (List ℕ)) → someOf (manyIn g n) l ≡ someOf (λ s. leb 2 (readingsOf g s)) (keep (λ s. eqb (length s) n) l)
-many-ambiguous g n [] = refl
-many-ambiguous g n (s ∷ l) = go (eqb (length s) n) (many-ambiguous g n l)
+many-ambiguous : (rules : List (List ℕ)) (n : ℕ) (l : List (List ℕ))
+    → someOf (manyIn rules n) l ≡ someOf (λ s. leb 2 (readingsIn rules s)) (keep (λ s. eqb (length s) n) l)
+many-ambiguous rules n [] = refl
+many-ambiguous rules n (s ∷ l) = go (eqb (length s) n) (many-ambiguous rules n l)
   where
-    go : (b : Bool) → someOf (manyIn g n) l ≡ someOf (λ s. leb 2 (readingsOf g s)) (keep (λ s. eqb (length s) n) l)
-        → ((b && leb 2 (readingsOf g s)) || someOf (manyIn g n) l)
-        ≡ someOf (λ s. leb 2 (readingsOf g s)) (cond b (s ∷ keep (λ s. eqb (length s) n) l) (keep (λ s. eqb (length s) n) l))
+    go : (b : Bool) → someOf (manyIn rules n) l ≡ someOf (λ s. leb 2 (readingsIn rules s)) (keep (λ s. eqb (length s) n) l)
+        → ((b && leb 2 (readingsIn rules s)) || someOf (manyIn rules n) l)
+        ≡ someOf (λ s. leb 2 (readingsIn rules s)) (cond b (s ∷ keep (λ s. eqb (length s) n) l) (keep (λ s. eqb (length s) n) l))
     go true ih = rw ih
     go false ih = ih
 
@@ -114,9 +120,9 @@ abbrev pub toCome : (h : List ℕ) (r : ℕ) → List (List ℕ)
 toCome h r = map (wordsOf h) (numbersFrom h r)
 
 -- before the record `at`, with the first `count` numbers found
-pub record Collecting (g h : List ℕ) (n : ℕ) (numbers : List ℕ) (at count : ℕ) : Type 0 where
-  pub due : take count numbers ++ concatMap (numbersIn g n) (toCome h at) ≡ concatMap (numbersIn g n) (sentences h)
-  pub many : someOf (manyIn g n) (toCome h at) ≡ ambiguous g h n
+pub record Collecting (rules : List (List ℕ)) (h : List ℕ) (n : ℕ) (numbers : List ℕ) (at count : ℕ) : Type 0 where
+  pub due : take count numbers ++ concatMap (numbersIn rules n) (toCome h at) ≡ concatMap (numbersIn rules n) (sentences h)
+  pub many : someOf (manyIn rules n) (toCome h at) ≡ ambiguousIn rules h n
   pub room : count + length (numbersFrom h at) ≤ 1000
   pub long : 1000 ≤ length numbers
 
@@ -126,30 +132,30 @@ pub record Read (h : List ℕ) (at : ℕ) (s : List ℕ) : Type 0 where
   pub same : s ≡ sentenceAt h at
   pub more : length s ≡ 0 → ⊥
 
-module _ {g index plain : List ℕ} {n : ℕ} {plan h cells numbers : List ℕ} (w : Collects g index plain n plan h cells numbers) where
-  pub collect-start : {at : ℕ} → at ≡ headOf h → Collecting g h n numbers at 0
-  unfolding ambiguous
-  collect-start e =
-      let few = known h (w .diary) .sized .few in
-      let all = chained h (w .diary) .many in
-      rw e
-      (record {
-        due = refl;
-        many = many-ambiguous g n (sentences h);
-        room = omega (arith, few, all);
-        long = w .room;
-      })
+pub collect-start : (rules : List (List ℕ)) (h : List ℕ) (n : ℕ) (numbers : List ℕ) → Accepted h → 1000 ≤ length numbers → {at : ℕ} → at ≡ headOf h
+    → Collecting rules h n numbers at 0
+collect-start rules h n numbers diary long e =
+    let few = known h diary .sized .few in
+    let all = chained h diary .many in
+    rw e
+    (record {
+      due = refl;
+      many = many-ambiguous rules n (sentences h);
+      room = omega (arith, few, all);
+      long = long;
+    })
 
-module _ {g h : List ℕ} {n : ℕ} {numbers : List ℕ} {at count : ℕ} (w : Collecting g h n numbers at count) where
+module _ (plan : List (List ℕ)) {rules : List (List ℕ)} {h : List ℕ} {numbers : List ℕ} {at count : ℕ} (w : Collecting rules h (lengthIn plan) numbers at count) where
   -- at the end
-  pub collect-end : {s : List ℕ} → Accepted h → s ≡ sentenceAt h at → length s ≡ 0 → CollectedAs g h n numbers (Numbers count)
+  pub collect-end : {s : List ℕ} → Accepted h → s ≡ sentenceAt h at → length s ≡ 0 → CollectedAs rules plan h numbers (Numbers count)
   collect-end diary same z =
+      let n = lengthIn plan in
       let e = read-end h at diary (ap length (sym same) ∙ z) in
       record {
         holds = (
-          sym (w .many) ∙ ap (λ (l : List ℕ). someOf (manyIn g n) (map (wordsOf h) l)) e,
+          sym (w .many) ∙ ap (λ (l : List ℕ). someOf (manyIn rules n) (map (wordsOf h) l)) e,
           omega (arith, w .room),
-          sym (append-nil (take count numbers)) ∙ ap (λ (l : List ℕ). take count numbers ++ concatMap (numbersIn g n) (map (wordsOf h) l)) (sym e) ∙ w .due,
+          sym (append-nil (take count numbers)) ∙ ap (λ (l : List ℕ). take count numbers ++ concatMap (numbersIn rules n) (map (wordsOf h) l)) (sym e) ∙ w .due,
         );
       }
 
@@ -168,31 +174,57 @@ module _ {g h : List ℕ} {n : ℕ} {numbers : List ℕ} {at count : ℕ} (w : C
     pub collect-less : {next : ℕ} → next ≡ nextAt h at → length (numbersFrom h next) < length (numbersFrom h at)
     collect-less e = rw e (omega (arith, fewer))
 
-    pub collect-asks : {index plain plan cells : List ℕ} → Ready g index plain n plan → room n ≤ length cells → Tells g index plain n plan count cells numbers
-    collect-asks ready rows = record { ready = ready; rows = rows; room = omega (arith, w .room, w .long, fewer) }
+    -- there is room for its number
+    pub collect-room : count < 1000
+    collect-room = omega (arith, w .room, fewer)
 
-    pub collect-many : {after : List ℕ} {c : Collected} → ToldAs g s n count numbers after c → c ≡ Ambiguous → CollectedAs g h n after Ambiguous
-    collect-many told case = let q = rw case at told in record { holds = sym (w .many) ∙ rw (comes, q .adds) }
+    module _ {map totals : List (List ℕ)} {after : List ℕ} {c : Collected} (told : ToldAs rules plan map s totals after c) where
+      pub collect-many : c ≡ Ambiguous → {numbers′ : List ℕ} → CollectedAs rules plan h numbers′ Ambiguous
+      collect-many case = let q = rw case at told in record { holds = sym (w .many) ∙ rw (comes, q .adds) }
 
-    pub collect-more : {after : List ℕ} {c : Collected} {next k : ℕ} → next ≡ nextAt h at
-        → ToldAs g s n count numbers after c → c ≡ Numbers k → length after ≡ length numbers
-        → Collecting g h n after next k
-    collect-more {after} {c} {next} {k} e told case kept =
-        let q = rw case at told in
-        let few = few-in g n s in
-        rw e
-        (record {
-          due = ap (λ (l : List ℕ). l ++ concatMap (numbersIn g n) (toCome h (nextAt h at))) (q .adds .2)
-              ∙ append-assoc (take count numbers) (numbersIn g n s) (concatMap (numbersIn g n) (toCome h (nextAt h at)))
-              ∙ ap (λ (l : List (List ℕ)). take count numbers ++ concatMap (numbersIn g n) l) (sym comes)
-              ∙ w .due;
-          many = ap (λ (b : Bool). b || someOf (manyIn g n) (toCome h (nextAt h at))) (sym (q .adds .0))
-              ∙ ap (someOf (manyIn g n)) (sym comes)
-              ∙ w .many;
-          room = omega (arith, q .adds .1, few, w .room, fewer);
-          long = omega (arith, w .long);
-        })
+      pub collect-count : {k : ℕ} → c ≡ Numbers k → k ≤ 1
+      collect-count case = let q = rw case at told in omega (arith, q .adds .1, few-in rules (lengthIn plan) s)
+
+      -- what it adds stands behind the numbers so far
+      pub collect-more : {next k : ℕ} {numbers′ : List ℕ} → next ≡ nextAt h at → c ≡ Numbers k
+          → take (count + k) numbers′ ≡ take count numbers ++ take k after → length numbers′ ≡ length numbers
+          → Collecting rules h (lengthIn plan) numbers′ next (count + k)
+      collect-more {next} {k} {numbers′} e case front kept =
+          let n = lengthIn plan in
+          let q = rw case at told in
+          let few = few-in rules n s in
+          rw e
+          (record {
+            due = ap (λ (l : List ℕ). l ++ concatMap (numbersIn rules n) (toCome h (nextAt h at))) (front ∙ ap (λ (l : List ℕ). take count numbers ++ l) (q .adds .2))
+                ∙ append-assoc (take count numbers) (numbersIn rules n s) (concatMap (numbersIn rules n) (toCome h (nextAt h at)))
+                ∙ ap (λ (l : List (List ℕ)). take count numbers ++ concatMap (numbersIn rules n) l) (sym comes)
+                ∙ w .due;
+            many = ap (λ (b : Bool). b || someOf (manyIn rules n) (toCome h (nextAt h at))) (sym (q .adds .0))
+                ∙ ap (someOf (manyIn rules n)) (sym comes)
+                ∙ w .many;
+            room = omega (arith, q .adds .1, few, w .room, fewer);
+            long = omega (arith, w .long);
+          })
 
 -- what is collected, once its case is known
-pub collect-case : {g h : List ℕ} {n : ℕ} {numbers : List ℕ} {c d : Collected} → CollectedAs g h n numbers c → c ≡ d → Holds g h n numbers d
+pub collect-case : {rules plan : List (List ℕ)} {h : List ℕ} {numbers : List ℕ} {c d : Collected} → CollectedAs rules plan h numbers c → c ≡ d
+    → Holds rules h (lengthIn plan) numbers d
 collect-case q e = (rw e at q) .holds
+
+-- ---- the numbers' room, lent from `count` on
+
+module _ (count : ℕ) (numbers zs : List ℕ) (h : count ≤ length numbers) (e : length zs ≡ length (take (length numbers - count) (drop count numbers))) where
+  -- what stands in front of it after
+  pub room-front : (k : ℕ) → k ≤ length zs → take (count + k) (putMid count (length numbers - count) numbers zs) ≡ take count numbers ++ take k zs
+  room-front k l =
+      let rest = drop (length numbers - count) (drop count numbers) in
+      let long = length-take-le count numbers h in
+      ap (λ (c : ℕ). take (c + k) (take count numbers ++ (zs ++ rest))) (sym long)
+      ∙ take-append-add (take count numbers) (zs ++ rest) k
+      ∙ ap (λ (r : List ℕ). take count numbers ++ r) (take-append-le k zs rest l)
+
+  pub room-kept : length (putMid count (length numbers - count) numbers zs) ≡ length numbers
+  room-kept = same-len-mid count (length numbers - count) numbers zs e
+
+  pub room-long : length zs ≡ length numbers - count
+  room-long = e ∙ length-take-le (length numbers - count) (drop count numbers) (omega (arith, length-drop count numbers)) ∙ refl

@@ -2,6 +2,7 @@
 pub mod Barred
 pub mod Skipping
 pub mod Hearing
+pub mod Readying
 pub mod Answering
 pub mod Premises
 pub mod Demand3

@@ -21,14 +21,15 @@ use Rattle.grammar.specs.Layout.{nonterminals}
 use Rattle.grammar.specs.Chains.{chain}
 use Rattle.grammar.specs.Refusals.{grammarRows, Accepted}
 use Rattle.counting.specs.Totals.{T}
-use Rattle.counting.specs.Tables.{most, tooLarge}
+use Rattle.counting.specs.Tables.{most, overflows, tooLarge}
 use Rattle.counting.specs.Prepared.{preparedRows}
 use Rattle.ranking.specs.Answers.{totalOf, readingsOf}
 use Rattle.ranking.proofs.Demand2.{exactly-readings}
 use Rattle.history.specs.Refusals as history
 use Rattle.history.specs.Heard.{heard}
+use Rattle.sampling.specs.Question.{plainly}
 use Rattle.sampling.specs.Unheard.{ofLength, heardOf, leftOf, ambiguous}
-use Rattle.sampling.specs.Answers.{remainingRows, remainingOf}
+use Rattle.sampling.specs.Answers.{remainingRows, remainingOf, remainingTo}
 use Rattle.sampling.specs.Demand3.{Single, Premises}
 use Rattle.sampling.proofs.Barred.{length-∈, ∈-length, few-readings}
 
@@ -42,7 +43,7 @@ length-within n = (within-facts 1 16 n, λ q. within-both 1 16 n (q .0) (q .1))
 
 module _ (g : List ℕ) (n : ℕ) where
   fits-counts : tooLarge g n ≡ false → (A m : ℕ) → A < nonterminals g → 1 ≤ m → m ≤ n → T (chain g) A m ≤ most
-  unfolding tooLarge
+  unfolding tooLarge overflows
   fits-counts e A zero h l u = absurd (omega arith)
   fits-counts e A (suc m) h l u =
       ltb-false most (T (chain g) A (suc m))
@@ -50,7 +51,7 @@ module _ (g : List ℕ) (n : ℕ) where
       (below-at (λ i. someBelow (λ B. ltb most (T (chain g) B (suc i))) (nonterminals g)) n m e u) h)
 
   counts-fit : ((A m : ℕ) → A < nonterminals g → 1 ≤ m → m ≤ n → T (chain g) A m ≤ most) → tooLarge g n ≡ false
-  unfolding tooLarge
+  unfolding tooLarge overflows
   counts-fit c =
       to-clear (λ m. someBelow (λ A. ltb most (T (chain g) A m)) (nonterminals g)) n
       (λ m l u. below-clear (λ A. ltb most (T (chain g) A m)) (nonterminals g) (λ A h. le-ltb most (T (chain g) A m) (c A m h l u)))
@@ -81,41 +82,41 @@ single-readings g s =
 
 -- with an accepted history
 module _ (g h : List ℕ) (n : ℕ) (diary : history.Accepted h) where
-  clear-single : ambiguous g h n ≡ false → (s : List ℕ) → length s ≡ n → heard h s ≡ true → Single g s
+  clear-single : ambiguous g h (plainly n) ≡ false → (s : List ℕ) → length s ≡ n → heard h s ≡ true → Single g s
   clear-single e s l k = single-readings g s .1 (few-readings g h n diary e s (∈-length g h n diary s k l))
 
-  single-clear : ((s : List ℕ) → length s ≡ n → heard h s ≡ true → Single g s) → ambiguous g h n ≡ false
+  single-clear : ((s : List ℕ) → length s ≡ n → heard h s ≡ true → Single g s) → ambiguous g h (plainly n) ≡ false
   unfolding ambiguous
   single-clear f =
       some-clear (λ s. leb 2 (readingsOf g s)) (ofLength n h)
       (λ s m. let q = length-∈ g h n diary s m in lt-leb 2 (readingsOf g s) (single-readings g s .0 (f s (q .1) (q .0))))
 
-  pub heard-single : (ambiguous g h n ≡ false) ↔ ((s : List ℕ) → length s ≡ n → heard h s ≡ true → Single g s)
+  pub heard-single : (ambiguous g h (plainly n) ≡ false) ↔ ((s : List ℕ) → length s ≡ n → heard h s ≡ true → Single g s)
   heard-single = (clear-single, single-clear)
 
 -- ---- all lines
 
 module _ (g h : List ℕ) (n : ℕ) where
-  pub remaining-refusal : remainingOf g h n .refusal ≡ firstThatApplies (remainingRows g h n)
-  unfolding remainingOf
-  remaining-refusal = answer-number (firstThatApplies (remainingRows g h n)) (totalOf g n ∷ heardOf g h n ∷ leftOf g h n ∷ []) [] []
+  pub remaining-refusal : remainingOf g h n .refusal ≡ firstThatApplies (remainingRows g h (plainly n))
+  unfolding remainingTo
+  remaining-refusal = answer-number (firstThatApplies (remainingRows g h (plainly n))) (totalOf g n ∷ heardOf g h (plainly n) ∷ leftOf g h (plainly n) ∷ []) [] []
 
-  pub premises-pass : Premises g h n → firstThatApplies (remainingRows g h n) ≡ 0
+  pub premises-pass : Premises g h (plainly n) → firstThatApplies (remainingRows g h (plainly n)) ≡ 0
   unfolding firstThatApplies
   premises-pass p =
-      rows-pass (preparedRows g n) (history.historyRows h ++ ((ambiguous g h n, 15) ∷ [])) refl
+      rows-pass (preparedRows g n) (history.historyRows h ++ ((ambiguous g h (plainly n), 15) ∷ [])) refl
       (prepared-pass g n (p .bank) (p .some) (p .short) (p .counts))
-      ∙ rows-pass (history.historyRows h) ((ambiguous g h n, 15) ∷ []) refl (p .diary)
+      ∙ rows-pass (history.historyRows h) ((ambiguous g h (plainly n), 15) ∷ []) refl (p .diary)
       ∙ row-passed 15 [] (heard-single g h n (p .diary) .1 (p .single))
 
-  pass-premises : firstThatApplies (remainingRows g h n) ≡ 0 → Premises g h n
+  pass-premises : firstThatApplies (remainingRows g h (plainly n)) ≡ 0 → Premises g h (plainly n)
   pass-premises e =
-      let a = rows-clear (preparedRows g n) (history.historyRows h ++ ((ambiguous g h n, 15) ∷ [])) refl e in
+      let a = rows-clear (preparedRows g n) (history.historyRows h ++ ((ambiguous g h (plainly n), 15) ∷ [])) refl e in
       let b = rows-clear (grammarRows g) ((badLength n, 9) ∷ (tooLarge g n, 10) ∷ []) refl (a .0) in
-      let c = rows-clear (history.historyRows h) ((ambiguous g h n, 15) ∷ []) refl (a .1) in
+      let c = rows-clear (history.historyRows h) ((ambiguous g h (plainly n), 15) ∷ []) refl (a .1) in
       let d = row-clear 9 ((tooLarge g n, 10) ∷ []) (badLength n) (omega arith) (b .1) in
       let f = row-clear 10 [] (tooLarge g n) (omega arith) (d .1) in
-      let k = row-clear 15 [] (ambiguous g h n) (omega arith) (c .1) in
+      let k = row-clear 15 [] (ambiguous g h (plainly n)) (omega arith) (c .1) in
       let l = length-within n .0 (d .0) in
       record {
         bank = b .0;
@@ -127,5 +128,5 @@ module _ (g h : List ℕ) (n : ℕ) where
       }
 
   -- the premises of demand 3 hold exactly where *Left* isn't refused
-  pub premises : Premises g h n ↔ (remainingOf g h n .refusal ≡ 0)
+  pub premises : Premises g h (plainly n) ↔ (remainingOf g h n .refusal ≡ 0)
   premises = (λ p. remaining-refusal ∙ premises-pass p, λ e. pass-premises (sym remaining-refusal ∙ e))

@@ -16,6 +16,7 @@ use Rattle.sampling.specs.declared.remaining.RemainingAnswer.{RemainingA
 use Rattle.sampling.specs.declared.remaining.RemainingAnswer.the-variants.{Remaining, NotRemaining}
 use Rattle.sampling.specs.declared.draw.DrawAnswer.{DrawAnswer}
 use Rattle.sampling.specs.declared.draw.DrawAnswer.the-variants.{Drawn, NotDrawn, Beyond, Short}
+use Rattle.sampling.specs.Question.{Question, plainly}
 use Rattle.sampling.specs.Unheard.{Entry, unheard, heardOf, leftOf, ambiguous}
 
 abbrev pub sampleNumber : SampleRefusal → ℕ
@@ -31,12 +32,15 @@ remainingSaid (Remaining t k l) = record { refusal = 0; figures = t ∷ k ∷ l 
 remainingSaid (NotRemaining r) = record { refusal = sampleNumber r; figures = 0 ∷ 0 ∷ 0 ∷ []; buffer = [] }
 
 -- the lines 1 to 8, 9, 10, 11 to 14 and 15, in their order
-abbrev pub remainingRows : (g h : List ℕ) (n : ℕ) → List Row
-remainingRows g h n = preparedRows g n ++ (historyRows h ++ ((ambiguous g h n, 15) ∷ []))
+abbrev pub remainingRows : (g h : List ℕ) (a : Question) → List Row
+remainingRows g h a = preparedRows g (a .length) ++ (historyRows h ++ ((ambiguous g h a, 15) ∷ []))
 
 -- "*Left* (bank, diary, length) gives T, heard (distinct heard sentences of that length with one derivation) and left = T - heard."
-unfoldable pub remainingOf : (g h : List ℕ) (n : ℕ) → Answer
-remainingOf g h n = answer (remainingRows g h n) (totalOf g n ∷ heardOf g h n ∷ leftOf g h n ∷ []) [] []
+unfoldable pub remainingTo : (g h : List ℕ) (a : Question) → Answer
+remainingTo g h a = answer (remainingRows g h a) (totalOf g (a .length) ∷ heardOf g h a ∷ leftOf g h a ∷ []) [] []
+
+abbrev pub remainingOf : (g h : List ℕ) (n : ℕ) → Answer
+remainingOf g h n = remainingTo g h (plainly n)
 
 -- ---- *Draw*
 
@@ -48,14 +52,17 @@ drawSaid Beyond out = record { refusal = 16; figures = 0 ∷ 0 ∷ []; buffer = 
 drawSaid Short out = record { refusal = 20; figures = 0 ∷ 0 ∷ []; buffer = out }
 
 -- "the derivation with an unheard sentence that has exactly q such derivations before it": the unheard list's entry q
-abbrev pub drawn : (g h : List ℕ) (n q : ℕ) → Entry
-drawn g h n q = getD (unheard g h n) q (0, leaf 0 0)
+abbrev pub drawn : (g h : List ℕ) (a : Question) (q : ℕ) → Entry
+drawn g h a q = getD (unheard g h a) q (0, leaf 0 0)
 
 -- "16. The number is [..] left or more (*Draw*)." "20. The sentence buffer is shorter than the length (*Give*, *Draw*)."
-abbrev pub drawRows : (g h : List ℕ) (n q : ℕ) (out : List ℕ) → List Row
-drawRows g h n q out = remainingRows g h n ++ ((leb (leftOf g h n) q, 16) ∷ (ltb (length out) n, 20) ∷ [])
+abbrev pub drawRows : (g h : List ℕ) (a : Question) (q : ℕ) (out : List ℕ) → List Row
+drawRows g h a q out = remainingRows g h a ++ ((leb (leftOf g h a) q, 16) ∷ (ltb (length out) (a .length), 20) ∷ [])
 
 -- "*Draw* (bank, diary, length, draw number q, buffer) [..] gives left and its derivation number, writes its sentence."
-unfoldable pub drawOf : (g h : List ℕ) (n q : ℕ) (out : List ℕ) → Answer
-drawOf g h n q out =
-    answer (drawRows g h n q out) (leftOf g h n ∷ drawn g h n q .0 ∷ []) out (sentence (drawn g h n q .1) ++ drop n out)
+unfoldable pub drawTo : (g h : List ℕ) (a : Question) (q : ℕ) (out : List ℕ) → Answer
+drawTo g h a q out =
+    answer (drawRows g h a q out) (leftOf g h a ∷ drawn g h a q .0 ∷ []) out (sentence (drawn g h a q .1) ++ drop (a .length) out)
+
+abbrev pub drawOf : (g h : List ℕ) (n q : ℕ) (out : List ℕ) → Answer
+drawOf g h n q out = drawTo g h (plainly n) q out

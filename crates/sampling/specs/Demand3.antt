@@ -1,5 +1,6 @@
 -- Demand 3 (document 01, section 'The draws as one list') as one claim about the list of draws, for every grammar, history and length
--- that it names. The calls are `remainingOf` (*Left*) and `drawOf` (*Draw*); the code's contracts say that it answers just these.
+-- that it names. The answers are `remainingTo` (*Left*) and `drawTo` (*Draw*) to a question; the calls put the question of a length, and the
+-- code's contracts say that it answers just these.
 -- Assumes nothing: these are definitions.
 use mathlib.Core.Path.{_≡_}
 use mathlib.Core.Logic.{_↔_}
@@ -20,8 +21,9 @@ use Rattle.ranking.specs.Answers.{totalOf}
 use Rattle.ranking.specs.Demand2.{Derivation, told}
 use Rattle.history.specs.Refusals as history
 use Rattle.history.specs.Heard.{heard}
+use Rattle.sampling.specs.Question.{Question}
 use Rattle.sampling.specs.Unheard.{Entry, unheard, heardOf}
-use Rattle.sampling.specs.Answers.{remainingOf, drawOf}
+use Rattle.sampling.specs.Answers.{remainingTo, drawTo}
 
 -- t and u, if they are derivations of one sentence, are one derivation
 abbrev pub Single : (g : List ℕ) (s : List ℕ) → Type 0
@@ -29,13 +31,13 @@ Single g s = (t u : Tree) → Derivation g (length s) t → Derivation g (length
 
 -- What demand 3 names: an accepted grammar, a length of 1 to 16 up to which no count is 2^64 or more, and an accepted history with no
 -- heard sentence of that length that has two derivations. proofs/Premises.antt: they hold exactly where *Left* isn't refused.
-pub record Premises (g h : List ℕ) (n : ℕ) : Type 0 where
+pub record Premises (g h : List ℕ) (a : Question) : Type 0 where
   pub bank : Accepted g
-  pub some : 1 ≤ n
-  pub short : n ≤ 16
-  pub counts : (A m : ℕ) → A < nonterminals g → 1 ≤ m → m ≤ n → T (chain g) A m ≤ most
+  pub some : 1 ≤ a .length
+  pub short : a .length ≤ 16
+  pub counts : (A m : ℕ) → A < nonterminals g → 1 ≤ m → m ≤ a .length → T (chain g) A m ≤ most
   pub diary : history.Accepted h
-  pub single : (s : List ℕ) → length s ≡ n → heard h s ≡ true → Single g s
+  pub single : (s : List ℕ) → length s ≡ a .length → heard h s ≡ true → Single g s
 
 -- ---- what a draw answers, and the unheard list's entries, as derivation number and sentence
 
@@ -51,19 +53,19 @@ put e = (e .0, sentence (e .1))
 abbrev pub refused : (number : ℕ) (out : List ℕ) → Answer
 refused number out = record { refusal = number; figures = 0 ∷ 0 ∷ []; buffer = out }
 
-pub record Demand3 (g h : List ℕ) (n : ℕ) : Type 0 where
+pub record Demand3 (g h : List ℕ) (a : Question) : Type 0 where
   -- "Left, as *Left* and every accepted *Draw* give it, is the length of the unheard list."
-  pub left : remainingOf g h n ≡ told (totalOf g n ∷ heardOf g h n ∷ length (unheard g h n) ∷ [])
-  pub figures : (q : ℕ) (out : List ℕ) → drawOf g h n q out .refusal ≡ 0 → (d : ℕ) × (drawOf g h n q out .figures ≡ length (unheard g h n) ∷ d ∷ [])
+  pub left : remainingTo g h a ≡ told (totalOf g (a .length) ∷ heardOf g h a ∷ length (unheard g h a) ∷ [])
+  pub figures : (q : ℕ) (out : List ℕ) → drawTo g h a q out .refusal ≡ 0 → (d : ℕ) × (drawTo g h a q out .figures ≡ length (unheard g h a) ∷ d ∷ [])
   -- "Now call *Draw* with q from 0 to left - 1 [..], each time with a buffer of at least n bytes, whatever it held. None of these is refused."
-  pub accepted : (q : ℕ) (out : List ℕ) → q < length (unheard g h n) → n ≤ length out → drawOf g h n q out .refusal ≡ 0
+  pub accepted : (q : ℕ) (out : List ℕ) → q < length (unheard g h a) → a .length ≤ length out → drawTo g h a q out .refusal ≡ 0
   -- "List what they answer [..]. That list equals the unheard list"
-  pub draws : (out : ℕ → List ℕ) → ((q : ℕ) → n ≤ length (out q))
-      → map (λ q. shown n (drawOf g h n q (out q))) (upFrom 0 (length (unheard g h n))) ≡ map put (unheard g h n)
+  pub draws : (out : ℕ → List ℕ) → ((q : ℕ) → a .length ≤ length (out q))
+      → map (λ q. shown (a .length) (drawTo g h a q (out q))) (upFrom 0 (length (unheard g h a))) ≡ map put (unheard g h a)
   -- "buffer bytes past the sentence keep their content", whatever is answered
-  pub kept : (q : ℕ) (out : List ℕ) → drop n (drawOf g h n q out .buffer) ≡ drop n out
+  pub kept : (q : ℕ) (out : List ℕ) → drop (a .length) (drawTo g h a q out .buffer) ≡ drop (a .length) out
   -- "Every q from left to 2^64 - 1 is refused 16." Whatever the buffer.
-  pub beyond : (q : ℕ) (out : List ℕ) → length (unheard g h n) ≤ q → drawOf g h n q out ≡ refused 16 out
+  pub beyond : (q : ℕ) (out : List ℕ) → length (unheard g h a) ≤ q → drawTo g h a q out ≡ refused 16 out
 
 -- ---- the corollary: sentences that come once
 
@@ -73,11 +75,11 @@ Derivable g s = (t : Tree) × Derivation g (length s) t × (sentence t ≡ s)
 
 -- Where no sentence of length n has two derivations, each derivable sentence that is unheard is drawn by exactly one number below left,
 -- and nothing else is drawn.
-pub record Once (g h : List ℕ) (n : ℕ) (out : ℕ → List ℕ) : Type 0 where
-  pub each : (s : List ℕ) → length s ≡ n → Derivable g s → heard h s ≡ false
-      → Exactly 1 (λ q. (q < length (unheard g h n)) × (take n (drawOf g h n q (out q) .buffer) ≡ s))
-  pub other : (q : ℕ) → q < length (unheard g h n)
-      → (s : List ℕ) × (take n (drawOf g h n q (out q) .buffer) ≡ s) × (length s ≡ n) × Derivable g s × (heard h s ≡ false)
+pub record Once (g h : List ℕ) (a : Question) (out : ℕ → List ℕ) : Type 0 where
+  pub each : (s : List ℕ) → length s ≡ a .length → Derivable g s → heard h s ≡ false
+      → Exactly 1 (λ q. (q < length (unheard g h a)) × (take (a .length) (drawTo g h a q (out q) .buffer) ≡ s))
+  pub other : (q : ℕ) → q < length (unheard g h a)
+      → (s : List ℕ) × (take (a .length) (drawTo g h a q (out q) .buffer) ≡ s) × (length s ≡ a .length) × Derivable g s × (heard h s ≡ false)
 
 -- ---- two histories
 
@@ -86,11 +88,11 @@ abbrev pub Bars : (g h s : List ℕ) → Type 0
 Bars g h s = (heard h s ≡ true) × Derivable g s
 
 -- "two such diaries that bar the same sentences of length n"
-abbrev pub SameBarred : (g h h′ : List ℕ) (n : ℕ) → Type 0
-SameBarred g h h′ n = (s : List ℕ) → length s ≡ n → (Bars g h s ↔ Bars g h′ s)
+abbrev pub SameBarred : (g h h′ : List ℕ) (a : Question) → Type 0
+SameBarred g h h′ a = (s : List ℕ) → length s ≡ a .length → (Bars g h s ↔ Bars g h′ s)
 
 -- "*Left* gives the same figures. For every q, *Draw* gives the same refusal or the same figures, and from equal buffers it leaves equal
 -- buffers."
-pub record Alike (g h h′ : List ℕ) (n : ℕ) : Type 0 where
-  pub left : remainingOf g h n ≡ remainingOf g h′ n
-  pub draw : (q : ℕ) (out : List ℕ) → drawOf g h n q out ≡ drawOf g h′ n q out
+pub record Alike (g h h′ : List ℕ) (a : Question) : Type 0 where
+  pub left : remainingTo g h a ≡ remainingTo g h′ a
+  pub draw : (q : ℕ) (out : List ℕ) → drawTo g h a q out ≡ drawTo g h′ a q out

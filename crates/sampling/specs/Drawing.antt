@@ -1,4 +1,4 @@
--- What a draw answers from the struck places alone: nothing else of the history counts any more.
+-- What a draw answers from the table of rules and the struck places alone: nothing else of the grammar and the history counts any more.
 -- Assumes nothing: these are definitions.
 use mathlib.Core.Path.{_≡_}
 use mathlib.Core.Bool.{Bool}
@@ -8,19 +8,18 @@ use lib.ListN.{length, drop}
 use lib.Dec.{ltb, leb}
 use Rattle.lists.specs.Struck.{struck, skip}
 use Rattle.answers.specs.Answer.{Answer, answer}
-use Rattle.grammar.specs.Trees.{Tree}
-use Rattle.counting.specs.Prepared.{Tabled}
-use Rattle.ranking.specs.Answers.{fullList, totalOf, entryOf}
+use Rattle.counting.specs.Counted.{Counted}
+use Rattle.ranking.specs.Inside.{fullIn, totalIn, entryIn}
 
--- the tables, and the places that some test strikes of the full list, no more than a history has records
-pub record DrawSought (g index plain : List ℕ) (n : ℕ) (heard : List ℕ) : Type 0 where
-  pub tabled : Tabled g n index plain
+-- the counts, and the places that some test strikes of the full list, no more than a history has records
+pub record DrawSought (rules totals : List (List ℕ)) (n : ℕ) (heard : List ℕ) : Type 0 where
+  pub counted : Counted rules totals n
   pub few : length heard ≤ 1000
-  pub left : Tree → Bool
-  pub struck-are : heard ≡ struck left (fullList g n)
+  pub left : List ℕ → Bool
+  pub struck-are : heard ≡ struck left (fullIn rules n)
 
 -- the derivation with q others before it that aren't struck, where there is one and the buffer has room
-unfoldable pub drawSkipping : (g : List ℕ) (n : ℕ) (heard : List ℕ) (q : ℕ) (out : List ℕ) → Answer
-drawSkipping g n heard q out =
-    let left = totalOf g n - length heard in
-    answer ((leb left q, 16) ∷ (ltb (length out) n, 20) ∷ []) (left ∷ skip q heard ∷ []) out (entryOf g n (skip q heard) ++ drop n out)
+unfoldable pub drawSkipping : (rules : List (List ℕ)) (n : ℕ) (heard : List ℕ) (q : ℕ) (out : List ℕ) → Answer
+drawSkipping rules n heard q out =
+    let left = totalIn rules n - length heard in
+    answer ((leb left q, 16) ∷ (ltb (length out) n, 20) ∷ []) (left ∷ skip q heard ∷ []) out (entryIn rules n (skip q heard) ++ drop n out)

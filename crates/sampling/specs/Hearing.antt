@@ -1,4 +1,4 @@
--- What collecting the heard derivation numbers asks and gives back.
+-- What collecting the heard derivation numbers asks and gives back, by the table of rules alone.
 -- Assumes nothing: these are definitions.
 use mathlib.Core.Path.{_≡_}
 use mathlib.Core.Bool.{Bool, true, false, cond, _&&_}
@@ -7,52 +7,59 @@ use Prim.Native.Nat.{ℕ, _+_, _≤_, _<_}
 use lib.ListN.{length, take}
 use lib.Dec.{leb, eqb}
 use Rattle.lists.specs.Joined.{concatMap}
-use Rattle.readings.specs.Plan.{Ready}
-use Rattle.readings.specs.Rows.{room}
-use Rattle.ranking.specs.Answers.{readingsOf, numberOf}
+use Rattle.lists.specs.Searched.{someOf}
+use Rattle.charts.specs.Plan.{lengthIn}
+use Rattle.charts.specs.Maps.{Everywhere}
+use Rattle.charts.specs.Ready.{Ready}
+use Rattle.ranking.specs.Inside.{readingsIn, numberIn}
 use Rattle.history.specs.Refusals.{Accepted}
 use Rattle.history.specs.Heard.{sentences}
-use Rattle.sampling.specs.Unheard.{ambiguous}
+use Rattle.sampling.specs.Unheard.{ofLength}
 use Rattle.sampling.specs.declared.heard.Collected.{Collected}
 use Rattle.sampling.specs.declared.heard.Collected.the-variants.{Numbers, Ambiguous}
 
 -- the number of a sentence with n words and one derivation; of any other none
-abbrev pub numbersIn : (g : List ℕ) (n : ℕ) (s : List ℕ) → List ℕ
-numbersIn g n s = cond (eqb (length s) n && eqb (readingsOf g s) 1) (numberOf g s ∷ []) []
+abbrev pub numbersIn : (rules : List (List ℕ)) (n : ℕ) (s : List ℕ) → List ℕ
+numbersIn rules n s = cond (eqb (length s) n && eqb (readingsIn rules s) 1) (numberIn rules s ∷ []) []
 
 -- the sentence has n words and two or more derivations
-abbrev pub manyIn : (g : List ℕ) (n : ℕ) (s : List ℕ) → Bool
-manyIn g n s = eqb (length s) n && leb 2 (readingsOf g s)
+abbrev pub manyIn : (rules : List (List ℕ)) (n : ℕ) (s : List ℕ) → Bool
+manyIn rules n s = eqb (length s) n && leb 2 (readingsIn rules s)
+
+-- some sentence of a history with n words has two or more derivations
+abbrev pub ambiguousIn : (rules : List (List ℕ)) (h : List ℕ) (n : ℕ) → Bool
+ambiguousIn rules h n = someOf (λ s. leb 2 (readingsIn rules s)) (ofLength n h)
 
 -- ---- one sentence
 
--- the tables, their plan, room for a sentence's rows and for a number
-pub record Tells (g index plain : List ℕ) (n : ℕ) (plan : List ℕ) (count : ℕ) (cells numbers : List ℕ) : Type 0 where
-  pub ready : Ready g index plain n plan
-  pub rows : room n ≤ length cells
-  pub room : count < length numbers
+-- the tables for sentences of the plan's length, and room for a number
+pub record Tells (rules plan map counts totals : List (List ℕ)) (room : List ℕ) : Type 0 where
+  pub ready : Ready rules plan map totals (lengthIn plan)
+  pub everywhere : Everywhere counts
+  pub some : 1 ≤ length room
 
--- the numbers after the sentence s, or that it has two or more derivations
-abbrev pub Adds : (g : List ℕ) (n : ℕ) (s : List ℕ) (count : ℕ) (before after : List ℕ) → Collected → Type 0
-Adds g n s count before after (Numbers k) =
-    (manyIn g n s ≡ false) × (k ≡ count + length (numbersIn g n s)) × (take k after ≡ take count before ++ numbersIn g n s)
-Adds g n s count before after Ambiguous = manyIn g n s ≡ true
+-- the numbers that the sentence s adds, or that it has two or more derivations
+abbrev pub Adds : (rules : List (List ℕ)) (n : ℕ) (s : List ℕ) (after : List ℕ) → Collected → Type 0
+Adds rules n s after (Numbers k) =
+    (manyIn rules n s ≡ false) × (k ≡ length (numbersIn rules n s)) × (take k after ≡ numbersIn rules n s)
+Adds rules n s after Ambiguous = manyIn rules n s ≡ true
 
-pub record ToldAs (g s : List ℕ) (n count : ℕ) (before after : List ℕ) (c : Collected) : Type 0 where
-  pub adds : Adds g n s count before after c
+pub record ToldAs (rules plan map : List (List ℕ)) (s : List ℕ) (totals : List (List ℕ)) (after : List ℕ) (c : Collected) : Type 0 where
+  pub adds : Adds rules (lengthIn plan) s after c
+  pub ready : Ready rules plan map totals (lengthIn plan)
 
 -- ---- all sentences
 
-pub record Collects (g index plain : List ℕ) (n : ℕ) (plan h cells numbers : List ℕ) : Type 0 where
-  pub ready : Ready g index plain n plan
+pub record Collects (rules plan map counts : List (List ℕ)) (h : List ℕ) (totals : List (List ℕ)) (numbers : List ℕ) : Type 0 where
+  pub ready : Ready rules plan map totals (lengthIn plan)
+  pub everywhere : Everywhere counts
   pub diary : Accepted h
-  pub rows : room n ≤ length cells
   pub room : 1000 ≤ length numbers
 
 -- the numbers along the chain, or that a sentence has two or more derivations
-abbrev pub Holds : (g h : List ℕ) (n : ℕ) (numbers : List ℕ) → Collected → Type 0
-Holds g h n numbers (Numbers k) = (ambiguous g h n ≡ false) × (k ≤ 1000) × (take k numbers ≡ concatMap (numbersIn g n) (sentences h))
-Holds g h n numbers Ambiguous = ambiguous g h n ≡ true
+abbrev pub Holds : (rules : List (List ℕ)) (h : List ℕ) (n : ℕ) (numbers : List ℕ) → Collected → Type 0
+Holds rules h n numbers (Numbers k) = (ambiguousIn rules h n ≡ false) × (k ≤ 1000) × (take k numbers ≡ concatMap (numbersIn rules n) (sentences h))
+Holds rules h n numbers Ambiguous = ambiguousIn rules h n ≡ true
 
-pub record CollectedAs (g h : List ℕ) (n : ℕ) (numbers : List ℕ) (c : Collected) : Type 0 where
-  pub holds : Holds g h n numbers c
+pub record CollectedAs (rules plan : List (List ℕ)) (h : List ℕ) (numbers : List ℕ) (c : Collected) : Type 0 where
+  pub holds : Holds rules h (lengthIn plan) numbers c

@@ -1,3 +1,4 @@
+pub mod Question
 pub mod Unheard
 pub mod Answers
 pub mod Demand3

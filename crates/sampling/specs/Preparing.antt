@@ -1,52 +1,83 @@
--- What *Left* and every *Draw* have at hand once the refusals 1 to 15 are passed.
+-- What *Left* and every *Draw* have at hand once the refusals 1 to 15 are passed: first the tables, by 1 to 10, then the heard numbers, by 11
+-- to 15, which know the grammar through its tables alone.
 -- Assumes nothing: these are definitions.
 use mathlib.Core.Path.{_≡_}
+use mathlib.Core.Logic.{_↔_}
 use mathlib.Core.Bool.{true, false}
-use mathlib.Core.List.{List}
-use Prim.Native.Nat.{ℕ, _≤_}
+use mathlib.Core.List.{List, [], _∷_, _++_}
+use Prim.Native.Nat.{ℕ, _≤_, _<_}
 use lib.ListN.{length, take}
+use Rattle.lists.specs.Joined.{_∈_, concatMap}
+use Rattle.lists.specs.Ordered.{Pairwise}
 use Rattle.answers.specs.Answer.{firstThatApplies}
+use Rattle.counting.specs.Counted.{Counted}
+use Rattle.counting.specs.Prepared as tables
 use Rattle.counting.specs.Prepared.{Tabled}
-use Rattle.readings.specs.Plan as planned
-use Rattle.history.specs.Refusals.{Accepted}
+use Rattle.history.specs.Refusals.{historyRows, Accepted}
+use Rattle.history.specs.Heard.{sentences}
+use Rattle.sampling.specs.Question.{Question}
 use Rattle.sampling.specs.Unheard.{barred, ambiguous}
 use Rattle.sampling.specs.Answers.{sampleNumber, remainingRows}
+use Rattle.sampling.specs.Hearing.{numbersIn, ambiguousIn}
 use Rattle.sampling.specs.declared.prepare.Sampled.{Sampled}
 use Rattle.sampling.specs.declared.prepare.Sampled.the-variants.{Ready, Refused}
 
--- the lengths of what is lent for the tables and the numbers
-pub record Lent (index plain numbers : List ℕ) : Type 0 where
-  pub index-long : length index ≡ 1024
-  pub plain-long : length plain ≡ 544
+-- ---- 11 to 15, by the tables
+
+-- the counts of the length n, and room for the numbers of a history
+pub record HearsAll (rules plain : List (List ℕ)) (n : ℕ) (numbers : List ℕ) : Type 0 where
+  pub counted : Counted rules plain n
   pub room : 1000 ≤ length numbers
 
--- the tables, their plan, an accepted history and room for its numbers
-pub record Hears (g index plain : List ℕ) (n : ℕ) (plan h numbers : List ℕ) : Type 0 where
-  pub ready : planned.Ready g index plain n plan
+-- and an accepted history
+pub record Hears (rules plain : List (List ℕ)) (h : List ℕ) (n : ℕ) (numbers : List ℕ) : Type 0 where
+  pub counted : Counted rules plain n
   pub diary : Accepted h
   pub room : 1000 ≤ length numbers
 
--- the heard numbers, rising, each once; or that line 15 applies
-abbrev pub Hold : (g h : List ℕ) (n : ℕ) (numbers : List ℕ) → Sampled → Type 0
-Hold g h n numbers (Ready k) = (ambiguous g h n ≡ false) × (k ≤ 1000) × (take k numbers ≡ barred g h n)
-Hold g h n numbers (Refused r) = (ambiguous g h n ≡ true) × (sampleNumber r ≡ 15)
+-- the numbers of a history's sentences, rising, each once
+pub record Heard (rules : List (List ℕ)) (h : List ℕ) (n : ℕ) (heard : List ℕ) : Type 0 where
+  pub clear : ambiguousIn rules h n ≡ false
+  pub rising : Pairwise _<_ heard
+  pub just : (d : ℕ) → (d ∈ heard) ↔ (d ∈ concatMap (numbersIn rules n) (sentences h))
 
-pub record HeardAs (g h : List ℕ) (n : ℕ) (numbers : List ℕ) (s : Sampled) : Type 0 where
-  pub hold : Hold g h n numbers s
+-- these; or that line 15 applies
+abbrev pub Hold : (rules : List (List ℕ)) (h : List ℕ) (n : ℕ) (numbers : List ℕ) → Sampled → Type 0
+Hold rules h n numbers (Ready k) = (k ≤ 1000) × Heard rules h n (take k numbers)
+Hold rules h n numbers (Refused r) = (ambiguousIn rules h n ≡ true) × (sampleNumber r ≡ 15)
+
+pub record HeardAs (rules : List (List ℕ)) (h : List ℕ) (n : ℕ) (numbers : List ℕ) (s : Sampled) : Type 0 where
+  pub hold : Hold rules h n numbers s
+
+-- these of an accepted history; or the first of 11 to 15 that applies
+abbrev pub Recorded : (rules : List (List ℕ)) (h : List ℕ) (n : ℕ) (numbers : List ℕ) → Sampled → Type 0
+Recorded rules h n numbers (Ready k) = Accepted h × (k ≤ 1000) × Heard rules h n (take k numbers)
+Recorded rules h n numbers (Refused r) = sampleNumber r ≡ firstThatApplies (historyRows h ++ ((ambiguousIn rules h n, 15) ∷ []))
+
+pub record RecordedAs (rules : List (List ℕ)) (h : List ℕ) (n : ℕ) (numbers : List ℕ) (s : Sampled) : Type 0 where
+  pub recorded : Recorded rules h n numbers s
+
+-- ---- all, for the grammar
+
+-- what is lent for the tables and the numbers
+pub record Lent (rules totals : List (List ℕ)) (numbers : List ℕ) : Type 0 where
+  pub tables : tables.Lent rules totals
+  pub room : 1000 ≤ length numbers
 
 -- the tables and the k heard numbers are there
-pub record Drawable (g h : List ℕ) (n : ℕ) (index plain numbers : List ℕ) (k : ℕ) : Type 0 where
-  pub tabled : Tabled g n index plain
+pub record Drawable (g h : List ℕ) (a : Question) (rules totals : List (List ℕ)) (numbers : List ℕ) (k : ℕ) : Type 0 where
+  pub tabled : Tabled g (a .length) rules totals
+  pub passed : firstThatApplies (remainingRows g h a) ≡ 0
   pub diary : Accepted h
-  pub clear : ambiguous g h n ≡ false
+  pub clear : ambiguous g h a ≡ false
   pub few : k ≤ 1000
-  pub heard : take k numbers ≡ barred g h n
+  pub heard : take k numbers ≡ barred g h a
 
 -- what preparing answers: the refusal, or these
-abbrev pub Prepared : (g h : List ℕ) (n : ℕ) (index plain numbers : List ℕ) → Sampled → Type 0
-Prepared g h n index plain numbers (Ready k) = Drawable g h n index plain numbers k
-Prepared g h n index plain numbers (Refused r) = sampleNumber r ≡ firstThatApplies (remainingRows g h n)
+abbrev pub Prepared : (g h : List ℕ) (a : Question) (rules totals : List (List ℕ)) (numbers : List ℕ) → Sampled → Type 0
+Prepared g h a rules totals numbers (Ready k) = Drawable g h a rules totals numbers k
+Prepared g h a rules totals numbers (Refused r) = sampleNumber r ≡ firstThatApplies (remainingRows g h a)
 
-pub record PreparedAs (g h : List ℕ) (n : ℕ) (index plain numbers : List ℕ) (s : Sampled) : Type 0 where
-  pub prepared : Prepared g h n index plain numbers s
+pub record PreparedAs (g h : List ℕ) (a : Question) (rules totals : List (List ℕ)) (numbers : List ℕ) (s : Sampled) : Type 0 where
+  pub prepared : Prepared g h a rules totals numbers s
   pub long : 1000 ≤ length numbers

@@ -11,6 +11,7 @@ use Rattle.lists.specs.Struck.{keep, struck, numbered}
 use Rattle.grammar.specs.Trees.{Tree, sentence}
 use Rattle.ranking.specs.Answers.{fullList, totalOf, readingsOf}
 use Rattle.history.specs.Heard.{sentences, heard}
+use Rattle.sampling.specs.Question.{Question}
 
 -- a derivation with its derivation number
 abbrev pub Entry : Type 0
@@ -22,12 +23,12 @@ outside h t = not (heard h (sentence t))
 
 -- "The full list holds every derivation of S with length n, each once, in the order above. Its entry d, counted from 0, so has derivation
 -- number d. Strike each entry whose sentence is heard. What remains, in the same order, is the unheard list."
-unfoldable pub unheard : (g h : List ℕ) (n : ℕ) → List Entry
-unheard g h n = keep (λ (e : Entry). outside h (e .1)) (numbered 0 (fullList g n))
+unfoldable pub unheard : (g h : List ℕ) (a : Question) → List Entry
+unheard g h a = keep (λ (e : Entry). outside h (e .1)) (numbered 0 (fullList g (a .length)))
 
 -- the places that are struck, rising: the heard derivation numbers
-abbrev pub barred : (g h : List ℕ) (n : ℕ) → List ℕ
-barred g h n = struck (outside h) (fullList g n)
+abbrev pub barred : (g h : List ℕ) (a : Question) → List ℕ
+barred g h a = struck (outside h) (fullList g (a .length))
 
 -- ---- what *Left* counts
 
@@ -41,13 +42,13 @@ abbrev pub ofLength : (n : ℕ) (h : List ℕ) → List (List ℕ)
 ofLength n h = keep (λ s. eqb (length s) n) (sentences h)
 
 -- "heard (distinct heard sentences of that length with one derivation)"
-unfoldable pub heardOf : (g h : List ℕ) (n : ℕ) → ℕ
-heardOf g h n = length (distinct (keep (λ s. eqb (readingsOf g s) 1) (ofLength n h)))
+unfoldable pub heardOf : (g h : List ℕ) (a : Question) → ℕ
+heardOf g h a = length (distinct (keep (λ s. eqb (readingsOf g s) 1) (ofLength (a .length) h)))
 
 -- "left = T - heard"
-abbrev pub leftOf : (g h : List ℕ) (n : ℕ) → ℕ
-leftOf g h n = totalOf g n - heardOf g h n
+abbrev pub leftOf : (g h : List ℕ) (a : Question) → ℕ
+leftOf g h a = totalOf g (a .length) - heardOf g h a
 
 -- "15. A diary sentence of the named length has two or more derivations from S (*Left*, *Draw*)."
-unfoldable pub ambiguous : (g h : List ℕ) (n : ℕ) → Bool
-ambiguous g h n = someOf (λ s. leb 2 (readingsOf g s)) (ofLength n h)
+unfoldable pub ambiguous : (g h : List ℕ) (a : Question) → Bool
+ambiguous g h a = someOf (λ s. leb 2 (readingsOf g s)) (ofLength (a .length) h)

@@ -5,6 +5,7 @@ ghost use Rattle.sampling.specs.Drawing.{DrawSought, drawSkipping};
 use crate::prepare;
 use crate::prepare::SampleRefusal;
 use crate::prepare::Sampled;
+use crate::question::Question;
 use crate::skip;
 use crate::skip::DrawNumber;
 use ranking::unrank;
@@ -19,18 +20,17 @@ pub enum DrawAnswer {
 
 // With the tables and the heard numbers at hand: many draws share one preparation.
 pub fn draw_prepared(
-    g: &[u8],
-    index: &[u8; 1024],
-    plain: &[u64; 544],
+    rules: &[[u8; 256]],
+    totals: &[[u64; 32]],
     n: usize,
     heard: &[u64],
     q: DrawNumber,
     out: &mut [u8],
 ) -> DrawAnswer
-    requires { ⌜ DrawSought (now g) (now index) (now plain) n (now heard) ⌝ }
-    ensures { λ r. ⌜ drawSaid r (now (out .exit)) ≡ drawSkipping (now (g .entry)) n (now (heard .entry)) (q .0) (now (out .entry)) ⌝ }
+    requires { ⌜ DrawSought (now rules) (now totals) n (now heard) ⌝ }
+    ensures { λ r. ⌜ drawSaid r (now (out .exit)) ≡ drawSkipping (now (rules .entry)) n (now (heard .entry)) (q .0) (now (out .entry)) ⌝ }
 {
-    let left = unrank::total(g, plain, n) - heard.len() as u64;
+    let left = unrank::total(rules, totals, n) - heard.len() as u64;
     if left <= q.0 {
         return DrawAnswer::Beyond;
     }
@@ -38,19 +38,22 @@ pub fn draw_prepared(
         return DrawAnswer::Short;
     }
     let d = skip::skip(q, heard).0;
-    unrank::write(g, index, plain, n, DerivationNumber(d), out);
+    unrank::write(rules, totals, n, DerivationNumber(d), out);
     DrawAnswer::Drawn(left, DerivationNumber(d))
 }
 
 pub fn draw(g: &[u8], h: &[u8], n: u64, q: DrawNumber, out: &mut [u8]) -> DrawAnswer
     ensures { λ r. ⌜ drawSaid r (now (out .exit)) ≡ drawOf (now (g .entry)) (now (h .entry)) n (q .0) (now (out .entry)) ⌝ }
 {
-    let mut index = [0u8; 1024];
-    let mut plain = [0u64; 544];
+    let byte_row = [0u8; 256];
+    let mut rules = [byte_row; 4];
+    let row = [0u64; 32];
+    let mut totals = [row; 17];
     let mut numbers = [0u64; 1000];
-    let p = prepare::prepare(g, h, n, &mut index, &mut plain, &mut numbers);
+    let question = Question { length: n };
+    let p = prepare::prepare(g, h, question, &mut rules, &mut totals, &mut numbers);
     match p {
         Sampled::Refused(r) => DrawAnswer::NotDrawn(r),
-        Sampled::Ready(k) => draw_prepared(g, &index, &plain, n as usize, &numbers[0..k], q, out),
+        Sampled::Ready(k) => draw_prepared(&rules, &totals, n as usize, &numbers[0..k], q, out),
     }
 }

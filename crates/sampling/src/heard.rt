@@ -1,5 +1,6 @@
 // The heard derivation numbers: those of the history's sentences of a length that have one derivation.
 ghost use Rattle.sampling.specs.Hearing.{Tells, ToldAs, Collects, CollectedAs};
+use charts::plan;
 use history::reader;
 use ranking::rank;
 use ranking::rank::Found;
@@ -10,48 +11,45 @@ pub enum Collected {
     Ambiguous,
 }
 
-// What a sentence of the history adds to the first `count` numbers.
+// What a sentence of the history adds in front of the numbers' room: how many numbers, none or one.
 fn tell(
-    g: &[u8],
-    index: &[u8; 1024],
-    plain: &[u64; 544],
-    plan: &[u8],
+    rules: &[[u8; 256]],
+    plan: &[[u32; 32]; 4],
+    map: &mut [[u16; 16]; 17],
+    counts: &[[u16; 16]; 17],
     s: &[u8],
-    n: usize,
-    count: usize,
-    cells: &mut [u64],
-    numbers: &mut [u64],
+    totals: &mut [[u64; 32]],
+    room: &mut [u64],
 ) -> Collected
-    requires { ⌜ Tells (now g) (now index) (now plain) n (now plan) count (now cells) (now numbers) ⌝ }
-    ensures { λ c. ⌜ ToldAs (now (g .entry)) (now (s .entry)) n count (now (numbers .entry)) (now (numbers .exit)) c ⌝ }
+    requires { ⌜ Tells (now rules) (now plan) (now map) (now counts) (now totals) (now room) ⌝ }
+    ensures { λ c. ⌜ ToldAs (now (rules .entry)) (now (plan .entry)) (now (map .exit)) (now (s .entry)) (now (totals .exit)) (now (room .exit)) c ⌝ }
 {
-    if s.len() != n {
-        return Collected::Numbers(count);
+    if s.len() != plan::length(plan) {
+        return Collected::Numbers(0);
     }
-    let f = rank::find(g, index, plain, plan, s, cells);
+    let f = rank::find(rules, plan, map, counts, s, totals);
     match f {
-        Found::None => Collected::Numbers(count),
+        Found::None => Collected::Numbers(0),
         Found::Many => Collected::Ambiguous,
         Found::One(d) => {
-            numbers[count] = d.0;
-            Collected::Numbers(count + 1)
+            room[0] = d.0;
+            Collected::Numbers(1)
         }
     }
 }
 
 // The numbers along the chain, one sentence after another. An empty sentence is the end.
 pub fn collect(
-    g: &[u8],
-    index: &[u8; 1024],
-    plain: &[u64; 544],
-    plan: &[u8],
+    rules: &[[u8; 256]],
+    plan: &[[u32; 32]; 4],
+    map: &mut [[u16; 16]; 17],
+    counts: &[[u16; 16]; 17],
     h: &[u8],
-    n: usize,
-    cells: &mut [u64],
+    totals: &mut [[u64; 32]],
     numbers: &mut [u64],
 ) -> Collected
-    requires { ⌜ Collects (now g) (now index) (now plain) n (now plan) (now h) (now cells) (now numbers) ⌝ }
-    ensures { λ c. ⌜ CollectedAs (now (g .entry)) (now (h .entry)) n (now (numbers .exit)) c ⌝ }
+    requires { ⌜ Collects (now rules) (now plan) (now map) (now counts) (now h) (now totals) (now numbers) ⌝ }
+    ensures { λ c. ⌜ CollectedAs (now (rules .entry)) (now (plan .entry)) (now (h .entry)) (now (numbers .exit)) c ⌝ }
 {
     let mut at = reader::first(h);
     let mut count = 0;
@@ -60,14 +58,14 @@ pub fn collect(
         if s.len() == 0 {
             return Collected::Numbers(count);
         }
-        let c = tell(g, index, plain, plan, s, n, count, cells, numbers);
+        let c = tell(rules, plan, map, counts, s, totals, &mut numbers[count..]);
         match c {
             Collected::Ambiguous => {
                 return Collected::Ambiguous;
             }
             Collected::Numbers(k) => {
                 at = reader::after(h, at);
-                count = k;
+                count += k;
             }
         }
     }

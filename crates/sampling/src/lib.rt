@@ -2,5 +2,6 @@
 pub mod draw;
 pub mod heard;
 pub mod prepare;
+pub mod question;
 pub mod remaining;
 pub mod skip;

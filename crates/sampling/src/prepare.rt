@@ -1,22 +1,24 @@
-// What *Left* and every *Draw* need: the tables of the grammar and the heard derivation numbers, rising, each once.
+// What *Left* and every *Draw* need: the tables of the grammar, then the heard derivation numbers, rising, each once.
 ghost use mathlib.Core.Path.{_≡_};
 ghost use Prim.Native.Nat.{_≤_};
 ghost use lib.ListN.{length};
-ghost use Rattle.counting.specs.Prepared.{Tabled};
-ghost use Rattle.history.specs.Refusals.{Accepted};
-ghost use Rattle.history.specs.Layout.{recordsOf};
 ghost use Rattle.sampling.specs.Answers.{sampleNumber};
-ghost use Rattle.sampling.specs.Hearing.{Collects};
-ghost use Rattle.sampling.specs.Preparing.{Lent, Hears, HeardAs, PreparedAs};
+ghost use Rattle.sampling.specs.Question.{asked};
+ghost use Rattle.ranking.specs.Ranking.{Roomy};
+ghost use Rattle.sampling.specs.Preparing.{Lent, Hears, HeardAs, HearsAll, RecordedAs, PreparedAs};
 use crate::heard;
 use crate::heard::Collected;
+use crate::question::Question;
+use charts::maps;
+use charts::ready;
 use counting::prepare;
 use counting::prepare::CountRefusal;
 use counting::prepare::Prepared;
+use counting::tallies;
+use grammar::rules;
 use history::checks;
 use history::checks::HistoryAnswer;
 use history::checks::HistoryRefusal;
-use readings::plan;
 
 pub enum SampleRefusal {
     Count(CountRefusal),
@@ -41,21 +43,29 @@ pub fn refusal_number(r: SampleRefusal) -> u8
     }
 }
 
-// The heard numbers, rising, each once.
-fn hear(
-    g: &[u8],
-    index: &[u8; 1024],
-    plain: &[u64; 544],
-    plan: &[u8],
+// The heard numbers of a history, rising, each once, with room for the charts of its sentences.
+fn hear_in(
+    rules: &[[u8; 256]],
+    plain: &[[u64; 32]],
     h: &[u8],
     n: usize,
-    cells: &mut [u64],
     numbers: &mut [u64],
+    totals: &mut [[u64; 32]],
 ) -> Sampled
-    requires { ⌜ Collects (now g) (now index) (now plain) n (now plan) (now h) (now cells) (now numbers) ⌝ }
-    ensures { λ s. ⌜ HeardAs (now (g .entry)) (now (h .entry)) n (now (numbers .exit)) s ⌝ }
+    requires { ⌜ Hears (now rules) (now plain) (now h) n (now numbers) × Roomy n (now totals) ⌝ }
+    ensures { λ s. ⌜ HeardAs (now (rules .entry)) (now (h .entry)) n (now (numbers .exit)) s ⌝ }
 {
-    let c = heard::collect(g, index, plain, plan, h, n, cells, numbers);
+    tallies::copy(plain, n, totals);
+    let row = [0u8; 256];
+    let mut linked = [row; 13];
+    rules::copy(rules, &mut linked);
+    let set_row = [0u32; 32];
+    let mut plan = [set_row; 4];
+    let map_row = [0u16; 16];
+    let mut map = [map_row; 17];
+    ready::ready(&mut linked, totals, n, &mut plan, &mut map);
+    let counts = maps::EVERYWHERE;
+    let c = heard::collect(&linked, &plan, &mut map, &counts, h, totals, numbers);
     match c {
         Collected::Ambiguous => Sampled::Refused(SampleRefusal::Ambiguous),
         Collected::Numbers(k) => {
@@ -66,83 +76,64 @@ fn hear(
     }
 }
 
-// Room for the rows of sentences of up to five words, and for all.
-fn hear_short(
-    g: &[u8],
-    index: &[u8; 1024],
-    plain: &[u64; 544],
-    plan: &[u8],
+// A chart of up to five words takes 33 rows, of sixteen 154.
+fn hear(
+    rules: &[[u8; 256]],
+    plain: &[[u64; 32]],
     h: &[u8],
     n: usize,
     numbers: &mut [u64],
 ) -> Sampled
-    requires { ⌜ Hears (now g) (now index) (now plain) n (now plan) (now h) (now numbers) × (n ≤ 5) ⌝ }
-    ensures { λ s. ⌜ HeardAs (now (g .entry)) (now (h .entry)) n (now (numbers .exit)) s ⌝ }
+    requires { ⌜ Hears (now rules) (now plain) (now h) n (now numbers) ⌝ }
+    ensures { λ s. ⌜ HeardAs (now (rules .entry)) (now (h .entry)) n (now (numbers .exit)) s ⌝ }
 {
-    let mut cells = [0u64; 800];
-    hear(g, index, plain, plan, h, n, &mut cells, numbers)
-}
-
-fn hear_long(
-    g: &[u8],
-    index: &[u8; 1024],
-    plain: &[u64; 544],
-    plan: &[u8],
-    h: &[u8],
-    n: usize,
-    numbers: &mut [u64],
-) -> Sampled
-    requires { ⌜ Hears (now g) (now index) (now plain) n (now plan) (now h) (now numbers) ⌝ }
-    ensures { λ s. ⌜ HeardAs (now (g .entry)) (now (h .entry)) n (now (numbers .exit)) s ⌝ }
-{
-    let mut cells = [0u64; 8192];
-    hear(g, index, plain, plan, h, n, &mut cells, numbers)
-}
-
-// The k records heard. No plan is made for a history without records.
-fn hear_all(
-    g: &[u8],
-    index: &[u8; 1024],
-    plain: &[u64; 544],
-    h: &[u8],
-    k: u64,
-    n: usize,
-    numbers: &mut [u64],
-) -> Sampled
-    requires { ⌜ Tabled (now g) n (now index) (now plain) × Accepted (now h) × (1000 ≤ length (now numbers)) × (k ≡ recordsOf (now h)) ⌝ }
-    ensures { λ s. ⌜ HeardAs (now (g .entry)) (now (h .entry)) n (now (numbers .exit)) s ⌝ }
-{
-    if k == 0 {
-        return Sampled::Ready(0);
-    }
-    let mut plan = [0u8; 1792];
-    plan::build(g, index, plain, n, &mut plan);
+    let row = [0u64; 32];
     if n <= 5 {
-        return hear_short(g, index, plain, &plan, h, n, numbers);
+        let mut totals = [row; 33];
+        return hear_in(rules, plain, h, n, numbers, &mut totals);
     }
-    hear_long(g, index, plain, &plan, h, n, numbers)
+    let mut totals = [row; 154];
+    hear_in(rules, plain, h, n, numbers, &mut totals)
 }
 
+// 11 to 15. No chart is made for a history without records.
+fn records(
+    rules: &[[u8; 256]],
+    plain: &[[u64; 32]],
+    h: &[u8],
+    n: usize,
+    numbers: &mut [u64],
+) -> Sampled
+    requires { ⌜ HearsAll (now rules) (now plain) n (now numbers) ⌝ }
+    ensures { λ s. ⌜ RecordedAs (now (rules .entry)) (now (h .entry)) n (now (numbers .exit)) s ⌝ }
+{
+    let a = checks::check(h);
+    match a {
+        HistoryAnswer::Refused(r) => Sampled::Refused(SampleRefusal::History(r)),
+        HistoryAnswer::Accepted(k) => {
+            if k == 0 {
+                return Sampled::Ready(0);
+            }
+            hear(rules, plain, h, n, numbers)
+        }
+    }
+}
+
+// 1 to 10, then 11 to 15.
 pub fn prepare(
     g: &[u8],
     h: &[u8],
-    n: u64,
-    index: &mut [u8; 1024],
-    plain: &mut [u64; 544],
+    question: Question,
+    rules: &mut [[u8; 256]],
+    totals: &mut [[u64; 32]],
     numbers: &mut [u64],
 ) -> Sampled
-    requires { ⌜ Lent (now index) (now plain) (now numbers) ⌝ }
-    ensures { λ s. ⌜ PreparedAs (now (g .entry)) (now (h .entry)) n (now (index .exit)) (now (plain .exit)) (now (numbers .exit)) s ⌝ }
+    requires { ⌜ Lent (now rules) (now totals) (now numbers) ⌝ }
+    ensures { λ s. ⌜ PreparedAs (now (g .entry)) (now (h .entry)) (asked question) (now (rules .exit)) (now (totals .exit)) (now (numbers .exit)) s ⌝ }
 {
-    let p = prepare::prepare(g, n, index, plain);
+    let p = prepare::prepare(g, question.length, rules, totals);
     match p {
         Prepared::Refused(r) => Sampled::Refused(SampleRefusal::Count(r)),
-        Prepared::Ready => {
-            let a = checks::check(h);
-            match a {
-                HistoryAnswer::Refused(r) => Sampled::Refused(SampleRefusal::History(r)),
-                HistoryAnswer::Accepted(k) => hear_all(g, index, plain, h, k, n as usize, numbers),
-            }
-        }
+        Prepared::Ready => records(rules, totals, h, question.length as usize, numbers),
     }
 }

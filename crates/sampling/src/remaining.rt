@@ -4,6 +4,7 @@ ghost use Rattle.sampling.specs.Answers.{remainingSaid, remainingOf};
 use crate::prepare;
 use crate::prepare::SampleRefusal;
 use crate::prepare::Sampled;
+use crate::question::Question;
 use ranking::unrank;
 
 pub enum RemainingAnswer {
@@ -14,14 +15,17 @@ pub enum RemainingAnswer {
 pub fn remaining(g: &[u8], h: &[u8], n: u64) -> RemainingAnswer
     ensures { λ r. ⌜ remainingSaid r ≡ remainingOf (now (g .entry)) (now (h .entry)) n ⌝ }
 {
-    let mut index = [0u8; 1024];
-    let mut plain = [0u64; 544];
+    let byte_row = [0u8; 256];
+    let mut rules = [byte_row; 4];
+    let row = [0u64; 32];
+    let mut totals = [row; 17];
     let mut numbers = [0u64; 1000];
-    let p = prepare::prepare(g, h, n, &mut index, &mut plain, &mut numbers);
+    let question = Question { length: n };
+    let p = prepare::prepare(g, h, question, &mut rules, &mut totals, &mut numbers);
     match p {
         Sampled::Refused(r) => RemainingAnswer::NotRemaining(r),
         Sampled::Ready(k) => {
-            let total = unrank::total(g, &plain, n as usize);
+            let total = unrank::total(&rules, &totals, n as usize);
             let heard = k as u64;
             RemainingAnswer::Remaining(total, heard, total - heard)
         }

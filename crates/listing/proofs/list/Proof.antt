@@ -2,15 +2,21 @@
 -- Assumes nothing.
 use native.Mathlib.Omega.{arith}
 use borrow.Author.Needs.{needs}
-use Rattle.sampling.proofs.Answering.{draw-sought, prepared-case}
+use Rattle.sampling.proofs.Answering.{draw-sought, lent-made, prepared-case}
 use Rattle.listing.proofs.list.Statement.{statement}
 use Rattle.listing.proofs.list.Tie as tie
 
 slice-aggregate-prepare : tie.Need-slice-aggregate-prepare
 slice-aggregate-prepare c = search needs
 
+slice-aggregate-prepare-2 : tie.Need-slice-aggregate-prepare-2
+slice-aggregate-prepare-2 c = search needs
+
+slice-aggregate-prepare-3 : tie.Need-slice-aggregate-prepare-3
+slice-aggregate-prepare-3 c = search needs
+
 prepare-requires : tie.Need-prepare-requires
-prepare-requires c κs = search needs
+prepare-requires c κs = lent-made
 
 enum-known-p : tie.Need-enum-known-p
 enum-known-p c = search needs
@@ -24,6 +30,12 @@ print-refusal-requires c κs = search needs
 enum-known-p-2 : tie.Need-enum-known-p-2
 enum-known-p-2 c = search needs
 
+slice-aggregate-print-list : tie.Need-slice-aggregate-print-list
+slice-aggregate-print-list c = search needs
+
+slice-aggregate-print-list-2 : tie.Need-slice-aggregate-print-list-2
+slice-aggregate-print-list-2 c = search needs
+
 sub-print-list : tie.Need-sub-print-list
 sub-print-list c = search needs
 
@@ -33,13 +45,13 @@ part-print-list-start c = search needs
 part-print-list-end : tie.Need-part-print-list-end
 part-print-list-end c =
     let p = c .before .before .before .before in
-    let q = p .before .before .before .prepare .ensures in
+    let q = p .before .before .before .before .before .prepare .ensures in
     omega (arith, prepared-case q (p .p2 .given .1) .few, q .long)
 
 print-list-requires : tie.Need-print-list-requires
 print-list-requires c κs =
     let p = c .before .before .before .before .before in
-    let q = p .before .before .before .prepare .ensures in
+    let q = p .before .before .before .before .before .prepare .ensures in
     draw-sought (prepared-case q (p .p2 .given .1)) (q .long)
 
 returns : tie.Need-returns
@@ -53,11 +65,15 @@ list-spec =
     tie.close
     (tie.spec
     slice-aggregate-prepare
+    slice-aggregate-prepare-2
+    slice-aggregate-prepare-3
     prepare-requires
     enum-known-p
     refusal-number-requires
     print-refusal-requires
     enum-known-p-2
+    slice-aggregate-print-list
+    slice-aggregate-print-list-2
     sub-print-list
     part-print-list-start
     part-print-list-end

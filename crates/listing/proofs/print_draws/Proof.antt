@@ -6,10 +6,10 @@ use Rattle.listing.proofs.print_draws.Statement.{statement}
 use Rattle.listing.proofs.print_draws.Tie as tie
 
 abbrev Inv-loop : tie.InvT-loop
-Inv-loop g index plain n heard count out₀ at₀ q₀ out at q = (at ≤ 4096) × (q ≤ count)
+Inv-loop rules totals n heard count out₀ at₀ q₀ out at q = (at ≤ 4096) × (q ≤ count)
 
 abbrev μ-loop : tie.MeasureT-loop
-μ-loop g index plain n heard count out₀ at₀ q₀ out at q = count - q
+μ-loop rules totals n heard count out₀ at₀ q₀ out at q = count - q
 
 loop-holds : tie.Need-loop-holds Inv-loop μ-loop
 loop-holds c = search needs

@@ -10,7 +10,7 @@ total-requires : tie.Need-total-requires
 total-requires c κs = search needs
 
 sub-left : tie.Need-sub-left
-sub-left c = omega (arith, c .total .ensures, struck-few (c .before .before .before .pre))
+sub-left c = omega (arith, c .total .ensures, struck-few (c .before .before .pre))
 
 print-figures-requires : tie.Need-print-figures-requires
 print-figures-requires c κs = search needs

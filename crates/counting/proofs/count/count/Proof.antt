@@ -1,54 +1,48 @@
 -- `count` meets its contract: a refusal is handed on, and otherwise the table has T(S, n). Assumes nothing.
-use mathlib.Core.Path.{_≡_, refl, _∙_}
+use native.Mathlib.Omega.{arith}
 use borrow.Author.Needs.{needs}
-use denote.Ref.{now}
-use Rattle.grammar.specs.Layout.{start}
+use Rattle.lists.proofs.Tables.{wide-made}
 use Rattle.counting.proofs.Preparing.{count-refused, count-asks, count-given}
 use Rattle.counting.proofs.count.count.Statement.{statement}
 use Rattle.counting.proofs.count.count.Tie as tie
 
--- where the tables are there
-abbrev told : tie.After-wide → tie.After-enum-told
+-- where the tables are there, and where they were made
+abbrev told : tie.After-start → tie.After-enum-told
 told c = c .before .before .before
 
-first : (c : tie.After-wide) → c .wide .result ≡ start (now (told c .before .before .before .before .before .before .args .g))
-first c = c .wide .ensures .0 ∙ c .before .start .ensures
+abbrev made : tie.After-enum-told → tie.After-prepare
+made c = c .before .before .before .before
 
 prepare-requires : tie.Need-prepare-requires
-prepare-requires c κs = (refl, refl)
+prepare-requires c κs = record {
+  rules-room = record { long = omega arith; wide = wide-made 4 256 0 };
+  long = omega arith;
+  wide = wide-made 17 32 0;
+}
 
-enum-known-prepared : tie.Need-enum-known-prepared
-enum-known-prepared c = search needs
-
-enum-told : tie.Need-enum-told
-enum-told c = search needs
-
-start-requires : tie.Need-start-requires
-start-requires c κs = tt
-
-wide-requires : tie.Need-wide-requires
-wide-requires c κs = tt
-
-plain-at-requires : tie.Need-plain-at-requires
-plain-at-requires c κs = let t = told c in count-asks (t .before .before .prepare .ensures) (t .enum-told .given .1) (first c)
+count-at-requires : tie.Need-count-at-requires
+count-at-requires c κs = let t = told c in count-asks (made t .prepare .ensures) (t .enum-told .given .1) (c .start .ensures .0)
 
 returns : tie.Need-returns
-returns c = count-refused (c .before .before .before .prepare .ensures) (c .before .prepared .given .1)
+returns c = count-refused (c .before .before .before .before .before .prepare .ensures) (c .before .prepared .given .1)
 
 returns-2 : tie.Need-returns-2
 returns-2 c =
     let t = told (c .before) in
-    count-given (t .before .before .prepare .ensures) (t .enum-told .given .1) (first (c .before)) (c .plain-at .ensures)
+    count-given (made t .prepare .ensures) (t .enum-told .given .1) (c .before .start .ensures .0) (c .count-at .ensures)
 
 pub count-spec : {M : Type 1} → statement M
 count-spec =
     tie.close
     (tie.spec
+    (λ c. search needs)
+    (λ c. search needs)
     prepare-requires
-    enum-known-prepared
-    enum-told
-    start-requires
-    wide-requires
-    plain-at-requires
+    (λ c. search needs)
+    (λ c. search needs)
+    (λ c. search needs)
+    (λ c. search needs)
+    (λ c κs. search needs)
+    count-at-requires
     returns
     returns-2)

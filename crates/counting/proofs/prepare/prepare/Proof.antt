@@ -1,70 +1,54 @@
--- `prepare` meets its contract: each test that fails moves the refusal on to the next line, and one that succeeds is the refusal; past
--- the last the tables are there. Assumes nothing.
-use native.Mathlib.Omega.{arith}
+-- `prepare` meets its contract: a refusal of opening is handed on, and past it the counts fit or 10 is the refusal. Assumes nothing.
 use borrow.Author.Needs.{needs}
-use denote.Ref.{now}
-use Rattle.grammar.specs.Refusals.{Accepted}
-use Rattle.counting.proofs.Preparing.{check-accepted, by-grammar, by-length, too-short, too-long, by-size, prepared}
+use Rattle.counting.proofs.Preparing.{prepare-by-opening, prepare-asks, prepare-too-large, prepare-ready}
 use Rattle.counting.proofs.prepare.prepare.Statement.{statement}
 use Rattle.counting.proofs.prepare.prepare.Tie as tie
 
-abbrev read : tie.After-enum-told → tie.After-read
-read c = c .before .before
+abbrev opened : tie.After-enum-told → tie.After-open
+opened c = c .before .before .before
 
-abbrev start : tie.After-enum-told → tie.Start
-start c = read c .before .before .before
+abbrev start : tie.After-open → tie.Start
+start c = c .before .before .before
 
-accepted : (c : tie.After-enum-told) → Accepted (now (start c .args .g))
-accepted c = check-accepted _ (c .enum-told .given .1) (read c .read .ensures .says)
-
--- where the grammar was accepted, from where the table is to be filled, and from where it is
-abbrev told : tie.After-fill-arg → tie.After-enum-told
+-- where the grammar is open, from where the table is filled
+abbrev told : tie.After-fill → tie.After-enum-told
 told c = c .before .before .before
 
-abbrev filled : tie.After-fill → tie.After-enum-told
-filled c = told (c .before .before)
-
-read-requires : tie.Need-read-requires
-read-requires c κs = search needs
-
-enum-known-checked : tie.Need-enum-known-checked
-enum-known-checked c = search needs
-
 returns : tie.Need-returns
-returns c = by-grammar (c .before .checked .given .1) (c .before .before .before .read .ensures .says)
-
-enum-told : tie.Need-enum-told
-enum-told c = search needs
-
-returns-2 : tie.Need-returns-2
-returns-2 c = by-length (accepted (c .before)) (too-short (c .if1 .taken))
-
-returns-3 : tie.Need-returns-3
-returns-3 c = by-length (accepted (c .before .before)) (too-long (c .if2 .taken))
+returns c =
+    let o = c .before .before .before .before in
+    prepare-by-opening (start o .pre) (o .«open» .ensures) (c .before .opened .given .1)
 
 fill-requires : tie.Need-fill-requires
 fill-requires c κs =
-    let t = told (c .before) in
-    (accepted t, read t .read .ensures .indexed (accepted t), omega arith, start t .pre .1)
+    let t = c .before .before in
+    prepare-asks (start (opened t) .pre) (opened t .«open» .ensures) (t .enum-told .given .1)
 
-returns-4 : tie.Need-returns-4
-returns-4 c =
-    let t = filled (c .before) in
-    prepared (accepted t) (omega arith) (omega arith) (c .before .fill .ensures) (c .if3 .taken) (read t .read .ensures .indexed (accepted t))
+returns-2 : tie.Need-returns-2
+returns-2 c =
+    let f = c .before .before in
+    let t = told f in
+    prepare-ready (start (opened t) .pre) (opened t .«open» .ensures) (t .enum-told .given .1) (f .fill .ensures) (c .if1 .taken)
 
-returns-5 : tie.Need-returns-5
-returns-5 c = by-size (accepted (filled (c .before))) (omega arith) (omega arith) (c .before .fill .ensures) (c .if3 .left)
+returns-3 : tie.Need-returns-3
+returns-3 c =
+    let f = c .before .before in
+    let t = told f in
+    prepare-too-large (start (opened t) .pre) (opened t .«open» .ensures) (t .enum-told .given .1) (f .fill .ensures) (c .if1 .left)
 
 pub prepare-spec : {M : Type 1} → statement M
 prepare-spec =
     tie.close
     (tie.spec
-    read-requires
-    enum-known-checked
+    (λ c κs. c .before .before .pre .rules-room)
+    (λ c. search needs)
+    (λ c. search needs)
     returns
-    enum-told
-    returns-2
-    returns-3
+    (λ c. search needs)
     fill-requires
-    returns-4
-    returns-5)
+    (λ c. search needs)
+    (λ c. search needs)
+    returns-2
+    (λ c. search needs)
+    (λ c. search needs)
+    returns-3)

@@ -55,36 +55,6 @@ loop-holds c =
     let e = sym (c .before .pre .bodies) in
     record { reached = omega arith; bad = ap (someTo (misfit g)) e; far = ap (someTo (nextAbove g)) e }
 
-mul-at : tie.Need-mul-at Inv-loop μ-loop
-mul-at c = omega arith
-
-add-at : tie.Need-add-at Inv-loop μ-loop
-add-at c = omega arith
-
-shared-slice-read-rule-fits : tie.Need-shared-slice-read-rule-fits Inv-loop μ-loop
-shared-slice-read-rule-fits c = omega arith
-
-shared-slice-read-rule-fits-2 : tie.Need-shared-slice-read-rule-fits-2 Inv-loop μ-loop
-shared-slice-read-rule-fits-2 c = omega arith
-
-shared-slice-read-rule-fits-3 : tie.Need-shared-slice-read-rule-fits-3 Inv-loop μ-loop
-shared-slice-read-rule-fits-3 c = omega arith
-
-add-rule-fits : tie.Need-add-rule-fits Inv-loop μ-loop
-add-rule-fits c = omega arith
-
-shared-slice-read-rule-fits-4 : tie.Need-shared-slice-read-rule-fits-4 Inv-loop μ-loop
-shared-slice-read-rule-fits-4 c = omega arith
-
-add-rule-fits-2 : tie.Need-add-rule-fits-2 Inv-loop μ-loop
-add-rule-fits-2 c = omega arith
-
-shared-slice-read-rule-fits-5 : tie.Need-shared-slice-read-rule-fits-5 Inv-loop μ-loop
-shared-slice-read-rule-fits-5 c = omega arith
-
-rule-fits-requires : tie.Need-rule-fits-requires Inv-loop μ-loop
-rule-fits-requires c κs = tt
-
 returns : tie.Need-returns Inv-loop μ-loop
 returns c =
     let l = head (c .before) in
@@ -92,21 +62,6 @@ returns c =
     let g = now (start .args .g) in
     let bad = misfit-at g (start .args .n) (l .loop .i) false _ (start .pre .heads) (c .before .rule-fits .ensures) (not-true _ (c .if1 .taken)) in
     record { bad = sym (l .loop .inv .bad ∙ to-hit (misfit g) (l .loop .i) (omega arith) bad); far = λ e. absurd (false≢true (sym e)) }
-
-add-wide : tie.Need-add-wide Inv-loop μ-loop
-add-wide c = omega arith
-
-shared-slice-read-wide : tie.Need-shared-slice-read-wide Inv-loop μ-loop
-shared-slice-read-wide c = omega arith
-
-wide-requires : tie.Need-wide-requires Inv-loop μ-loop
-wide-requires c κs = tt
-
-sub-i : tie.Need-sub-i Inv-loop μ-loop
-sub-i c = omega arith
-
-loop-less : tie.Need-loop-less Inv-loop μ-loop
-loop-less c = omega arith
 
 loop-again : tie.Need-loop-again Inv-loop μ-loop
 loop-again c =
@@ -139,21 +94,21 @@ faults-in-spec =
     Inv-loop
     μ-loop
     loop-holds
-    mul-at
-    add-at
-    shared-slice-read-rule-fits
-    shared-slice-read-rule-fits-2
-    shared-slice-read-rule-fits-3
-    add-rule-fits
-    shared-slice-read-rule-fits-4
-    add-rule-fits-2
-    shared-slice-read-rule-fits-5
-    rule-fits-requires
+    (λ c. omega arith)
+    (λ c. omega arith)
+    (λ c. omega arith)
+    (λ c. omega arith)
+    (λ c. omega arith)
+    (λ c. omega arith)
+    (λ c. omega arith)
+    (λ c. omega arith)
+    (λ c. omega arith)
+    (λ c κs. tt)
     returns
-    add-wide
-    shared-slice-read-wide
-    wide-requires
-    sub-i
-    loop-less
+    (λ c. omega arith)
+    (λ c. omega arith)
+    (λ c κs. tt)
+    (λ c. omega arith)
+    (λ c. omega arith)
     loop-again
     returns-2)

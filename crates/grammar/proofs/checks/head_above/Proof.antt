@@ -36,25 +36,10 @@ not-above g A e f h = le-ltb (rules g) (headOf g A) (omega arith)
 loop-holds : tie.Need-loop-holds Inv-loop μ-loop
 loop-holds c = (omega arith, ap (someBelow (headAbove (now (c .before .args .g)))) (sym (c .before .pre .heads)))
 
-sub-i : tie.Need-sub-i Inv-loop μ-loop
-sub-i c = omega arith
-
-add-wide : tie.Need-add-wide Inv-loop μ-loop
-add-wide c = omega arith
-
-shared-slice-read-wide : tie.Need-shared-slice-read-wide Inv-loop μ-loop
-shared-slice-read-wide c = omega arith
-
-wide-requires : tie.Need-wide-requires Inv-loop μ-loop
-wide-requires c κs = tt
-
 returns : tie.Need-returns Inv-loop μ-loop
 returns c =
     let l = c .before .before .before .before in
     sym (l .loop .inv .1 ∙ below-hit (test l) (l .loop .i) (omega arith) (above (now (entry l .args .g)) (l .loop .i - 1) (entry l .pre .bodies) (c .before .wide .ensures .0) (c .if1 .taken)))
-
-loop-less : tie.Need-loop-less Inv-loop μ-loop
-loop-less c = omega arith
 
 loop-again : tie.Need-loop-again Inv-loop μ-loop
 loop-again c =
@@ -71,11 +56,11 @@ head-above-spec =
     Inv-loop
     μ-loop
     loop-holds
-    sub-i
-    add-wide
-    shared-slice-read-wide
-    wide-requires
+    (λ c. omega arith)
+    (λ c. omega arith)
+    (λ c. omega arith)
+    (λ c κs. tt)
     returns
-    loop-less
+    (λ c. omega arith)
     loop-again
     returns-2)

@@ -6,30 +6,18 @@ use Rattle.grammar.proofs.Acceptance.{range-low, range-high, range-word
 use Rattle.grammar.proofs.checks.out_of_range.Statement.{statement}
 use Rattle.grammar.proofs.checks.out_of_range.Tie as tie
 
-shared-slice-read-n : tie.Need-shared-slice-read-n
-shared-slice-read-n c = search needs
-
 returns : tie.Need-returns
 returns c = range-low _ (c .if1 .taken)
 
 returns-2 : tie.Need-returns-2
 returns-2 c = range-high _ (c .if2 .taken)
 
-shared-slice-read-if3 : tie.Need-shared-slice-read-if3
-shared-slice-read-if3 c = search needs
-
 returns-3 : tie.Need-returns-3
 returns-3 c = range-words _ (omega arith) (omega arith) (c .if3 .taken)
-
-shared-slice-read-if4 : tie.Need-shared-slice-read-if4
-shared-slice-read-if4 c = search needs
 
 returns-4 : tie.Need-returns-4
 returns-4 c =
     range-rules _ (omega arith) (omega arith) (omega arith) (omega (arith, c .before .shared-slice-known3 .given 1)) (c .if4 .taken)
-
-shared-slice-read-if5 : tie.Need-shared-slice-read-if5
-shared-slice-read-if5 c = search needs
 
 returns-5 : tie.Need-returns-5
 returns-5 c =
@@ -53,13 +41,13 @@ pub out-of-range-spec : {M : Type 1} → statement M
 out-of-range-spec =
     tie.close
     (tie.spec
-    shared-slice-read-n
+    (λ c. search needs)
     returns
     returns-2
-    shared-slice-read-if3
+    (λ c. search needs)
     returns-3
-    shared-slice-read-if4
+    (λ c. search needs)
     returns-4
-    shared-slice-read-if5
+    (λ c. search needs)
     returns-5
     returns-6)

@@ -1,5 +1,5 @@
 -- `checks::read` meets its contract: each test that fails moves the refusal on to the next line, and one that succeeds is the refusal.
--- Past the last one the index is there.
+-- Past the last one the rules are in the table.
 -- Assumes nothing.
 use mathlib.Core.Path.{_≡_, refl, sym, _∙_}
 use mathlib.Core.Bool.{false}
@@ -16,7 +16,10 @@ use Rattle.grammar.specs.Layout.{rules}
 use Rattle.grammar.specs.Chains.{met}
 use Rattle.grammar.specs.Refusals.{badRule, nextAbove, metTwice}
 use Rattle.grammar.specs.Checks.{Sized, Readable}
+use Rattle.grammar.specs.Entering.{Kept}
 use Rattle.grammar.proofs.Acceptance.{Ranges, range-facts}
+use Rattle.grammar.proofs.Entering.{kept-none}
+use Rattle.grammar.proofs.Holding.{sorted-holds}
 use Rattle.grammar.proofs.Outcome.{Passed, refused, accepted, short, long, size-wrong, size-right, link-head, link-next, links-right, missed, all-met}
 use Rattle.grammar.proofs.checks.read.Statement.{statement}
 use Rattle.grammar.proofs.checks.read.Tie as tie
@@ -42,7 +45,7 @@ abbrev e5 : tie.Else6 → tie.Else5
 e5 c = c .before .before
 
 abbrev e6 : tie.Else7 → tie.Else6
-e6 c = c .before .before .before
+e6 c = c .before .before .before .before
 
 abbrev e7 : tie.Else8 → tie.Else7
 e7 c = c .before .before .before .before .before
@@ -58,6 +61,13 @@ abbrev bytes6 : tie.Else6 → List ℕ
 bytes6 c = bytes3 (e3 (e4 (e5 c)))
 
 -- ---- what each of them has shown
+
+-- the table is as it was
+unread : (c : tie.Else1) → Kept (now (c .before .before .args .rules)) (now (c .before .before .args .rules))
+unread c = kept-none (c .before .before .pre)
+
+unread3 : (c : tie.Else3) → Kept (now (e1 (e2 c) .before .before .args .rules)) (now (e1 (e2 c) .before .before .args .rules))
+unread3 c = unread (e1 (e2 c))
 
 past1 : (c : tie.Else1) → Passed (bytes c) 1
 past1 c = row-passed 1 _ (long _ (c .if1 .left))
@@ -105,142 +115,119 @@ past5 c =
     past4 (e4 (e5 c))
     ∙ row-passed 5 _ (links-right _ (nexts-low (e5 c)) (sym (c .before .head-above .ensures) ∙ c .if6 .left))
 
+abbrev built : (c : tie.Else7) → tie.After-build
+built c = c .before .before
+
 once : (c : tie.Else7) → metTwice (bytes6 (e6 c)) ≡ false
-once c = sym (c .before .build .ensures .says) ∙ c .if7 .left
+once c = sym (c .before .before .build .ensures .says) ∙ c .if7 .left
 
 past6 : (c : tie.Else7) → Passed (bytes6 (e6 c)) 6
 past6 c = past5 (e6 c) ∙ row-passed 6 _ (once c)
 
 -- as many rules are entered as are met
-entered : (c : tie.After-begins2) → c .before .before .begins .result + c .begins2 .result ≡ length (met (bytes6 (e6 (c .before .before .before .before))))
+entered : (c : tie.After-pairs-from) → c .before .before .words-from .result + c .pairs-from .result ≡ length (met (bytes6 (e6 (c .before .before .before .before))))
 entered c =
     let l = c .before .before .before .before in
     let n = sized (e3 (e4 (e5 (e6 l)))) .heads in
-    omega (arith, l .before .build .ensures .many (l .if7 .left), rw n at (c .before .before .begins .ensures .0), rw n at (c .begins2 .ensures .0))
+    omega (arith, l .before .before .build .ensures .many (l .if7 .left), rw n at (c .before .before .words-from .ensures .0), rw n at (c .pairs-from .ensures .0))
 
 past7 : (c : tie.Else8) → Passed (bytes6 (e6 (e7 c))) 7
 past7 c = past6 (e7 c) ∙ row-passed 7 _ (all-met _ (once (e7 c)) (omega (arith, entered (c .before), c .if8 .left, sized (e3 (e4 (e5 (e6 (e7 c))))) .bodies)))
 
 returns : tie.Need-returns
-returns c = refused _ _ _ (row-applies 1 _ (short _ (c .if1 .taken))) (lit< tt)
-
-out-of-range-requires : tie.Need-out-of-range-requires
-out-of-range-requires c κs = search needs
+returns c = refused (kept-none (c .before .before .pre)) _ (row-applies 1 _ (short _ (c .if1 .taken))) (lit< tt)
 
 returns-2 : tie.Need-returns-2
-returns-2 c = refused _ _ _ (past1 (c .before .before) ∙ row-applies 2 _ (sym (c .before .out-of-range .ensures) ∙ c .if2 .taken)) (lit< tt)
-
-shared-slice-read-wide : tie.Need-shared-slice-read-wide
-shared-slice-read-wide c = search needs
-
-wide-requires : tie.Need-wide-requires
-wide-requires c κs = search needs
-
-shared-slice-read-wide-2 : tie.Need-shared-slice-read-wide-2
-shared-slice-read-wide-2 c = search needs
-
-wide-requires-2 : tie.Need-wide-requires-2
-wide-requires-2 c κs = search needs
-
-add-if3 : tie.Need-add-if3
-add-if3 c = search needs
-
-mul-if3 : tie.Need-mul-if3
-mul-if3 c = search needs
-
-add-if3-2 : tie.Need-add-if3-2
-add-if3-2 c = search needs
+returns-2 c =
+    let e = c .before .before in
+    refused (unread e) _ (past1 e ∙ row-applies 2 _ (sym (c .before .out-of-range .ensures) ∙ c .if2 .taken)) (lit< tt)
 
 returns-3 : tie.Need-returns-3
-returns-3 c = refused _ _ _ (past2 (c .before .before .before .before .before) ∙ row-applies 3 _ (size-wrong _ (λ e. omega arith))) (lit< tt)
-
-faults-in-requires : tie.Need-faults-in-requires
-faults-in-requires c κs = sized c
+returns-3 c =
+    let e = c .before .before .before .before .before in
+    refused (unread (e1 e)) _ (past2 e ∙ row-applies 3 _ (size-wrong _ (λ e. omega arith))) (lit< tt)
 
 returns-4 : tie.Need-returns-4
-returns-4 c = refused _ _ _ (past3 (c .before .before) ∙ row-applies 4 _ (sym (c .before .faults-in .ensures .bad) ∙ c .if4 .taken)) (lit< tt)
+returns-4 c =
+    let e = c .before .before in
+    refused (unread3 e) _ (past3 e ∙ row-applies 4 _ (sym (c .before .faults-in .ensures .bad) ∙ c .if4 .taken)) (lit< tt)
 
 returns-5 : tie.Need-returns-5
 returns-5 c =
     let e = c .before in
-    refused _ _ _ (past4 e ∙ row-applies 5 _ (link-next _ (sym (e .before .faults-in .ensures .far (e .if4 .left)) ∙ c .if5 .taken))) (lit< tt)
-
-head-above-requires : tie.Need-head-above-requires
-head-above-requires c κs = sized (e3 (e4 c))
+    refused (unread3 (e3 e)) _ (past4 e ∙ row-applies 5 _ (link-next _ (sym (e .before .faults-in .ensures .far (e .if4 .left)) ∙ c .if5 .taken))) (lit< tt)
 
 returns-6 : tie.Need-returns-6
 returns-6 c =
     let e = e4 (c .before .before) in
-    refused _ _ _ (past4 e ∙ row-applies 5 _ (link-head _ (sym (c .before .head-above .ensures) ∙ c .if6 .taken))) (lit< tt)
-
-build-requires : tie.Need-build-requires
-build-requires c κs = let e = e4 (e5 (c .before)) in (readable e, e1 (e2 (e3 e)) .before .before .pre)
+    refused (unread3 (e3 e)) _ (past4 e ∙ row-applies 5 _ (link-head _ (sym (c .before .head-above .ensures) ∙ c .if6 .taken))) (lit< tt)
 
 returns-7 : tie.Need-returns-7
-returns-7 c = refused _ _ _ (past5 (c .before .before .before) ∙ row-applies 6 _ (sym (c .before .build .ensures .says) ∙ c .if7 .taken)) (lit< tt)
+returns-7 c =
+    let b = c .before .before in
+    refused (b .build .ensures .kept) _ (past5 (b .before .before) ∙ row-applies 6 _ (sym (b .build .ensures .says) ∙ c .if7 .taken)) (lit< tt)
 
-begins-requires : tie.Need-begins-requires
-begins-requires c κs = sized (e3 (e4 (e5 (e6 (c .before))))) .few
+words-from-requires : tie.Need-words-from-requires
+words-from-requires c κs = let l = c .before in (built l .build .ensures .sorted (l .if7 .left) .roomy .long, sized (e3 (e4 (e5 (e6 l)))) .few)
 
-begins-requires-2 : tie.Need-begins-requires-2
-begins-requires-2 c κs = sized (e3 (e4 (e5 (e6 (c .before .before .before))))) .few
-
-add-if8 : tie.Need-add-if8
-add-if8 c = search needs
+pairs-from-requires : tie.Need-pairs-from-requires
+pairs-from-requires c κs = let l = c .before .before .before in (built l .build .ensures .sorted (l .if7 .left) .roomy .long, sized (e3 (e4 (e5 (e6 l)))) .few)
 
 returns-8 : tie.Need-returns-8
 returns-8 c =
     let l = c .before .before .before .before .before in
-    refused _ _ _ (past6 l ∙ row-applies 7 _ (missed _ (once l) (omega (arith, entered (c .before), c .if8 .taken, sized (e3 (e4 (e5 (e6 l)))) .bodies)))) (lit< tt)
+    refused (built l .build .ensures .kept) _
+    (past6 l ∙ row-applies 7 _ (missed _ (once l) (omega (arith, entered (c .before), c .if8 .taken, sized (e3 (e4 (e5 (e6 l)))) .bodies))))
+    (lit< tt)
 
 some-twins-requires : tie.Need-some-twins-requires
-some-twins-requires c κs =
-    let l = e7 (c .before) in
-    (readable (e4 (e5 (e6 l))), l .before .build .ensures .indexed (l .if7 .left))
+some-twins-requires c κs = let l = e7 (c .before) in (readable (e4 (e5 (e6 l))), built l .build .ensures .sorted (l .if7 .left))
 
 returns-9 : tie.Need-returns-9
-returns-9 c = refused _ _ _ (past7 (c .before .before .before) ∙ row-applies 8 _ (sym (c .before .some-twins .ensures) ∙ c .if9 .taken)) (lit< tt)
-
-shared-slice-read-t12 : tie.Need-shared-slice-read-t12
-shared-slice-read-t12 c = search needs
-
-shared-slice-read-t33 : tie.Need-shared-slice-read-t33
-shared-slice-read-t33 c = search needs
+returns-9 c =
+    let e = c .before .before .before in
+    refused (built (e7 e) .build .ensures .kept) _ (past7 e ∙ row-applies 8 _ (sym (c .before .some-twins .ensures) ∙ c .if9 .taken)) (lit< tt)
 
 returns-10 : tie.Need-returns-10
 returns-10 c =
     let e = c .before .before in
     let l = e7 (e8 e) in
-    accepted _ _ (past7 (e8 e) ∙ row-passed 8 _ (sym (e .before .some-twins .ensures) ∙ e .if9 .left)) (l .before .build .ensures .indexed (l .if7 .left))
+    let apart = sym (e .before .some-twins .ensures) ∙ e .if9 .left in
+    let held = sorted-holds (readable (e4 (e5 (e6 l)))) (built l .build .ensures .sorted (l .if7 .left)) (small (e2 (e3 (e4 (e5 (e6 l))))) .start-inside) apart in
+    accepted (built l .build .ensures .kept) (past7 (e8 e) ∙ row-passed 8 _ apart) held
 
 pub read-spec : {M : Type 1} → statement M
 read-spec =
     tie.close
     (tie.spec
     returns
-    out-of-range-requires
+    (λ c κs. search needs)
     returns-2
-    shared-slice-read-wide
-    wide-requires
-    shared-slice-read-wide-2
-    wide-requires-2
-    add-if3
-    mul-if3
-    add-if3-2
+    (λ c. search needs)
+    (λ c κs. search needs)
+    (λ c. search needs)
+    (λ c κs. search needs)
+    (λ c. search needs)
+    (λ c. search needs)
+    (λ c. search needs)
     returns-3
-    faults-in-requires
+    (λ c κs. sized c)
     returns-4
     returns-5
-    head-above-requires
+    (λ c κs. sized (e3 (e4 c)))
     returns-6
-    build-requires
+    (λ c κs. let e = e4 (e5 (c .before)) in (readable e, e1 (e2 (e3 e)) .before .before .pre))
+    (λ c. c .before .before .build .ensures .kept .long)
     returns-7
-    begins-requires
-    begins-requires-2
-    add-if8
+    words-from-requires
+    pairs-from-requires
+    (λ c. search needs)
+    (λ c. built (c .before .before .before .before .before) .build .ensures .kept .long)
     returns-8
     some-twins-requires
+    (λ c. built (e7 (c .before .before .before)) .build .ensures .kept .long)
     returns-9
-    shared-slice-read-t12
-    shared-slice-read-t33
+    (λ c. search needs)
+    (λ c. search needs)
+    (λ c. built (e7 (e8 (c .before .before))) .build .ensures .kept .long)
     returns-10)

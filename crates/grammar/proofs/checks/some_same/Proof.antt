@@ -8,10 +8,10 @@ use Rattle.grammar.proofs.checks.some_same.Statement.{statement}
 use Rattle.grammar.proofs.checks.some_same.Tie as tie
 
 abbrev Inv-loop : tie.InvT-loop
-Inv-loop index pairs a stamp stamps₀ to i₀ stamps i = Scanning pairs index a stamp stamps i
+Inv-loop rules pairs a stamp stamps₀ to i₀ stamps i = Scanning pairs rules a stamp stamps i
 
 abbrev μ-loop : tie.MeasureT-loop
-μ-loop index pairs a stamp stamps₀ to i₀ stamps i = to - i
+μ-loop rules pairs a stamp stamps₀ to i₀ stamps i = to - i
 
 -- where the first ends are read, from the loop's head; the loop's head, from where an entry's number is known, and that number
 abbrev ends : tie.At-loop Inv-loop μ-loop → tie.After-begins Inv-loop μ-loop
@@ -25,38 +25,14 @@ low c =
     let l = head c in
     scan-low (l .loop .inv) (ends l .begins .ensures .0) (c .before .loop-test .taken) (c .entry .ensures) (ends l .before .pre)
 
-add-begins : tie.Need-add-begins Inv-loop μ-loop
-add-begins c = omega (arith, c .pre .inside)
-
-begins-requires : tie.Need-begins-requires Inv-loop μ-loop
-begins-requires c κs = omega (arith, c .pre .inside)
-
-begins-requires-2 : tie.Need-begins-requires-2 Inv-loop μ-loop
-begins-requires-2 c κs = omega (arith, c .before .pre .inside)
-
 loop-holds : tie.Need-loop-holds Inv-loop μ-loop
 loop-holds c = scan-start (c .before .before .pre) (c .begins2 .ensures .0)
-
-entry-requires : tie.Need-entry-requires Inv-loop μ-loop
-entry-requires c κs = omega (arith, ends (c .before) .begins .ensures .1)
-
-element-copy-out-if1 : tie.Need-element-copy-out-if1 Inv-loop μ-loop
-element-copy-out-if1 c = low c
 
 returns : tie.Need-returns Inv-loop μ-loop
 returns c =
     let e = c .before .before in
     let l = head e in
     scan-hit (l .loop .inv) (ends l .begins .ensures .0) (e .before .loop-test .taken) (e .entry .ensures) (low e) (c .if1 .taken)
-
-element-write-stamps : tie.Need-element-write-stamps Inv-loop μ-loop
-element-write-stamps c = low (c .before .before)
-
-add-i : tie.Need-add-i Inv-loop μ-loop
-add-i c = omega arith
-
-loop-less : tie.Need-loop-less Inv-loop μ-loop
-loop-less c = omega arith
 
 loop-again : tie.Need-loop-again Inv-loop μ-loop
 loop-again c =
@@ -73,15 +49,15 @@ some-same-spec =
     (tie.spec
     Inv-loop
     μ-loop
-    add-begins
-    begins-requires
-    begins-requires-2
+    (λ c. omega (arith, c .pre .inside))
+    (λ c κs. (c .pre .table, omega (arith, c .pre .inside)))
+    (λ c κs. (c .before .pre .table, omega (arith, c .before .pre .inside)))
     loop-holds
-    entry-requires
-    element-copy-out-if1
+    (λ c κs. let e = ends (c .before) in (e .before .pre .table, omega (arith, e .begins .ensures .1)))
+    (λ c. low c)
     returns
-    element-write-stamps
-    add-i
-    loop-less
+    (λ c. low (c .before .before))
+    (λ c. omega arith)
+    (λ c. omega arith)
     loop-again
     returns-2)

@@ -9,10 +9,10 @@ use Rattle.grammar.proofs.checks.some_twins.Statement.{statement}
 use Rattle.grammar.proofs.checks.some_twins.Tie as tie
 
 abbrev Inv-loop : tie.InvT-loop
-Inv-loop g index stamps₀ stamp₀ a₀ stamps stamp a = Rounds g stamps stamp a
+Inv-loop g rules stamps₀ stamp₀ a₀ stamps stamp a = Rounds g stamps stamp a
 
 abbrev μ-loop : tie.MeasureT-loop
-μ-loop g index stamps₀ stamp₀ a₀ stamps stamp a = a
+μ-loop g rules stamps₀ stamp₀ a₀ stamps stamp a = a
 
 -- the function's entry, from within the loop; within the loop, from where the words are scanned, and from where the pair rules are
 abbrev entry : tie.In-loop Inv-loop μ-loop → tie.Start Inv-loop μ-loop
@@ -24,17 +24,8 @@ first c = c .before .before
 abbrev second : tie.After-some-same2 Inv-loop μ-loop → tie.After-some-same Inv-loop μ-loop
 second c = c .before .before .before
 
-shared-slice-read-wide : tie.Need-shared-slice-read-wide Inv-loop μ-loop
-shared-slice-read-wide c = omega (arith, c .before .before .pre .0 .sized .size)
-
-wide-requires : tie.Need-wide-requires Inv-loop μ-loop
-wide-requires c κs = search needs
-
 loop-holds : tie.Need-loop-holds Inv-loop μ-loop
 loop-holds c = rounds-start _ (c .wide .ensures .0)
-
-sub-a : tie.Need-sub-a Inv-loop μ-loop
-sub-a c = omega arith
 
 some-same-requires : tie.Need-some-same-requires Inv-loop μ-loop
 some-same-requires c κs =
@@ -46,9 +37,6 @@ returns c =
     let l = first (c .before) in
     round-hit (entry l .pre .0) (entry l .pre .1) (l .before .loop .inv) (l .loop-test .taken) (c .before .some-same .ensures) (c .if1 .taken)
 
-add-some-same : tie.Need-add-some-same Inv-loop μ-loop
-add-some-same c = let l = first (c .before) in omega (arith, l .before .loop .inv .turn, entry l .pre .0 .sized .few)
-
 some-same-requires-2 : tie.Need-some-same-requires-2 Inv-loop μ-loop
 some-same-requires-2 c κs =
     let s = c .before .before in
@@ -59,12 +47,6 @@ returns-2 : tie.Need-returns-2 Inv-loop μ-loop
 returns-2 c =
     let l = first (second (c .before)) in
     round-hit (entry l .pre .0) (entry l .pre .1) (l .before .loop .inv) (l .loop-test .taken) (c .before .some-same2 .ensures) (c .if2 .taken)
-
-add-stamp : tie.Need-add-stamp Inv-loop μ-loop
-add-stamp c = let l = first (second (c .before)) in omega (arith, l .before .loop .inv .turn, entry l .pre .0 .sized .few)
-
-loop-less : tie.Need-loop-less Inv-loop μ-loop
-loop-less c = omega arith
 
 loop-again : tie.Need-loop-again Inv-loop μ-loop
 loop-again c =
@@ -83,16 +65,16 @@ some-twins-spec =
     (tie.spec
     Inv-loop
     μ-loop
-    shared-slice-read-wide
-    wide-requires
+    (λ c. omega (arith, c .before .before .pre .0 .sized .size))
+    (λ c κs. search needs)
     loop-holds
-    sub-a
+    (λ c. omega arith)
     some-same-requires
     returns
-    add-some-same
+    (λ c. let l = first (c .before) in omega (arith, l .before .loop .inv .turn, entry l .pre .0 .sized .few))
     some-same-requires-2
     returns-2
-    add-stamp
-    loop-less
+    (λ c. let l = first (second (c .before)) in omega (arith, l .before .loop .inv .turn, entry l .pre .0 .sized .few))
+    (λ c. omega arith)
     loop-again
     returns-3)

@@ -1,50 +1,139 @@
--- `find` meets its contract: a word of W or more has no derivation.
+-- `find` meets its contract: what the whole weighs by the sentence's letters is how many derivations it has, and where there is one the walk
+-- finds its place by the counts.
 -- Assumes nothing.
-use mathlib.Core.Path.{_≡_, sym, ap, _∙_}
-use Prim.Native.Nat.{ℕ}
-use denote.Ref.{now}
-use lib.Dec.{leb}
-use Rattle.lists.specs.Searched.{someOf}
-use Rattle.grammar.specs.Layout.{words}
-use Rattle.ranking.proofs.Same.{foreign-none}
+use mathlib.Core.Path.{_≡_, sym, _∙_}
+use mathlib.Core.List.{List}
+use Prim.Native.Nat.{ℕ, zero, suc, _≤_, _<_}
+use native.Mathlib.Omega.{arith}
 use borrow.Author.Needs.{needs}
+use denote.Ref.{now}
+use lib.ListN.{length, replicate}
+use Rattle.walk.proofs.Joined.{left-length}
+use Rattle.ranking.specs.Inside.{readingsIn}
+use Rattle.ranking.proofs.Finding.{fill-asks, ready-after, count-asks, count-is, find-sought, found-number}
 use Rattle.ranking.proofs.rank.find.Statement.{statement}
 use Rattle.ranking.proofs.rank.find.Tie as tie
 
-abbrev entry : tie.After-some-foreign → tie.Start
-entry c = c .before .before .before .before .before .before
+abbrev entry : tie.After-spell → tie.Start
+entry c = c .before .before .before
 
-foreign-is : (c : tie.After-some-foreign) → c .some-foreign .result ≡ someOf (leb (words (now (entry c .args .g)))) (now (entry c .args .sentence))
-foreign-is c = c .some-foreign .ensures ∙ ap (λ (w : ℕ). someOf (leb w) (now (entry c .args .sentence))) (c .before .words .ensures)
+abbrev spelt : tie.After-fill → tie.After-spell
+spelt c = c .before .before .before
 
-words-requires : tie.Need-words-requires
-words-requires c κs = search needs
+abbrev filled : tie.After-start → tie.After-fill
+filled c = c .before .before
 
-some-foreign-requires : tie.Need-some-foreign-requires
-some-foreign-requires c κs = search needs
+abbrev started : tie.After-total → tie.After-start
+started c = c .before .before .before
 
-returns : tie.Need-returns
-returns c =
-    let a = c .before in
-    let p = entry a in
-    record { says = foreign-none (now (p .args .g)) (now (p .args .sentence)) (p .pre .ready .tabled .accepted) (sym (foreign-is a) ∙ c .if1 .taken) }
+abbrev rules : tie.After-total → List (List ℕ)
+rules c = now (entry (spelt (filled (started c))) .args .rules)
 
-find-native-requires : tie.Need-find-native-requires
-find-native-requires c κs = let e = c .before in (entry (e .before) .pre, sym (foreign-is (e .before)) ∙ e .if1 .left)
+abbrev words : tie.After-total → List ℕ
+words c = now (entry (spelt (filled (started c))) .args .sentence)
+
+counted : (c : tie.After-total) → c .total .result ≡ readingsIn (rules c) (words c)
+counted c =
+    let t = started c in
+    let f = filled t in
+    let p = spelt f in
+    count-is (entry p .pre) (p .spell .ensures) (f .fill .ensures) _ (t .start .ensures .0) _ (c .total .ensures)
+
+-- past both tests there is one derivation
+one-left : (c : tie.Else2) → let a = c .before .before in readingsIn (rules a) (words a) ≡ 1
+one-left c = one _ (counted (c .before .before)) (c .before .if1 .left) (c .if2 .left)
+  where
+    one : (n : ℕ) {x : ℕ} → x ≡ n → (x ≡ 0 → ⊥) → x < 2 → n ≡ 1
+    one zero e h l = absurd (h e)
+    one (suc n) e h l = omega arith
+
+spell-requires : tie.Need-spell-requires
+spell-requires c κs = let p = c .before .before .pre .ready in (p .blank .counted .short, p .long, p .wide)
+
+fill-requires : tie.Need-fill-requires
+fill-requires c κs = let p = c .before .before in fill-asks (entry p .pre) (p .spell .ensures)
+
+start-requires : tie.Need-start-requires
+start-requires c κs = entry (spelt (c .before)) .pre .ready .blank .counted .table .long
+
+total-requires : tie.Need-total-requires
+total-requires c κs =
+    let t = c .before .before in
+    let f = filled t in
+    let p = spelt f in
+    count-asks (entry p .pre) (p .spell .ensures) (f .fill .ensures) _ (t .start .ensures .0)
 
 same-length : tie.Need-same-length
 same-length c = search needs
 
+returns : tie.Need-returns
+returns c =
+    let a = c .before in
+    let f = filled (started a) in
+    let p = spelt f in
+    record { says = sym (counted a) ∙ c .if1 .taken; ready = ready-after (entry p .pre) (p .spell .ensures) (f .fill .ensures) }
+
+same-length-2 : tie.Need-same-length-2
+same-length-2 c = search needs
+
 returns-2 : tie.Need-returns-2
-returns-2 c = search needs
+returns-2 c =
+    let a = c .before .before in
+    let f = filled (started a) in
+    let p = spelt f in
+    record { says = omega (arith, counted a, c .if2 .taken); ready = ready-after (entry p .pre) (p .spell .ensures) (f .fill .ensures) }
+
+sub-choose : tie.Need-sub-choose
+sub-choose c = search needs
+
+part-words-start : tie.Need-part-words-start
+part-words-start c = search needs
+
+part-words-end : tie.Need-part-words-end
+part-words-end c = let a = c .before .before .before .before in entry (spelt (filled (started a))) .pre .ready .blank .counted .short
+
+choose-requires : tie.Need-choose-requires
+choose-requires c κs =
+    let e = c .before .before .before in
+    let a = e .before .before in
+    let t = started a in
+    let f = filled t in
+    let p = spelt f in (
+      find-sought (entry p .pre) (p .spell .ensures) (f .fill .ensures) _ (t .start .ensures .0) (omega (arith, one-left e)),
+      left-length (length (words a)) (replicate 16 zero) (entry p .pre .ready .blank .counted .short),
+    )
+
+same-length-3 : tie.Need-same-length-3
+same-length-3 c = search needs
+
+returns-3 : tie.Need-returns-3
+returns-3 c =
+    let k = c .before in
+    let e = k .before .before .before .before in
+    let a = e .before .before in
+    let t = started a in
+    let f = filled t in
+    let p = spelt f in
+    record {
+      says = (one-left e, found-number (entry p .pre) (p .spell .ensures) (f .fill .ensures) _ (t .start .ensures .0) (k .choose .ensures));
+      ready = ready-after (entry p .pre) (p .spell .ensures) (f .fill .ensures);
+    }
 
 pub find-spec : {M : Type 1} → statement M
 find-spec =
     tie.close
     (tie.spec
-    words-requires
-    some-foreign-requires
-    returns
-    find-native-requires
+    spell-requires
+    fill-requires
+    start-requires
+    total-requires
     same-length
-    returns-2)
+    returns
+    same-length-2
+    returns-2
+    sub-choose
+    part-words-start
+    part-words-end
+    choose-requires
+    same-length-3
+    returns-3)

@@ -1,63 +1,72 @@
--- `number` meets its contract, case by case of what is found.
+-- `number` meets its contract: where preparing is refused so is the call, and with the tables at hand `number_by` answers.
 -- Assumes nothing.
-use Rattle.ranking.proofs.Answering.{rank-none, rank-several, rank-found}
+use mathlib.Core.Path.{_∙_}
+use native.Mathlib.Omega.{arith}
 use borrow.Author.Needs.{needs}
+use Rattle.lists.proofs.Tables.{wide-made, made-entry}
+use Rattle.ranking.proofs.Answering.{prepared-none, prepared-refused, rank-unprepared, rank-tabled}
+use Rattle.ranking.proofs.Finding.{prepared-sought}
 use Rattle.ranking.proofs.rank.number.Statement.{statement}
 use Rattle.ranking.proofs.rank.number.Tie as tie
 
-find-requires : tie.Need-find-requires
-find-requires c κs = search needs
+abbrev start : tie.After-prepare → tie.Start
+start c = c .before .before .before .before .before
+
+abbrev prepared : tie.After-enum-told → tie.After-prepare
+prepared c = c .before .before .before .before
+
+slice-aggregate-prepare : tie.Need-slice-aggregate-prepare
+slice-aggregate-prepare c = search needs
+
+prepare-requires : tie.Need-prepare-requires
+prepare-requires c κs =
+    let p = c .before .before .before .before .pre in
+    record { rules-room = record { long = omega arith; wide = wide-made 13 256 0 }; long = omega (arith, p .counts); wide = p .wide }
+
+enum-known-p : tie.Need-enum-known-p
+enum-known-p c = search needs
 
 enum-told : tie.Need-enum-told
 enum-told c = search needs
 
-enum-told-2 : tie.Need-enum-told-2
-enum-told-2 c = search needs
+slice-aggregate-number-by : tie.Need-slice-aggregate-number-by
+slice-aggregate-number-by c = search needs
 
-enum-known-f : tie.Need-enum-known-f
-enum-known-f c = search needs
-
-total-requires : tie.Need-total-requires
-total-requires c κs = search needs
+number-by-requires : tie.Need-number-by-requires
+number-by-requires c κs =
+    let e = c .before .before in
+    let p = prepared e in
+    prepared-sought (made-entry 13 256) (omega arith) (start p .pre) (p .prepare .ensures) (e .enum-told .given .1)
 
 same-length : tie.Need-same-length
 same-length c = search needs
 
 returns : tie.Need-returns
 returns c =
-    let s = c .before .before .before .before .before .before .before .before .before .before in
-    rank-none _ _ (s .pre .ready .tabled) ((rw (c .enum-told .given .1) at (c .before .before .before .before .find .ensures)) .says)
+    let p = c .before in
+    rank-unprepared _ _ (p .p .given .0 .0) (prepared-refused (p .before .before .before .before .prepare .ensures) _ (p .p .given .1))
 
 same-length-2 : tie.Need-same-length-2
 same-length-2 c = search needs
 
 returns-2 : tie.Need-returns-2
 returns-2 c =
-    let s = c .before .before .before .before .before .before .before .before .before .before in
-    rank-several _ _ (s .pre .ready .tabled) ((rw (c .enum-told2 .given .1) at (c .before .before .before .before .find .ensures)) .says)
-
-same-length-3 : tie.Need-same-length-3
-same-length-3 c = search needs
-
-returns-3 : tie.Need-returns-3
-returns-3 c =
-    let f = c .before .before in
-    let s = f .before .before .before .before .before .before .before .before .before .before in
-    let found = (rw (f .f .given .1) at (f .before .before .before .before .find .ensures)) .says in
-    rank-found _ _ (s .pre .ready .tabled) (found .0) _ _ (found .1) (c .total .ensures)
+    let k = c .before .before in
+    let e = k .before .before .before in
+    let q = prepared e .prepare .ensures in
+    k .number-by .ensures ∙ rank-tabled _ _ (prepared-none q (e .enum-told .given .1)) (q .ready (e .enum-told .given .1) .holds)
 
 pub number-spec : {M : Type 1} → statement M
 number-spec =
     tie.close
     (tie.spec
-    find-requires
+    slice-aggregate-prepare
+    prepare-requires
+    enum-known-p
     enum-told
-    enum-told-2
-    enum-known-f
-    total-requires
+    slice-aggregate-number-by
+    number-by-requires
     same-length
     returns
     same-length-2
-    returns-2
-    same-length-3
-    returns-3)
+    returns-2)

@@ -1,49 +1,100 @@
--- `number_by` meets its contract: the plan is made in a table of zeros, and the rows get the room that the sentence's length asks for.
+-- `number_by` meets its contract, case by case of what is found; linking keeps what the rules answer.
 -- Assumes nothing.
-use lib.ListN.{length-replicate}
-use Prim.Native.Nat.{ℕ}
-use Rattle.lists.proofs.Places.{getD-same}
+use mathlib.Core.Path.{refl, _∙_}
+use denote.Ref.{now}
 use borrow.Author.Needs.{needs}
+use Rattle.lists.proofs.Tables.{wide-made}
+use Rattle.charts.proofs.Mapping.{plain-map}
+use Rattle.ranking.proofs.Answering.{rank-none, rank-several, rank-found}
+use Rattle.ranking.proofs.Finding.{rank-kept, found-case}
 use Rattle.ranking.proofs.rank.number_by.Statement.{statement}
 use Rattle.ranking.proofs.rank.number_by.Tie as tie
 
-slice-aggregate-build : tie.Need-slice-aggregate-build
-slice-aggregate-build c = search needs
+abbrev start : tie.After-ready → tie.Start
+start c = c .before .before .before .before .before .before
 
-build-requires : tie.Need-build-requires
-build-requires c κs = (c .before .before .before .pre, length-replicate {A = ℕ} 1792 0, λ i. getD-same {X = ℕ} 1792 i 0)
+abbrev readied : tie.After-find → tie.After-ready
+readied c = c .before .before .before .before .before .before .before
 
-slice-aggregate-number-short : tie.Need-slice-aggregate-number-short
-slice-aggregate-number-short c = search needs
+abbrev searched : tie.After-totals → tie.After-find
+searched c = c .before
 
-number-short-requires : tie.Need-number-short-requires
-number-short-requires c κs =
-    let s = c .before .before .before in
-    (record { tabled = s .before .before .before .before .pre; planned = s .build .ensures }, c .before .if1 .taken)
+ready-requires : tie.Need-ready-requires
+ready-requires c κs =
+    let p = c .before .before .before .before .before .pre in
+    record { blank = p .blank; unlinked = p .unlinked; plan-long = refl; map-long = refl; map-wide = wide-made 17 16 0 }
+
+find-requires : tie.Need-find-requires
+find-requires c κs = record { ready = c .before .before .before .before .before .before .ready .ensures .ready; everywhere = plain-map }
+
+enum-told : tie.Need-enum-told
+enum-told c = search needs
+
+enum-told-2 : tie.Need-enum-told-2
+enum-told-2 c = search needs
+
+enum-known-f : tie.Need-enum-known-f
+enum-known-f c = search needs
+
+total-requires : tie.Need-total-requires
+total-requires c κs =
+    let f = c .before .before .before .before .before in
+    searched f .find .ensures .ready .blank .counted
+
+same-length : tie.Need-same-length
+same-length c = search needs
+
+same-length-2 : tie.Need-same-length-2
+same-length-2 c = search needs
 
 returns : tie.Need-returns
-returns c = search needs
+returns c =
+    let f = searched (c .before .before) in
+    let r = readied f in
+    rank-none _ _ (found-case (f .find .ensures) (c .enum-told .given .1)) ∙ rank-kept _ _ _ (r .ready .ensures .kept)
 
-slice-aggregate-number-long : tie.Need-slice-aggregate-number-long
-slice-aggregate-number-long c = search needs
+same-length-3 : tie.Need-same-length-3
+same-length-3 c = search needs
 
-number-long-requires : tie.Need-number-long-requires
-number-long-requires c κs =
-    let s = c .before .before .before in
-    record { tabled = s .before .before .before .before .pre; planned = s .build .ensures }
+same-length-4 : tie.Need-same-length-4
+same-length-4 c = search needs
 
 returns-2 : tie.Need-returns-2
-returns-2 c = search needs
+returns-2 c =
+    let f = searched (c .before .before) in
+    let r = readied f in
+    rank-several _ _ (found-case (f .find .ensures) (c .enum-told2 .given .1)) ∙ rank-kept _ _ _ (r .ready .ensures .kept)
+
+same-length-5 : tie.Need-same-length-5
+same-length-5 c = search needs
+
+same-length-6 : tie.Need-same-length-6
+same-length-6 c = search needs
+
+returns-3 : tie.Need-returns-3
+returns-3 c =
+    let k = c .before .before .before .before in
+    let f = searched (k .before .before) in
+    let r = readied f in
+    let found = found-case (f .find .ensures) (k .f .given .1) in
+    rank-found _ _ (found .0) _ _ (found .1) (c .total .ensures) ∙ rank-kept _ _ _ (r .ready .ensures .kept)
 
 pub number-by-spec : {M : Type 1} → statement M
 number-by-spec =
     tie.close
     (tie.spec
-    slice-aggregate-build
-    build-requires
-    slice-aggregate-number-short
-    number-short-requires
+    ready-requires
+    find-requires
+    enum-told
+    enum-told-2
+    enum-known-f
+    total-requires
+    same-length
+    same-length-2
     returns
-    slice-aggregate-number-long
-    number-long-requires
-    returns-2)
+    same-length-3
+    same-length-4
+    returns-2
+    same-length-5
+    same-length-6
+    returns-3)

@@ -1,8 +1,8 @@
 -- `give` meets its contract: past its two tests the sentence is written.
 -- Assumes nothing.
 use native.Mathlib.Omega.{arith}
-use Rattle.ranking.proofs.Answering.{give-beyond, give-short, give-written}
 use borrow.Author.Needs.{needs}
+use Rattle.ranking.proofs.Answering.{give-beyond, give-short, give-written}
 use Rattle.ranking.proofs.unrank.give.Statement.{statement}
 use Rattle.ranking.proofs.unrank.give.Tie as tie
 
@@ -10,14 +10,12 @@ total-requires : tie.Need-total-requires
 total-requires c κs = search needs
 
 returns : tie.Need-returns
-returns c =
-    let a = c .before .before in
-    give-beyond _ _ _ _ (a .before .before .before .pre) (omega (arith, a .total .ensures, c .if1 .taken))
+returns c = let t = c .before .before in give-beyond _ _ _ _ (omega (arith, t .total .ensures, c .if1 .taken))
 
 returns-2 : tie.Need-returns-2
 returns-2 c =
-    let a = c .before .before .before in
-    give-short _ _ _ _ (a .before .before .before .pre) (omega (arith, a .total .ensures, c .before .if1 .left)) (c .if2 .taken)
+    let t = c .before .before .before in
+    give-short _ _ _ _ (omega (arith, t .total .ensures, c .before .if1 .left)) (c .if2 .taken)
 
 write-requires : tie.Need-write-requires
 write-requires c κs = search needs
@@ -29,8 +27,8 @@ returns-3 : tie.Need-returns-3
 returns-3 c =
     let w = c .before .before in
     let e = w .before .before in
-    let a = e .before .before .before in
-    give-written _ _ _ _ (a .before .before .before .pre) (omega (arith, a .total .ensures, e .before .if1 .left)) (e .if2 .left) _ _ (a .total .ensures) (w .write .ensures)
+    let t = e .before .before .before in
+    give-written _ _ _ _ (omega (arith, t .total .ensures, e .before .if1 .left)) (e .if2 .left) _ _ (t .total .ensures) (w .write .ensures)
 
 pub give-spec : {M : Type 1} → statement M
 give-spec =

@@ -1,12 +1,21 @@
 -- `unrank` meets its contract: where preparing is refused so is the call, and with the tables at hand `give` answers.
 -- Assumes nothing.
-use Rattle.ranking.proofs.Answering.{give-unprepared}
+use mathlib.Core.Path.{_∙_}
+use native.Mathlib.Omega.{arith}
 use borrow.Author.Needs.{needs}
+use Rattle.lists.proofs.Tables.{wide-made}
+use Rattle.ranking.proofs.Answering.{prepared-none, prepared-refused, give-unprepared, give-tabled}
 use Rattle.ranking.proofs.unrank.unrank.Statement.{statement}
 use Rattle.ranking.proofs.unrank.unrank.Tie as tie
 
+slice-aggregate-prepare : tie.Need-slice-aggregate-prepare
+slice-aggregate-prepare c = search needs
+
+slice-aggregate-prepare-2 : tie.Need-slice-aggregate-prepare-2
+slice-aggregate-prepare-2 c = search needs
+
 prepare-requires : tie.Need-prepare-requires
-prepare-requires c κs = search needs
+prepare-requires c κs = record { rules-room = record { long = omega arith; wide = wide-made 4 256 0 }; long = omega arith; wide = wide-made 17 32 0 }
 
 enum-known-p : tie.Need-enum-known-p
 enum-known-p c = search needs
@@ -14,19 +23,46 @@ enum-known-p c = search needs
 enum-told : tie.Need-enum-told
 enum-told c = search needs
 
+slice-aggregate-give : tie.Need-slice-aggregate-give
+slice-aggregate-give c = search needs
+
+slice-aggregate-give-2 : tie.Need-slice-aggregate-give-2
+slice-aggregate-give-2 c = search needs
+
+-- where preparing ended, from where its answer is known
+abbrev prepared : tie.After-enum-told → tie.After-prepare
+prepared c = c .before .before .before .before
+
 give-requires : tie.Need-give-requires
-give-requires c κs = c .before .before .before .before .before .prepare .ensures .ready (c .before .before .before .enum-told .given .1)
+give-requires c κs = let e = c .before .before .before in prepared e .prepare .ensures .ready (e .enum-told .given .1) .counted
 
 returns : tie.Need-returns
-returns c = give-unprepared _ _ _ _ _ (rw (c .before .p .given .1) at (c .before .before .before .prepare .ensures))
+returns c =
+    let p = c .before in
+    give-unprepared _ _ _ _ (p .p .given .0 .0) (prepared-refused (p .before .before .before .before .prepare .ensures) _ (p .p .given .1))
 
 same-length : tie.Need-same-length
 same-length c = search needs
 
 returns-2 : tie.Need-returns-2
-returns-2 c = search needs
+returns-2 c =
+    let g = c .before .before in
+    let e = g .before .before .before .before in
+    let q = prepared e .prepare .ensures in
+    g .give .ensures ∙ give-tabled _ _ _ _ (prepared-none q (e .enum-told .given .1)) (q .ready (e .enum-told .given .1) .holds)
 
 pub unrank-spec : {M : Type 1} → statement M
 unrank-spec =
     tie.close
-    (tie.spec prepare-requires enum-known-p enum-told give-requires returns same-length returns-2)
+    (tie.spec
+    slice-aggregate-prepare
+    slice-aggregate-prepare-2
+    prepare-requires
+    enum-known-p
+    enum-told
+    slice-aggregate-give
+    slice-aggregate-give-2
+    give-requires
+    returns
+    same-length
+    returns-2)

@@ -1,37 +1,50 @@
 -- `draw` meets its contract: where preparing is refused so is the call, and else the draw from what is prepared is the call's.
 -- Assumes nothing.
 use mathlib.Core.Path.{_∙_}
-use Rattle.sampling.specs.Preparing.{Drawable}
 use native.Mathlib.Omega.{arith}
-use denote.Ref.{now}
-use Rattle.sampling.proofs.Answering.{draw-refused, draw-sought, draw-skipping, prepared-case, sample-some}
 use borrow.Author.Needs.{needs}
+use denote.Ref.{now}
+use Rattle.sampling.specs.Question.{plainly}
+use Rattle.sampling.specs.Preparing.{Drawable}
+use Rattle.sampling.proofs.Answering.{draw-refused, draw-skipping, draw-sought, lent-made, prepared-case, sample-some}
 use Rattle.sampling.proofs.draw.draw.Statement.{statement}
 use Rattle.sampling.proofs.draw.draw.Tie as tie
-
-abbrev called : tie.After-p2 → tie.After-prepare
-called c = c .before .before .before
 
 abbrev start : tie.After-prepare → tie.Start
 start c = c .before .before .before .before .before .before .before
 
+abbrev called : tie.After-p2 → tie.After-prepare
+called c = c .before .before .before .before .before
+
 drawable : (c : tie.After-p2)
     → let s = start (called c) .args in
     let last = called c .prepare .last in
-    Drawable (now (s .g)) (now (s .h)) (s .n) (last .1 .1 .1 .0) (last .1 .1 .1 .1 .0) (last .1 .1 .1 .1 .1 .0) (c .p2 .given .0 .0)
+    Drawable (now (s .g)) (now (s .h)) (plainly (s .n)) (last .1 .1 .1 .0) (last .1 .1 .1 .1 .0) (last .1 .1 .1 .1 .1 .0) (c .p2 .given .0 .0)
 drawable c = prepared-case (called c .prepare .ensures) (c .p2 .given .1)
 
 slice-aggregate-prepare : tie.Need-slice-aggregate-prepare
 slice-aggregate-prepare c = search needs
 
+slice-aggregate-prepare-2 : tie.Need-slice-aggregate-prepare-2
+slice-aggregate-prepare-2 c = search needs
+
+slice-aggregate-prepare-3 : tie.Need-slice-aggregate-prepare-3
+slice-aggregate-prepare-3 c = search needs
+
 prepare-requires : tie.Need-prepare-requires
-prepare-requires c κs = search needs
+prepare-requires c κs = lent-made
 
 enum-known-p : tie.Need-enum-known-p
 enum-known-p c = search needs
 
 enum-known-p-2 : tie.Need-enum-known-p-2
 enum-known-p-2 c = search needs
+
+slice-aggregate-draw-prepared : tie.Need-slice-aggregate-draw-prepared
+slice-aggregate-draw-prepared c = search needs
+
+slice-aggregate-draw-prepared-2 : tie.Need-slice-aggregate-draw-prepared-2
+slice-aggregate-draw-prepared-2 c = search needs
 
 sub-draw-prepared : tie.Need-sub-draw-prepared
 sub-draw-prepared c = search needs
@@ -41,8 +54,8 @@ part-draw-prepared-start c = search needs
 
 part-draw-prepared-end : tie.Need-part-draw-prepared-end
 part-draw-prepared-end c =
-    let d = drawable (c .before .before .before .before) in
-    omega (arith, d .few, called (c .before .before .before .before) .prepare .ensures .long)
+    let p = c .before .before .before .before in
+    omega (arith, drawable p .few, called p .prepare .ensures .long)
 
 draw-prepared-requires : tie.Need-draw-prepared-requires
 draw-prepared-requires c κs =
@@ -52,7 +65,7 @@ draw-prepared-requires c κs =
 returns : tie.Need-returns
 returns c =
     let p = c .before in
-    draw-refused _ _ _ _ _ _ (prepared-case (p .before .before .before .prepare .ensures) (p .p .given .1)) (sample-some (p .p .given .0 .0))
+    draw-refused _ _ _ _ _ _ (prepared-case (p .before .before .before .before .before .prepare .ensures) (p .p .given .1)) (sample-some (p .p .given .0 .0))
 
 same-length : tie.Need-same-length
 same-length c = search needs
@@ -68,9 +81,13 @@ draw-spec =
     tie.close
     (tie.spec
     slice-aggregate-prepare
+    slice-aggregate-prepare-2
+    slice-aggregate-prepare-3
     prepare-requires
     enum-known-p
     enum-known-p-2
+    slice-aggregate-draw-prepared
+    slice-aggregate-draw-prepared-2
     sub-draw-prepared
     part-draw-prepared-start
     part-draw-prepared-end

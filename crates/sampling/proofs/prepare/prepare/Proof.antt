@@ -1,35 +1,23 @@
 -- `prepare` meets its contract: the grammar's refusals, then the history's, then 15; past them the tables and the heard numbers.
 -- Assumes nothing.
 use mathlib.Core.Path.{_≡_}
-use Rattle.history.proofs.Outcome.{check-accepted, check-refused, number-some}
-use Rattle.history.specs.Layout.{recordsOf}
-use Rattle.history.specs.Refusals.{Accepted}
-use Rattle.counting.specs.Prepared.{Tabled}
 use native.Mathlib.Omega.{arith}
-use denote.Ref.{now}
-use Rattle.sampling.proofs.Answering.{unprepared, unaccepted, heard-prepared}
 use borrow.Author.Needs.{needs}
+use denote.Ref.{now}
+use Rattle.counting.specs.Prepared.{Tabled}
+use Rattle.ranking.proofs.Answering.{prepared-none, prepared-refused}
+use Rattle.sampling.proofs.Answering.{unprepared, recorded-prepared}
 use Rattle.sampling.proofs.prepare.prepare.Statement.{statement}
 use Rattle.sampling.proofs.prepare.prepare.Tie as tie
 
 abbrev start : tie.After-prepare → tie.Start
 start c = c .before .before .before .before .before .before
 
-abbrev called : tie.After-enum-told → tie.After-prepare
-called c = c .before .before
-
-tabled : (c : tie.After-enum-told) → Tabled (now (start (called c) .args .g)) (start (called c) .args .n) (called c .prepare .last .1 .1 .0) (called c .prepare .last .1 .1 .1 .0)
-tabled c = called c .prepare .ensures .ready (c .enum-told .given .1)
-
-abbrev checked : tie.After-a2 → tie.After-enum-told
-checked c = c .before .before .before
-
--- the history is accepted and has as many records as the check said
-diary : (c : tie.After-a2) → let h = now (start (called (checked c)) .args .h) in Accepted h × (c .a2 .given .0 .0 ≡ recordsOf h)
-diary c = check-accepted _ (c .before .before .check .ensures) (c .a2 .given .1)
+abbrev prepared : tie.After-enum-told → tie.After-prepare
+prepared c = c .before .before .before .before
 
 prepare-requires : tie.Need-prepare-requires
-prepare-requires c κs = let s = c .before .before .before .before .before .pre in (s .index-long, s .plain-long)
+prepare-requires c κs = c .before .before .before .before .before .pre .tables
 
 enum-known-p : tie.Need-enum-known-p
 enum-known-p c = search needs
@@ -37,43 +25,41 @@ enum-known-p c = search needs
 enum-told : tie.Need-enum-told
 enum-told c = search needs
 
-check-requires : tie.Need-check-requires
-check-requires c κs = search needs
-
-enum-known-a : tie.Need-enum-known-a
-enum-known-a c = search needs
-
-enum-known-a-2 : tie.Need-enum-known-a-2
-enum-known-a-2 c = search needs
-
-hear-all-requires : tie.Need-hear-all-requires
-hear-all-requires c κs =
-    let a = c .before .before .before .before in
-    (tabled (checked a), diary a .0, start (called (checked a)) .pre .room, diary a .1)
-
-returns : tie.Need-returns
-returns c =
-    let p = c .before in
-    let a = p .before .before in
-    record { prepared = unprepared _ _ _ (p .p .given .0 .0) (rw (p .p .given .1) at (a .prepare .ensures)); long = start a .pre .room }
-
-returns-2 : tie.Need-returns-2
-returns-2 c =
-    let a = c .before in
-    let k = a .before .before in
-    record {
-      prepared = unaccepted _ _ _ (tabled (k .before)) _ (check-refused _ (k .check .ensures) (a .a .given .1)) (number-some (a .a .given .0 .0));
-      long = start (called (k .before)) .pre .room;
-    }
+records-requires : tie.Need-records-requires
+records-requires c κs =
+    let e = c .before .before .before in
+    let p = prepared e in
+    record { counted = p .prepare .ensures .ready (e .enum-told .given .1) .counted; room = start p .pre .room }
 
 same-length : tie.Need-same-length
 same-length c = search needs
 
-returns-3 : tie.Need-returns-3
-returns-3 c =
-    let l = c .before .before in
-    let a = l .before .before .before .before .before in
-    heard-prepared (tabled (checked a)) (diary a .0) (l .hear-all .ensures) (omega (arith, l .hear-all .kept .1 .1 .1 .1 .1 .1 .0, start (called (checked a)) .pre .room))
+same-length-2 : tie.Need-same-length-2
+same-length-2 c = search needs
+
+returns : tie.Need-returns
+returns c =
+    let q = c .before in
+    let p = q .before .before .before .before in
+    unprepared _ _ _ (q .p .given .0 .0) (prepared-refused (p .prepare .ensures) _ (q .p .given .1)) (start p .pre .room)
+
+same-length-3 : tie.Need-same-length-3
+same-length-3 c = search needs
+
+same-length-4 : tie.Need-same-length-4
+same-length-4 c = search needs
+
+same-length-5 : tie.Need-same-length-5
+same-length-5 c = search needs
+
+returns-2 : tie.Need-returns-2
+returns-2 c =
+    let k = c .before .before in
+    let e = k .before .before .before .before in
+    let p = prepared e in
+    let q = p .prepare .ensures in
+    let case = e .enum-told .given .1 in
+    recorded-prepared _ _ _ (prepared-none q case) (q .ready case) (omega (arith, k .records .kept .1 .1 .1 .1 .0, start p .pre .room)) (k .records .ensures)
 
 pub prepare-spec : {M : Type 1} → statement M
 prepare-spec =
@@ -82,11 +68,11 @@ prepare-spec =
     prepare-requires
     enum-known-p
     enum-told
-    check-requires
-    enum-known-a
-    enum-known-a-2
-    hear-all-requires
-    returns
-    returns-2
+    records-requires
     same-length
-    returns-3)
+    same-length-2
+    returns
+    same-length-3
+    same-length-4
+    same-length-5
+    returns-2)

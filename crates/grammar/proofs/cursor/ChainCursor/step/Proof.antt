@@ -11,41 +11,8 @@ use Rattle.grammar.proofs.cursor.ChainCursor.step.Tie as tie
 returns : tie.Need-returns
 returns c = step-zero _ _ (c .if1 .taken)
 
-shared-slice-read-if2 : tie.Need-shared-slice-read-if2
-shared-slice-read-if2 c = search needs
-
 returns-2 : tie.Need-returns-2
 returns-2 c = step-above _ _ (c .if2 .taken)
-
-cast-base : tie.Need-cast-base
-cast-base c = search needs
-
-mul-base : tie.Need-mul-base
-mul-base c = search needs
-
-add-base : tie.Need-add-base
-add-base c = search needs
-
-shared-slice-read-kind : tie.Need-shared-slice-read-kind
-shared-slice-read-kind c = search needs
-
-add-a : tie.Need-add-a
-add-a c = search needs
-
-shared-slice-read-a : tie.Need-shared-slice-read-a
-shared-slice-read-a c = search needs
-
-add-b : tie.Need-add-b
-add-b c = search needs
-
-shared-slice-read-b : tie.Need-shared-slice-read-b
-shared-slice-read-b c = search needs
-
-add-t14 : tie.Need-add-t14
-add-t14 c = search needs
-
-shared-slice-read-t12 : tie.Need-shared-slice-read-t12
-shared-slice-read-t12 c = search needs
 
 returns-3 : tie.Need-returns-3
 returns-3 c =
@@ -67,18 +34,18 @@ step-spec =
     tie.close
     (tie.spec
     returns
-    shared-slice-read-if2
+    (λ c. search needs)
     returns-2
-    cast-base
-    mul-base
-    add-base
-    shared-slice-read-kind
-    add-a
-    shared-slice-read-a
-    add-b
-    shared-slice-read-b
-    add-t14
-    shared-slice-read-t12
+    (λ c. search needs)
+    (λ c. search needs)
+    (λ c. search needs)
+    (λ c. search needs)
+    (λ c. search needs)
+    (λ c. search needs)
+    (λ c. search needs)
+    (λ c. search needs)
+    (λ c. search needs)
+    (λ c. search needs)
     returns-3
     returns-4
     returns-5)

@@ -1,0 +1,94 @@
+-- The plan from its rows. A pair rule stands at a place, so its nonterminals are among those gathered; the nonterminals of its halves are
+-- wanted where they have derivations, so their lengths are cut.
+-- Assumes nothing.
+use mathlib.Core.Path.{_≡_, refl, ap}
+use mathlib.Core.Bool.{true}
+use mathlib.Core.List.{List, [], _∷_, Memᴰ·of-map}
+use Prim.Native.Nat.{ℕ, _+_, _-_, _≤_, _<_}
+use native.Mathlib.Omega.{arith}
+use lib.ListN.{length, set}
+use Rattle.lists.specs.Joined.{_∈_, upFrom}
+use Rattle.lists.proofs.Members.{upFrom-∈}
+use Rattle.sets.specs.Sets.{member}
+use Rattle.grammar.specs.Rules.{leftAt, rightAt, pairFrom, countIn, pairsIn, ruled, Ruled}
+use Rattle.grammar.proofs.Ruling.{pair-below}
+use Rattle.counting.specs.Totals.{T}
+use Rattle.counting.specs.Counted.{Asked, Counted}
+use Rattle.counting.proofs.Asking.{asked-left, asked-right}
+use Rattle.charts.specs.Plan.{Cut}
+use Rattle.charts.specs.Planning.{at, Sided, Wanted, Cutting, Spots, Spotted, Placed, Plans, Built}
+use Rattle.charts.proofs.Placing.{placed-rows}
+
+-- where a pair rule stands
+pub pair-place : {rules : List (List ℕ)} → Ruled rules → (A : ℕ) (x : ℕ × ℕ) → A < countIn rules → x ∈ pairsIn rules A
+    → (i : ℕ) × (i < pairFrom rules (countIn rules)) × (leftAt rules i ≡ x .0) × (rightAt rules i ≡ x .1)
+unfolding pairsIn
+pair-place {rules} t A x h m =
+    let q = Memᴰ·of-map (λ i. (leftAt rules i, rightAt rules i)) (upFrom (pairFrom rules A) (pairFrom rules (A + 1) - pairFrom rules A)) m in
+    let u = upFrom-∈ (pairFrom rules A) (pairFrom rules (A + 1) - pairFrom rules A) (q .1) in (
+      q .0,
+      pair-below t A (q .0) h (omega (arith, t .pair-rises A h)),
+      ap (λ (e : ℕ × ℕ). e .0) (q .2),
+      ap (λ (e : ℕ × ℕ). e .1) (q .2),
+    )
+
+module _ {rules totals : List (List ℕ)} {n N end lefts rights : ℕ} {cuts′ wanted′ partners′ : List ℕ}
+    (c : Counted rules totals n) (eN : N ≡ countIn rules) (ee : end ≡ pairFrom rules (countIn rules))
+    (ws : Wanted totals N n wanted′) (ss : Sided rules end partners′ lefts rights) (ks : Cutting wanted′ lefts rights n cuts′) where
+  -- left lengths lie inside
+  pub spots-ask : (row : List ℕ) → length row ≡ 32 → ((i : ℕ) → at row i ≡ 0) → Spots cuts′ n row
+  spots-ask row long none =
+      record { some = c .some; short = c .short; within = λ m k h s l t. ks .each m s l .only k h t; long = long; none = none }
+
+  is-wanted : (A m : ℕ) → Asked rules n A m → 1 ≤ T (ruled rules) A m → member (at wanted′ m) A ≡ true
+  is-wanted A m a h = ws .each m (a .some) (a .short) .has A (omega (arith, a .inside)) (omega (arith, c .right A m a))
+
+  assembled : {spots′ : List ℕ} → Spotted cuts′ n 1 spots′ → Cut rules (cuts′ ∷ spots′ ∷ wanted′ ∷ partners′ ∷ []) n
+  assembled ps =
+      record {
+        wants = is-wanted;
+        asks = λ A m h s l t. record { inside = omega (arith, ws .each m s l .only A h t); some = s; short = l };
+        pairs = λ A B C h i.
+            let q = pair-place (c .table) A (B, C) h i in
+            rw (q .2, q .3) at (ss .pair (q .0) (omega (arith, q .1)));
+        cut = λ A B C m k a i s l hb hc.
+            let q = pair-place (c .table) A (B, C) (a .inside) i in
+            ks .each m (a .some) (a .short) .has B C k s l (rw (q .2) at (ss .left (q .0) (omega (arith, q .1))))
+            (is-wanted B k (asked-left (c .table) a (B, C) i k s (omega arith)) hb) (rw (q .3) at (ss .right (q .0) (omega (arith, q .1))))
+            (is-wanted C (m - k) (asked-right (c .table) a (B, C) i (m - k) (omega arith) (omega arith)) hc);
+        within = λ m k h s l t. ks .each m s l .only k h t;
+        whole = ps .whole;
+        halves = λ p m k hp hk s l t u. ps .halves p m k s l hp hk u t;
+        inside = ps .inside .inside;
+      }
+
+-- ---- the rows stored
+
+abbrev planOf : (plan : List (List ℕ)) (cuts spots wanted partners : List ℕ) → List (List ℕ)
+planOf plan cuts spots wanted partners = set (set (set (set plan 0 cuts) 1 spots) 2 wanted) 3 partners
+
+four-rows : (plan : List (List ℕ)) (a b d e : List ℕ) → length plan ≡ 4 → planOf plan a b d e ≡ a ∷ b ∷ d ∷ e ∷ []
+four-rows [] a b d e h = absurd (omega arith)
+four-rows (x ∷ []) a b d e h = absurd (omega arith)
+four-rows (x ∷ y ∷ []) a b d e h = absurd (omega arith)
+four-rows (x ∷ y ∷ z ∷ []) a b d e h = absurd (omega arith)
+four-rows (x ∷ y ∷ z ∷ w ∷ []) a b d e h = refl
+four-rows (x ∷ y ∷ z ∷ w ∷ v ∷ l) a b d e h = absurd (omega arith)
+
+module _ (plan : List (List ℕ)) (long : length plan ≡ 4) (a b d e : List ℕ) {rules totals map after : List (List ℕ)} {n N end lefts rights : ℕ}
+    (p : Plans rules totals n plan map) (eN : N ≡ countIn rules) (ee : end ≡ pairFrom rules (countIn rules)) (ws : Wanted totals N n d)
+    (ss : Sided rules end e lefts rights) (ks : Cutting d lefts rights n a) (hn : at a 0 ≡ n) (ps : Spotted a n 1 b)
+    (rs : Placed b n (n + 1) map after) where
+  pub built : Built rules n map (set (set (set (set plan 0 a) 1 b) 2 d) 3 e) after
+  built =
+      rw (four-rows plan a b d e long)
+      (record {
+        planned = record {
+          length = hn;
+          cut = assembled (p .counted) eN ee ws ss ks ps;
+          rows = placed-rows (a ∷ b ∷ d ∷ e ∷ []) rs refl;
+        };
+        letters = rs .letters;
+        map-long = rs .long;
+        map-wide = rs .wide;
+      })

@@ -1,0 +1,91 @@
+-- A row that grows: where it begins, one entry or one part more, where it ends.
+-- Assumes nothing.
+use mathlib.Core.Path.{_≡_, refl, sym, _∙_}
+use mathlib.Core.Bool.{true, false, cond, _||_}
+use mathlib.Core.List.{List, []}
+use Prim.Native.Nat.{ℕ, _+_, _≤_, _<_}
+use native.Mathlib.Omega.{arith}
+use native.Mathlib.Decide.{ℕ-discrete}
+use borrow.Author.Tests.{eq-eqb, ne-eqb}
+use lib.Dec.{eqb}
+use lib.ListN.{length, getD, set, length-set}
+use Rattle.lists.specs.Tables.{entry, put, Wide}
+use Rattle.lists.proofs.Tests.{or-left, or-right}
+use Rattle.lists.proofs.Tables.{put-same, put-row, put-beside, wide-put}
+use Rattle.sets.specs.Sets.{member}
+use Rattle.counting.specs.Tables.{most}
+use Rattle.charts.specs.Filling.{Growing, Grown}
+
+module _ {row count : ℕ} {f : ℕ → ℕ} {before : List (List ℕ)} where
+  pub growing-start : {rest : ℕ → ℕ} {s : ℕ} → Wide before 32 → ((A : ℕ) → A < count → rest A ≡ f A) → Growing row count f before before rest s
+  growing-start w e = record {
+    long = refl;
+    wide = w;
+    due = λ A h. rw (e A h);
+    others = λ r n. refl;
+    covers = λ A h z. refl;
+  }
+
+  module _ {now : List (List ℕ)} {rest : ℕ → ℕ} {s : ℕ} (g : Growing row count f before now rest s) where
+    pub growing-same : {rest′ : ℕ → ℕ} → ((A : ℕ) → A < count → rest A ≡ rest′ A) → Growing row count f before now rest′ s
+    growing-same e = record {
+      long = g .long;
+      wide = g .wide;
+      due = λ A h. omega (arith, g .due A h, e A h);
+      others = g .others;
+      covers = g .covers;
+    }
+
+    pub growing-end : ((A : ℕ) → A < count → rest A ≡ 0) → Grown row count f before now s
+    growing-end z = growing-same z
+
+    -- a part more
+    pub growing-more : {h rest′ : ℕ → ℕ} {after : List (List ℕ)} {s′ s″ : ℕ} → Grown row count h now after s′
+        → ((A : ℕ) → A < count → rest A ≡ h A + rest′ A) → ((b : ℕ) → member s″ b ≡ (member s b || member s′ b))
+        → Growing row count f before after rest′ s″
+    growing-more {s′ = s′} q e m = record {
+      long = q .long ∙ g .long;
+      wide = q .wide;
+      due = λ A h. omega (arith, g .due A h, q .due A h, e A h);
+      others = λ r n. q .others r n ∙ g .others r n;
+      covers = λ A h z.
+          let o = sym (m A) ∙ z in
+          q .covers A h (or-right (member s A) (member s′ A) o) ∙ g .covers A h (or-left (member s A) (member s′ A) o);
+    }
+
+    -- an entry more
+    pub growing-put : {rest′ : ℕ → ℕ} {s′ : ℕ} (a v : ℕ) → a < 32 → row < length now → ((A : ℕ) → A < count → rest A ≡ cond (eqb a A) v 0 + rest′ A)
+        → ((b : ℕ) → member s′ b ≡ (member s b || eqb a b)) → Growing row count f before (put now row a (entry now row a + v)) rest′ s′
+    growing-put {rest′} a v low inside e m = record {
+      long = length-set now row (set (getD now row []) a (entry now row a + v)) ∙ g .long;
+      wide = wide-put now 32 row a (entry now row a + v) (g .wide);
+      due = λ A h. here A h (ℕ-discrete A a);
+      others = λ r n. put-row now row a (entry now row a + v) r n ∙ g .others r n;
+      covers = λ A h z.
+          let o = sym (m A) ∙ z in
+          put-beside now row a (entry now row a + v) A inside (λ q. omega (arith, bits (or-right (member s A) (eqb a A) o) q))
+          ∙ g .covers A h (or-left (member s A) (eqb a A) o);
+    }
+      where
+        bits : {A : ℕ} → eqb a A ≡ false → A ≡ a → _≡_ {A = ℕ} 0 1
+        bits {A} z q = let t : eqb a A ≡ true = eq-eqb a A (sym q) in cc
+
+        here : (A : ℕ) → A < count → Dec (A ≡ a) → entry (put now row a (entry now row a + v)) row A + rest′ A ≡ entry before row A + f A
+        here A h (yes q) =
+            let k = put-same now row a (entry now row a + v) inside (omega (arith, g .wide .row row inside)) in
+            let h′ : a < count = omega arith in
+            let i = rw (eq-eqb a a refl) at (e a h′) in
+            rw q (omega (arith, k, i, g .due a h′))
+        here A h (no n) =
+            let k = put-beside now row a (entry now row a + v) A inside n in
+            let i = rw (ne-eqb a A (λ q. n (sym q))) at (e A h) in
+            omega (arith, k, i, g .due A h)
+
+    -- the sum at the end bounds every sum on the way
+    pub growing-fits : (A v : ℕ) → A < count → v ≤ rest A → entry before row A + f A ≤ most → entry now row A + v ≤ most
+    growing-fits A v h l k = omega (arith, g .due A h)
+
+-- the same by an equal end value
+pub grown-ext : {row count : ℕ} {f h : ℕ → ℕ} {before after : List (List ℕ)} {s : ℕ} → ((A : ℕ) → A < count → f A ≡ h A) → Grown row count f before after s
+    → Grown row count h before after s
+grown-ext e g = record { long = g .long; wide = g .wide; due = λ A u. omega (arith, g .due A u, e A u); others = g .others; covers = g .covers }

@@ -1,0 +1,172 @@
+-- The walk over a nonterminal's sentences: a single word, a rule and a left length, two halves.
+-- Assumes nothing.
+use mathlib.Core.Path.{_≡_, refl, sym, ap, _∙_}
+use mathlib.Core.List.{List, [], _∷_, _++_}
+use Prim.Native.Nat.{ℕ, zero, suc, _+_, _*_, _-_, _/_, _%_, _≤_, _<_}
+use native.Mathlib.Omega.{arith}
+use native.Mathlib.Nat.{mod-lt, mul-le-mul-right}
+use lib.ListN.{length}
+use Rattle.lists.specs.Joined.{sumOver, concatMap, combine, upFrom}
+use Rattle.lists.proofs.Sums.{sum-ext, sum-combine, sum-concat}
+use Rattle.lists.proofs.Members.{upFrom-∈}
+use Rattle.grammar.specs.Chains.{Rule, wordsOf, pairsOf}
+use Rattle.counting.specs.Totals.{splitSum, total}
+use Rattle.counting.specs.Sentences.{sentences, weight, splitList}
+use Rattle.counting.proofs.Totals.{pairTotal, total-more}
+use Rattle.counting.proofs.Sentences.{sentences-one, sentences-more, sentence-length}
+use Rattle.counting.proofs.Counts.{weight-append, total-sum}
+use Rattle.lists.specs.Tickets.{Owns, Product}
+use Rattle.lists.specs.Parts.{Part}
+use Rattle.counting.specs.Owned.{OwnedAs, halves, halvesTotal, InHalves, HalvesAs, ChosenAs}
+use Rattle.lists.proofs.Owners.{owns-∈, owns-inside, owns-map, owns-ext}
+use Rattle.lists.proofs.Parts.{part-owns, part-total, part-size, part-within, block-part}
+use Rattle.lists.proofs.Products.{product-some, product-left, product-right, product-owns, product-weight, product-measure}
+
+module _ (rules : ℕ → List Rule) where
+  -- ---- two halves
+
+  -- a sentence weighs the product of what its halves weigh
+  pub halves-product : (v : ℕ → ℕ → ℕ) (B C p m k : ℕ)
+      → Product _++_ (weight v p) (weight v p) (weight v (p + k)) (sentences rules B k) (sentences rules C (m - k))
+  halves-product v B C p m k = record { each = λ x i y j. rw (← sentence-length rules B k x i) (weight-append v p x y) }
+
+  pub halves-total : (v : ℕ → ℕ → ℕ) (B C p m k : ℕ) → sumOver (weight v p) (combine _++_ (sentences rules B k) (sentences rules C (m - k)))
+      ≡ total rules v p B k * total rules v (p + k) C (m - k)
+  halves-total v B C p m k =
+      sum-combine _++_ (weight v p) (weight v p) (weight v (p + k)) (sentences rules B k) (sentences rules C (m - k)) (halves-product v B C p m k .each)
+      ∙ rw (total-sum rules v p B k, total-sum rules v (p + k) C (m - k))
+
+  -- ---- the left lengths of a pair rule
+
+  split-list : (list : ℕ → ℕ → List (List ℕ)) (B C m k j : ℕ) → k + j ≡ m
+      → splitList list B C k j ≡ concatMap (λ i. combine _++_ (list B i) (list C (m - i))) (upFrom k j)
+  split-list list B C m k zero e = refl
+  split-list list B C m k (suc j) e =
+      let z : m - k ≡ suc j = omega arith in
+      rw (z, split-list list B C m (suc k) j (omega arith))
+
+  split-total : (f : ℕ → ℕ → ℕ → ℕ) (B C p m k j : ℕ) → k + j ≡ m
+      → splitSum f B C p k j ≡ sumOver (λ i. f p B i * f (p + i) C (m - i)) (upFrom k j)
+  split-total f B C p m k zero e = refl
+  split-total f B C p m k (suc j) e =
+      let z : m - k ≡ suc j = omega arith in
+      rw (z, split-total f B C p m (suc k) j (omega arith))
+
+  rule-list : (B C m : ℕ) → 1 ≤ m → splitList (sentences rules) B C 1 (m - 1) ≡ concatMap (λ i. halves rules B C i m) (upFrom 1 (m - 1))
+  rule-list B C m h = split-list (sentences rules) B C m 1 (m - 1) (omega arith)
+
+  pub rule-total : (v : ℕ → ℕ → ℕ) (p m : ℕ) (x : ℕ × ℕ) → 1 ≤ m
+      → sumOver (weight v p) (splitList (sentences rules) (x .0) (x .1) 1 (m - 1)) ≡ pairTotal (total rules v) p m x
+  rule-total v p m x h =
+      ap (sumOver (weight v p)) (rule-list (x .0) (x .1) m h)
+      ∙ sum-concat (λ i. halves rules (x .0) (x .1) i m) (weight v p) (upFrom 1 (m - 1))
+      ∙ sum-ext (λ i. sumOver (weight v p) (halves rules (x .0) (x .1) i m)) (halvesTotal rules v (x .0) (x .1) p m) (upFrom 1 (m - 1))
+      (λ i j. halves-total v (x .0) (x .1) p m i)
+      ∙ sym (split-total (total rules v) (x .0) (x .1) p m 1 (m - 1) (omega arith))
+
+  -- a ticket of A is one of its rules'
+  pub some-rule : (v : ℕ → ℕ → ℕ) (p A m t : ℕ) → 2 ≤ m → t < total rules v p A m → t < sumOver (pairTotal (total rules v) p m) (pairsOf (rules A))
+  some-rule v p A m t h k = rw (← total-more rules v p A m h) k
+
+module _ {rules : ℕ → List Rule} {v u : ℕ → ℕ → ℕ} where
+  -- ---- a single word
+
+  pub owned-word : {A p t w n o : ℕ} → Owns (v p) (u p) (wordsOf (rules A)) t w n o → OwnedAs rules v u A p 1 t (w ∷ []) n (u p w) (v p w) o
+  owned-word {A} {p} {w = w} r = record {
+    owns = rw (sentences-one rules A)
+        (owns-map (λ w. w ∷ []) (owns-ext (λ w. v p w * 1) (λ w. u p w * 1) (λ w m. omega arith) (λ w m. omega arith) r));
+    measure-is = omega arith;
+    weighs-is = omega arith;
+  }
+
+  -- ---- a rule and a left length: the rules by what each adds, the left lengths of the rule found by the products of the halves' totals
+
+  pub chosen : {A p m t B C n o k n′ o′ : ℕ} → 2 ≤ m
+      → Owns (pairTotal (total rules v) p m) (pairTotal (total rules u) p m) (pairsOf (rules A)) t (B, C) n o
+      → Owns (halvesTotal rules v B C p m) (halvesTotal rules u B C p m) (upFrom 1 (m - 1)) o k n′ o′
+      → ChosenAs rules v u A p m t B C k (n + n′) o′
+  chosen {A} {p} {m} {t} {B} {C} {n} {o} {k} {n′} {o′} h r q =
+      let i = upFrom-∈ 1 (m - 1) (owns-∈ q) in
+      let rule : Part (weight v p) (weight u p) (sentences rules A m) (splitList (sentences rules) B C 1 (m - 1)) t n o
+      = rw (sentences-more rules A m h)
+      (block-part (λ x. splitList (sentences rules) (x .0) (x .1) 1 (m - 1))
+      (owns-ext (λ x. sumOver (weight v p) (splitList (sentences rules) (x .0) (x .1) 1 (m - 1))) (λ x. sumOver (weight u p) (splitList (sentences rules) (x .0) (x .1) 1 (m - 1)))
+      (λ x j. sym (rule-total rules v p m x (omega arith))) (λ x j. sym (rule-total rules u p m x (omega arith))) r)) in
+      let length : Part (weight v p) (weight u p) (splitList (sentences rules) B C 1 (m - 1)) (halves rules B C k m) o n′ o′
+      = rw (rule-list rules B C m (omega arith))
+      (block-part (λ i. halves rules B C i m)
+      (owns-ext (λ i. sumOver (weight v p) (halves rules B C i m)) (λ i. sumOver (weight u p) (halves rules B C i m))
+      (λ i j. sym (halves-total rules v B C p m i)) (λ i j. sym (halves-total rules u B C p m i)) q)) in
+      record {
+        rule = owns-∈ r;
+        some = i .0;
+        short = omega arith;
+        part = part-within rule length (n + n′) refl;
+      }
+
+-- ---- an owner's tickets
+
+module _ {rules : ℕ → List Rule} {v u : ℕ → ℕ → ℕ} {A p m t : ℕ} {words : List ℕ} {place measure weighs offset : ℕ} (r : OwnedAs rules v u A p m t words place measure weighs offset) where
+  pub owned-some : offset < weighs
+  owned-some = omega (arith, r .owns .own, r .weighs-is)
+
+  pub owned-weighs : weighs ≤ total rules v p A m
+  owned-weighs = omega (arith, owns-inside (r .owns), r .owns .own, r .owns .ticket, r .weighs-is, total-sum rules v p A m)
+
+-- ---- two halves: the quotient by the right half's total is the left half's ticket; what is left, by the left half's weight, the right half's
+
+module _ {rules : ℕ → List Rule} {v : ℕ → ℕ → ℕ} {B C p m k left : ℕ} (h : InHalves rules v B C p m k left) where
+  pub right-some : 0 < total rules v (p + k) C (m - k)
+  right-some = product-some (total rules v p B k) (total rules v (p + k) C (m - k)) left (h .inside)
+
+  pub left-ticket : left / total rules v (p + k) C (m - k) < total rules v p B k
+  left-ticket = product-left (total rules v p B k) (total rules v (p + k) C (m - k)) left (h .inside)
+
+  module _ {u : ℕ → ℕ → ℕ} {words : List ℕ} {n measure w o : ℕ} (l : OwnedAs rules v u B p k (left / total rules v (p + k) C (m - k)) words n measure w o) where
+    -- what is left of the ticket
+    abbrev pub rest : ℕ
+    rest = o * total rules v (p + k) C (m - k) + left % total rules v (p + k) C (m - k)
+
+    pub rest-room : rest < halvesTotal rules v B C p m k
+    rest-room =
+        omega (
+          arith,
+          mod-lt left right-some,
+          mul-le-mul-right (total rules v (p + k) C (m - k)) (owned-some l),
+          mul-le-mul-right (total rules v (p + k) C (m - k)) (owned-weighs l),
+        )
+
+    pub right-ticket : rest / w < total rules v (p + k) C (m - k)
+    right-ticket = rw (l .weighs-is) (product-right (l .owns) (total rules v (p + k) C (m - k)) left right-some)
+
+    pub halves-owned : {words′ : List ℕ} {n′ measure′ w′ o′ : ℕ} → OwnedAs rules v u C (p + k) (m - k) (rest / w) words′ n′ measure′ w′ o′
+        → HalvesAs rules v u B C p m k left (words ++ words′) (n * total rules u (p + k) C (m - k) + measure * n′) (measure * measure′) (w * w′) (o′ * w + rest % w)
+    halves-owned {words′} r =
+        let hv = halves-product rules v B C p m k in
+        let hu = halves-product rules u B C p m k in
+        let ev = total-sum rules v (p + k) C (m - k) in
+        let eu = total-sum rules u (p + k) C (m - k) in
+        let a = rw ev at (l .owns) in
+        let b = rw (l .weighs-is, ev) at (r .owns) in
+        record {
+          owns = rw (l .weighs-is, l .measure-is, ev, eu) (product-owns hv hu left a b);
+          measure-is = rw (l .measure-is, r .measure-is) (sym (product-measure hv hu left a b));
+          weighs-is = rw (l .weighs-is, r .weighs-is) (sym (product-weight hv hu left a b));
+        }
+
+-- ---- the whole: what is chosen, and its halves
+
+module _ {rules : ℕ → List Rule} {v u : ℕ → ℕ → ℕ} {A p m t B C k before left : ℕ} (c : ChosenAs rules v u A p m t B C k before left) where
+  pub chosen-inside : InHalves rules v B C p m k left
+  chosen-inside = record { inside = omega (arith, c .part .inside, halves-total rules v B C p m k) }
+
+  -- room for the halves' tickets and measure
+  pub chosen-tickets : halvesTotal rules v B C p m k ≤ total rules v p A m
+  chosen-tickets = omega (arith, part-total (c .part), halves-total rules v B C p m k, total-sum rules v p A m)
+
+  pub chosen-room : before + halvesTotal rules u B C p m k ≤ total rules u p A m
+  chosen-room = omega (arith, part-size (c .part), halves-total rules u B C p m k, total-sum rules u p A m)
+
+  pub chosen-owned : {words : List ℕ} {n measure w o : ℕ} → HalvesAs rules v u B C p m k left words n measure w o
+      → OwnedAs rules v u A p m t words (before + n) measure w o
+  chosen-owned r = record { owns = part-owns (c .part) (r .owns); measure-is = r .measure-is; weighs-is = r .weighs-is }

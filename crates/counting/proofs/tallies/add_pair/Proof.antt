@@ -1,0 +1,67 @@
+-- `add_pair` meets its contract. The loop's invariant: after the left length k, the sum is what it was with the products for the left
+-- lengths 1 to k (001, formula 4a). It starts after the left lengths at which the right half is too long, which add nothing, and ends
+-- where the left half is. The measure is the left lengths left. Assumes nothing.
+use Prim.Native.Nat.{_-_}
+use native.Mathlib.Omega.{arith}
+use borrow.Author.Needs.{needs}
+use Rattle.counting.proofs.Filling.{Adding, adding-start, adding-step, adding-over, adding-end}
+use Rattle.counting.proofs.tallies.add_pair.Statement.{statement}
+use Rattle.counting.proofs.tallies.add_pair.Tie as tie
+
+abbrev Inv-loop : tie.InvT-loop
+Inv-loop totals b c m before last k₀ sum₀ k sum = Adding totals b c m before k sum
+
+abbrev μ-loop : tie.MeasureT-loop
+μ-loop totals b c m before last k₀ sum₀ k sum = last - k
+
+abbrev start : tie.At-loop Inv-loop μ-loop → tie.Start Inv-loop μ-loop
+start c = c .before .before .before .before .before
+
+-- where a product is added
+abbrev at-loop : tie.After-add-product Inv-loop μ-loop → tie.At-loop Inv-loop μ-loop
+at-loop c = c .before .before .before .before
+
+loop-holds : tie.Need-loop-holds Inv-loop μ-loop
+loop-holds c = adding-start (c .before .before .before .before .pre) (omega arith)
+
+returns : tie.Need-returns Inv-loop μ-loop
+returns c =
+    let s = c .before .before in
+    let l = at-loop s in
+    adding-over (start l .pre) (l .loop .inv) (omega arith) (s .before .before .count-at .ensures) (s .before .count-at2 .ensures)
+    (c .enum-told .given .1) (s .add-product .ensures)
+
+loop-again : tie.Need-loop-again Inv-loop μ-loop
+loop-again c =
+    let s = c .before .before .before in
+    let l = at-loop s in
+    adding-step (start l .pre) (l .loop .inv) (omega arith) (s .before .before .count-at .ensures) (s .before .count-at2 .ensures)
+    (c .before .s .given .1) (s .add-product .ensures)
+
+returns-2 : tie.Need-returns-2 Inv-loop μ-loop
+returns-2 c = let l = c .before in adding-end (start l .pre) (l .loop .inv) (c .loop-test .left) (omega arith)
+
+pub add-pair-spec : {M : Type 1} → statement M
+add-pair-spec =
+    tie.close
+    (tie.spec
+    Inv-loop
+    μ-loop
+    (λ c. omega arith)
+    (λ c κs. omega arith)
+    (λ c κs. omega arith)
+    (λ c. omega arith)
+    (λ c κs. omega arith)
+    (λ c κs. omega arith)
+    loop-holds
+    (λ c. omega arith)
+    (λ c κs. omega arith)
+    (λ c. omega arith)
+    (λ c κs. omega arith)
+    (λ c κs. tt)
+    (λ c. search needs)
+    returns
+    (λ c. search needs)
+    (λ c. omega arith)
+    loop-again
+    returns-2)

@@ -1,0 +1,41 @@
+-- `copy` meets its contract. The loop's invariant: the first r rows are copied. The measure is how many are left.
+-- Assumes nothing.
+use mathlib.Core.Path.{_≡_}
+use Prim.Native.Nat.{_+_, _-_, _≤_}
+use native.Mathlib.Omega.{arith}
+use Rattle.lists.specs.Tables.{Copied}
+use Rattle.lists.proofs.Tables.{copied-none, copied-more}
+use Rattle.counting.proofs.tallies.copy.Statement.{statement}
+use Rattle.counting.proofs.tallies.copy.Tie as tie
+
+abbrev Inv-loop : tie.InvT-loop
+Inv-loop from n to₀ r₀ to r = Copied r from to₀ to × (r ≤ n + 1)
+
+abbrev μ-loop : tie.MeasureT-loop
+μ-loop from n to₀ r₀ to r = n + 1 - r
+
+loop-holds : tie.Need-loop-holds Inv-loop μ-loop
+loop-holds c = (copied-none _ _, omega arith)
+
+loop-again : tie.Need-loop-again Inv-loop μ-loop
+loop-again c = let l = c .before .before in (copied-more (omega arith) (l .loop .inv .0), omega arith)
+
+returns : tie.Need-returns Inv-loop μ-loop
+returns c = let e : c .before .loop .r ≡ c .before .before .args .n + 1 = omega arith in rw e at (c .before .loop .inv .0)
+
+pub copy-spec : {M : Type 1} → statement M
+copy-spec =
+    tie.close
+    (tie.spec
+    Inv-loop
+    μ-loop
+    loop-holds
+    (λ c. omega arith)
+    (λ c. omega arith)
+    (λ c. omega arith)
+    (λ c. omega arith)
+    (λ c. omega arith)
+    (λ c. omega arith)
+    loop-again
+    (λ c. c .before .loop .inv .0 .long)
+    returns)

@@ -1,0 +1,211 @@
+// The table of totals by the names of its rows: the counts T of the length m at `totals[m][a]`, or that some T is above 2^64 - 1.
+ghost use mathlib.Core.Path.{_≡_};
+ghost use mathlib.Core.Bool.{true};
+ghost use Prim.Native.Nat.{_+_, _*_, _-_, _≤_, _<_};
+ghost use lib.ListN.{length};
+ghost use Rattle.lists.specs.Tables.{Copied};
+ghost use Rattle.grammar.specs.Rules.{ruled};
+ghost use Rattle.counting.specs.Totals.{T};
+ghost use Rattle.counting.specs.Counted.{countAt, longestAt};
+ghost use Rattle.counting.specs.Filling.{Says, partSum, Halves, Deriving, longer, stored, RowFilling, RowFilled, Filling, Filled};
+use grammar::rules;
+
+// The longest length at which a nonterminal has a derivation; the rows 1 to 16 are those of their lengths.
+pub const LONGEST: usize = 0;
+
+// A count, or that it is above 2^64 - 1.
+pub enum Tally {
+    Fits(u64),
+    Over,
+}
+
+const MOST: u64 = 18446744073709551615;
+
+// T(a, m), where the table has it.
+pub fn count_at(totals: &[[u64; 32]], a: usize, m: usize) -> u64
+    requires { ⌜ (17 ≤ length (now totals)) × (a < 32) × (m ≤ 16) ⌝ }
+    ensures { λ r. ⌜ r ≡ countAt (now (totals .entry)) a m ⌝ }
+{
+    totals[m][a]
+}
+
+pub fn longest_at(totals: &[[u64; 32]], a: usize) -> u64
+    requires { ⌜ (17 ≤ length (now totals)) × (a < 32) ⌝ }
+    ensures { λ r. ⌜ r ≡ longestAt (now (totals .entry)) a ⌝ }
+{
+    totals[LONGEST][a]
+}
+
+// A product more, where a factor has 2^32 or more. A factor of 0 comes first, however large the other.
+fn add_large(sum: u64, x: u64, y: u64) -> Tally
+    ensures { λ r. ⌜ Says (sum + x * y) r ⌝ }
+{
+    if x == 0 {
+        return Tally::Fits(sum);
+    }
+    if y == 0 {
+        return Tally::Fits(sum);
+    }
+    if y <= (MOST - sum) / x {
+        return Tally::Fits(sum + x * y);
+    }
+    Tally::Over
+}
+
+// A product more. Where both factors are below 2^32 it fits, and there is no division.
+fn add_product(sum: u64, x: u64, y: u64) -> Tally
+    ensures { λ r. ⌜ Says (sum + x * y) r ⌝ }
+{
+    if 4294967295 < x {
+        return add_large(sum, x, y);
+    }
+    if 4294967295 < y {
+        return add_large(sum, x, y);
+    }
+    let product = x * y;
+    if product <= MOST - sum {
+        return Tally::Fits(sum + product);
+    }
+    Tally::Over
+}
+
+// How many of the lengths from 1 to m - 1 are above the longest with a derivation.
+fn above(longest: u64, m: usize) -> usize
+    requires { ⌜ 1 ≤ m ⌝ }
+    ensures { λ r. ⌜ r ≡ m - 1 - longest ⌝ }
+{
+    let l = longest as usize;
+    if m <= l {
+        return 0;
+    }
+    m - 1 - l
+}
+
+// What the pair rule (b, c) adds towards the length m, product after product with the left length upward (001, formula 4a). Left out are
+// the first left lengths, where the right half is longer than c's longest, and the last, which are above b's: their products are 0.
+fn add_pair(totals: &[[u64; 32]], b: usize, c: usize, m: usize, before: u64) -> Tally
+    requires { ⌜ Halves (now totals) b c m ⌝ }
+    ensures { λ r. ⌜ Says (before + partSum (countAt (now (totals .entry))) b c m (m - 1)) r ⌝ }
+{
+    let last = m - 1 - above(longest_at(totals, b), m);
+    let mut k = above(longest_at(totals, c), m);
+    let mut sum = before;
+    while k < last {
+        k += 1;
+        let s = add_product(sum, count_at(totals, b, k), count_at(totals, c, m - k));
+        match s {
+            Tally::Over => return Tally::Over,
+            Tally::Fits(v) => {
+                sum = v;
+            }
+        }
+    }
+    Tally::Fits(sum)
+}
+
+// T(a, m) for m of 2 or more, by the pair rules of a.
+fn derive(rules: &[[u8; 256]], totals: &[[u64; 32]], a: usize, m: usize) -> Tally
+    requires { ⌜ Deriving (now rules) (now totals) m a ⌝ }
+    ensures { λ r. ⌜ Says (T (ruled (now (rules .entry))) a m) r ⌝ }
+{
+    let end = rules::pairs_from(rules, a + 1);
+    let mut i = rules::pairs_from(rules, a);
+    let mut sum = 0;
+    while i < end {
+        let s = add_pair(
+            totals,
+            rules::left_at(rules, i),
+            rules::right_at(rules, i),
+            m,
+            sum,
+        );
+        match s {
+            Tally::Over => return Tally::Over,
+            Tally::Fits(v) => {
+                sum = v;
+            }
+        }
+        i += 1;
+    }
+    Tally::Fits(sum)
+}
+
+// The longest length with a derivation, once v derivations of the length m are found.
+fn longer_of(old: u64, m: usize, v: u64) -> u64
+    ensures { λ r. ⌜ r ≡ longer old m v ⌝ }
+{
+    if v == 0 { old } else { m as u64 }
+}
+
+// T(a, m) is v.
+fn put(totals: &mut [[u64; 32]], a: usize, m: usize, v: u64)
+    requires { ⌜ (17 ≤ length (now totals)) × (a < 32) × (m ≤ 16) ⌝ }
+    ensures { λ _. ⌜ now (totals .exit) ≡ stored (now (totals .entry)) a m v ⌝ }
+{
+    let longest = longer_of(totals[LONGEST][a], m, v);
+    totals[m][a] = v;
+    totals[LONGEST][a] = longest;
+}
+
+// The row 1, by the word rules; and the longest lengths anew.
+fn word_row(rules: &[[u8; 256]], totals: &mut [[u64; 32]])
+    requires { ⌜ RowFilling (now rules) (now totals) 1 ⌝ }
+    ensures { λ _. ⌜ RowFilled (now (rules .entry)) (now (totals .entry)) (now (totals .exit)) 1 true ⌝ }
+{
+    let n = rules::count(rules);
+    let mut a = 0;
+    while a < n {
+        let words = rules::words_from(rules, a + 1) - rules::words_from(rules, a);
+        totals[LONGEST][a] = 0;
+        put(totals, a, 1, words as u64);
+        a += 1;
+    }
+}
+
+// The row m, for m of 2 or more; false where some T in it is above 2^64 - 1.
+fn row(rules: &[[u8; 256]], m: usize, totals: &mut [[u64; 32]]) -> bool
+    requires { ⌜ RowFilling (now rules) (now totals) m × (2 ≤ m) ⌝ }
+    ensures { λ r. ⌜ RowFilled (now (rules .entry)) (now (totals .entry)) (now (totals .exit)) m r ⌝ }
+{
+    let n = rules::count(rules);
+    let mut a = 0;
+    while a < n {
+        let s = derive(rules, totals, a, m);
+        match s {
+            Tally::Over => return false,
+            Tally::Fits(v) => {
+                put(totals, a, m, v);
+            }
+        }
+        a += 1;
+    }
+    true
+}
+
+// The rows from 1 to n, in a table that may hold anything; false where some T in them is above 2^64 - 1.
+pub fn fill(rules: &[[u8; 256]], n: usize, totals: &mut [[u64; 32]]) -> bool
+    requires { ⌜ Filling (now rules) n (now totals) ⌝ }
+    ensures { λ r. ⌜ Filled (now (rules .entry)) n (now (totals .entry)) (now (totals .exit)) r ⌝ }
+{
+    word_row(rules, totals);
+    let mut m = 2;
+    while m <= n {
+        if !row(rules, m, totals) {
+            return false;
+        }
+        m += 1;
+    }
+    true
+}
+
+// The counts up to the length n into a larger table.
+pub fn copy(from: &[[u64; 32]], n: usize, to: &mut [[u64; 32]])
+    requires { ⌜ (n ≤ 16) × (17 ≤ length (now from)) × (17 ≤ length (now to)) ⌝ }
+    ensures { λ _. ⌜ Copied (n + 1) (now (from .entry)) (now (to .entry)) (now (to .exit)) ⌝ }
+{
+    let mut r = 0;
+    while r <= n {
+        to[r] = from[r];
+        r += 1;
+    }
+}

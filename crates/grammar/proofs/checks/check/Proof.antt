@@ -1,0 +1,19 @@
+-- `checks::check` meets its contract: `read` answers, in a table of its own.
+-- Assumes nothing.
+use native.Mathlib.Omega.{arith}
+use borrow.Author.Needs.{needs}
+use Rattle.lists.proofs.Tables.{wide-made}
+use Rattle.grammar.proofs.checks.check.Statement.{statement}
+use Rattle.grammar.proofs.checks.check.Tie as tie
+
+slice-aggregate-read : tie.Need-slice-aggregate-read
+slice-aggregate-read c = search needs
+
+read-requires : tie.Need-read-requires
+read-requires c κs = record { long = omega arith; wide = wide-made 4 256 0 }
+
+returns : tie.Need-returns
+returns c = search needs
+
+pub check-spec : {M : Type 1} → statement M
+check-spec = tie.close (tie.spec slice-aggregate-read read-requires returns)

@@ -1,0 +1,330 @@
+-- Struck elements own no tickets. A ticket among the unstruck, skipped over the struck, is a ticket among all, with the same owner, place
+-- and offset: of each struck element the skip passes all tickets as soon as it reaches the first. So the ticket list of what is kept is found
+-- in the ticket list of all, and what the draws 0, 1, .. find, each with its place, is that list. Then the struck entries themselves: just the
+-- elements that fail, rising; and the skip as a search by halves meets it.
+-- Assumes nothing.
+use mathlib.Core.Path.{_≡_, refl, sym, ap, _∙_}
+use mathlib.Core.Logic.{_↔_, inl, inr}
+use mathlib.Core.Bool.{Bool, true, false, cond}
+use mathlib.Core.List.{List, [], _∷_, _++_, map, List·Memᴰ·head, List·Memᴰ·tail, List·Memᴰ·not-nil, List·Memᴰ·cases-cons, Memᴰ·append-right}
+use Prim.Native.Nat.{ℕ, zero, suc, _+_, _≤_, _<_}
+use native.Mathlib.Omega.{arith}
+use native.Mathlib.Decide.{decLt}
+use borrow.Author.Tests.{le-leb, lt-leb}
+use lib.Seq.{ext-getD}
+use lib.ListN.{length, getD, replicate, take, length-map, List·getD-eq-default}
+use Rattle.lists.specs.Joined.{_∈_, sumOver, upFrom}
+use Rattle.lists.specs.Ordered.{Pairwise, none, more}
+use Rattle.lists.specs.Tickets.{ahead, owner, place, tickets, Owns, unstruck, struckFrom, skipOver, StruckAs}
+use Rattle.lists.specs.Struck.{keep, numbered}
+use Rattle.lists.proofs.Sums.{sum-one, sum-map, concat-ext, length-upFrom}
+use Rattle.lists.proofs.Members.{getD-∈}
+use Rattle.lists.proofs.Places.{getD-map, getD-upFrom}
+use Rattle.lists.proofs.Orders.{order-unique}
+use Rattle.lists.proofs.Owners.{owned, owns-owner, owns-place, owns-inside, place-inside, ahead-map, tickets-length, tickets-at}
+
+-- ---- the skip
+
+module _ {X : Type 0} (P : X → Bool) (v : X → ℕ) where
+  -- what begins above t is not passed
+  skip-none : (t k : ℕ) (l : List X) → t < k → skipOver t (struckFrom P v k l) ≡ t
+  skip-none t k [] h = refl
+  skip-none t k (x ∷ l) h = go (P x) (skip-none t (k + v x) l (omega arith))
+    where
+      go : (b : Bool) → skipOver t (struckFrom P v (k + v x) l) ≡ t
+          → skipOver t (cond b (struckFrom P v (k + v x) l) ((k, v x) ∷ struckFrom P v (k + v x) l)) ≡ t
+      go true e = e
+      go false e = rw (lt-leb k t h)
+
+  -- past the unstruck it is past all
+  skip-past : (t k : ℕ) (l : List X) → k + sumOver (unstruck P v) l ≤ t → k + sumOver v l ≤ skipOver t (struckFrom P v k l)
+  skip-past t k [] h = h
+  skip-past t k (x ∷ l) h = go (P x) h (λ s. skip-past s (k + v x) l)
+    where
+      go : (b : Bool) → k + (cond b (v x) 0 + sumOver (unstruck P v) l) ≤ t
+          → ((s : ℕ) → k + v x + sumOver (unstruck P v) l ≤ s → k + v x + sumOver v l ≤ skipOver s (struckFrom P v (k + v x) l))
+          → k + (v x + sumOver v l) ≤ skipOver t (cond b (struckFrom P v (k + v x) l) ((k, v x) ∷ struckFrom P v (k + v x) l))
+      go true e ih = omega (arith, ih t (omega arith))
+      go false e ih = rw (le-leb k t (omega arith)) (omega (arith, ih (t + v x) (omega arith)))
+
+  -- ticket o of x, which stands behind b, among the unstruck and among all
+  skip-split : (t k : ℕ) (b : List X) (x : X) (a : List X) (o : ℕ) → t ≡ k + (sumOver (unstruck P v) b + o) → o < unstruck P v x
+      → (skipOver t (struckFrom P v k (b ++ x ∷ a)) ≡ k + (sumOver v b + o)) × (o < v x)
+  skip-split t k [] x a o e h = go (P x) h
+    where
+      go : (b : Bool) → o < cond b (v x) 0
+          → (skipOver t (cond b (struckFrom P v (k + v x) a) ((k, v x) ∷ struckFrom P v (k + v x) a)) ≡ k + (0 + o)) × (o < v x)
+      go true h = (skip-none t (k + v x) a (omega arith) ∙ e, h)
+      go false h = absurd (omega arith)
+  skip-split t k (y ∷ b) x a o e h = go (P y) e (λ s q. skip-split s (k + v y) b x a o q h)
+    where
+      rest : List (ℕ × ℕ)
+      rest = struckFrom P v (k + v y) (b ++ x ∷ a)
+
+      go : (c : Bool) → t ≡ k + (cond c (v y) 0 + sumOver (unstruck P v) b + o)
+          → ((s : ℕ) → s ≡ k + v y + (sumOver (unstruck P v) b + o) → (skipOver s rest ≡ k + v y + (sumOver v b + o)) × (o < v x))
+          → (skipOver t (cond c rest ((k, v y) ∷ rest)) ≡ k + (v y + sumOver v b + o)) × (o < v x)
+      go true e ih = let q = ih t (omega arith) in (omega (arith, q .0), q .1)
+      go false e ih = let q = ih (t + v y) (omega arith) in rw (le-leb k t (omega arith)) (omega (arith, q .0), q .1)
+
+  -- the owner of t among the unstruck owns the skip of t among all
+  pub struck-owns : {u : X → ℕ} {l : List X} {t : ℕ} {x : X} {n o : ℕ} → Owns (unstruck P v) u l t x n o → Owns v u l (skipOver t (struckFrom P v 0 l)) x n o
+  struck-owns {t = t} {x = x} {o = o} r =
+      let q = skip-split t 0 (r .before) x (r .after) o (omega (arith, r .ticket)) (r .own) in
+      record {
+        before = r .before;
+        after = r .after;
+        list = r .list;
+        ticket = ap (λ (c : List X). skipOver t (struckFrom P v 0 c)) (r .list) ∙ q .0 ∙ omega arith;
+        own = q .1;
+        place = r .place;
+      }
+
+  pub skip-over-lt : (l : List X) (t : ℕ) → t < sumOver (unstruck P v) l → skipOver t (struckFrom P v 0 l) < sumOver v l
+  skip-over-lt [] t h = absurd (omega arith)
+  skip-over-lt (x ∷ l) t h = let r = struck-owns (owned {u = v} (x ∷ l) t x h) in omega (arith, owns-inside r, r .own)
+
+  -- what is struck and what is not make the whole
+  pub unstruck-sum : (k : ℕ) (l : List X) → sumOver (unstruck P v) l + sumOver (λ (e : ℕ × ℕ). e .1) (struckFrom P v k l) ≡ sumOver v l
+  unstruck-sum k [] = refl
+  unstruck-sum k (x ∷ l) = go (P x) (unstruck-sum (k + v x) l)
+    where
+      go : (b : Bool) → sumOver (unstruck P v) l + sumOver (λ (e : ℕ × ℕ). e .1) (struckFrom P v (k + v x) l) ≡ sumOver v l
+          → cond b (v x) 0 + sumOver (unstruck P v) l
+          + sumOver (λ (e : ℕ × ℕ). e .1) (cond b (struckFrom P v (k + v x) l) ((k, v x) ∷ struckFrom P v (k + v x) l))
+          ≡ v x + sumOver v l
+      go true e = omega arith
+      go false e = omega arith
+
+  -- ---- the ticket list of what is kept
+
+  pub tickets-keep : (l : List X) → tickets v (keep P l) ≡ tickets (unstruck P v) l
+  tickets-keep [] = refl
+  tickets-keep (x ∷ l) = go (P x) (tickets-keep l)
+    where
+      go : (b : Bool) → tickets v (keep P l) ≡ tickets (unstruck P v) l
+          → tickets v (cond b (x ∷ keep P l) (keep P l)) ≡ replicate (cond b (v x) 0) x ++ tickets (unstruck P v) l
+      go true e = rw e
+      go false e = e
+
+  -- its ticket t is ticket `skipOver t` of all; past the end of one it is past the end of the other
+  pub tickets-keep-at : (l : List X) (t : ℕ) (z : X) → getD (tickets v (keep P l)) t z ≡ getD (tickets v l) (skipOver t (struckFrom P v 0 l)) z
+  tickets-keep-at l t z =
+      let s = skipOver t (struckFrom P v 0 l) in
+      rw (tickets-keep l)
+      (elim (decLt t (sumOver (unstruck P v) l)) [
+        | yes h ↦
+            tickets-at (unstruck P v) l t z
+            ∙ sym (owns-owner (struck-owns (owned {u = v} l t z h)) z)
+            ∙ sym (tickets-at v l s z)
+        | no h ↦
+            List·getD-eq-default (tickets (unstruck P v) l) z {n = t} (omega (arith, tickets-length (unstruck P v) l))
+            ∙ sym (List·getD-eq-default (tickets v l) z {n = s} (omega (arith, tickets-length v l, skip-past t 0 l (omega arith))))
+      ])
+
+-- ---- other tests and other lists
+
+module _ {X : Type 0} (P Q : X → Bool) (v : X → ℕ) where
+  pub struck-alike : (k : ℕ) (l : List X) → ((x : X) → x ∈ l → P x ≡ Q x) → struckFrom P v k l ≡ struckFrom Q v k l
+  struck-alike k [] h = refl
+  struck-alike k (x ∷ l) h = rw (h x (List·Memᴰ·head refl), struck-alike (k + v x) l (λ y m. h y (List·Memᴰ·tail m)))
+
+  -- elements that weigh nothing may be struck or not
+  pub tickets-alike : (l : List X) → ((x : X) → x ∈ l → unstruck P v x ≡ unstruck Q v x) → tickets v (keep P l) ≡ tickets v (keep Q l)
+  tickets-alike l h =
+      tickets-keep P v l
+      ∙ concat-ext (λ x. replicate (unstruck P v x) x) (λ x. replicate (unstruck Q v x) x) l (λ x m. ap (λ (n : ℕ). replicate n x) (h x m))
+      ∙ sym (tickets-keep Q v l)
+
+module _ {X Y : Type 0} (f : X → Y) (P : Y → Bool) (v : Y → ℕ) where
+  pub struck-map : (k : ℕ) (l : List X) → struckFrom P v k (map f l) ≡ struckFrom (λ x. P (f x)) (λ x. v (f x)) k l
+  struck-map k [] = refl
+  struck-map k (x ∷ l) = rw (struck-map (k + v (f x)) l)
+
+-- ---- what the draws find
+
+module _ {X : Type 0} where
+  numbered-at : (k : ℕ) (l : List X) (i : ℕ) (z : X) (e : ℕ × X) → i < length l → getD (numbered k l) i e ≡ (k + i, getD l i z)
+  numbered-at k [] i z e h = absurd (omega arith)
+  numbered-at k (x ∷ l) zero z e h = let q : k + 0 ≡ k = omega arith in rw q
+  numbered-at k (x ∷ l) (suc i) z e h =
+      let q : k + suc i ≡ suc k + i = omega arith in rw q (numbered-at (suc k) l i z e (omega arith))
+
+  -- without the places it is the list; so its tickets are the list's
+  unnumbered : (k : ℕ) (l : List X) → map (λ (e : ℕ × X). e .1) (numbered k l) ≡ l
+  unnumbered k [] = refl
+  unnumbered k (x ∷ l) = rw (unnumbered (suc k) l)
+
+  pub numbered-sum : (v : X → ℕ) (k : ℕ) (l : List X) → sumOver (λ (e : ℕ × X). v (e .1)) (numbered k l) ≡ sumOver v l
+  numbered-sum v k l = sym (sum-map (λ (e : ℕ × X). e .1) v (numbered k l)) ∙ ap (sumOver v) (unnumbered k l)
+
+  numbered-ahead : (v : X → ℕ) (k : ℕ) (l : List X) (t : ℕ) → length (ahead (λ (e : ℕ × X). v (e .1)) (numbered k l) t) ≡ length (ahead v l t)
+  numbered-ahead v k l t =
+      sym (length-map (ahead (λ (e : ℕ × X). v (e .1)) (numbered k l) t) (λ (e : ℕ × X). e .1))
+      ∙ ap length (sym (ahead-map (λ (e : ℕ × X). e .1) v (numbered k l) t))
+      ∙ ap (λ (m : List X). length (ahead v m t)) (unnumbered k l)
+
+  numbered-struck : (P : X → Bool) (v : X → ℕ) (k j : ℕ) (l : List X)
+      → struckFrom (λ (e : ℕ × X). P (e .1)) (λ (e : ℕ × X). v (e .1)) k (numbered j l) ≡ struckFrom P v k l
+  numbered-struck P v k j l = sym (struck-map (λ (e : ℕ × X). e .1) P v k (numbered j l)) ∙ ap (struckFrom P v k) (unnumbered j l)
+
+module _ {X : Type 0} (P : X → Bool) (v : X → ℕ) (l : List X) (z : X) where
+  -- draw q: the place and the element that own the skip of q
+  abbrev pub drawn : ℕ → ℕ × X
+  drawn q = let t = skipOver q (struckFrom P v 0 l) in (place v (λ x. 1) l t, owner v l t z)
+
+  -- what is kept, each element with its place, as often as it weighs
+  abbrev pub kept : List (ℕ × X)
+  kept = tickets (λ (e : ℕ × X). v (e .1)) (keep (λ (e : ℕ × X). P (e .1)) (numbered 0 l))
+
+  pub kept-length : length kept ≡ sumOver (unstruck P v) l
+  kept-length =
+      ap length (tickets-keep (λ (e : ℕ × X). P (e .1)) (λ (e : ℕ × X). v (e .1)) (numbered 0 l))
+      ∙ tickets-length (λ (e : ℕ × X). unstruck P v (e .1)) (numbered 0 l)
+      ∙ numbered-sum (unstruck P v) 0 l
+
+  pub drawn-at : (q : ℕ) → q < sumOver (unstruck P v) l → getD kept q (0, z) ≡ drawn q
+  drawn-at q h =
+      let t = skipOver q (struckFrom P v 0 l) in
+      let o = struck-owns P v (owned {u = λ x. 1} l q z h) in
+      let i : length (ahead v l t) < length l = omega (arith, owns-place o, place-inside o, sum-one l, sum-one (ahead v l t)) in
+      let e : 0 + length (ahead v l t) ≡ place v (λ x. 1) l t = omega (arith, sum-one (ahead v l t)) in
+      tickets-keep-at (λ (e : ℕ × X). P (e .1)) (λ (e : ℕ × X). v (e .1)) (numbered 0 l) q (0, z)
+      ∙ ap (λ (s : List (ℕ × ℕ)). getD (tickets (λ (e : ℕ × X). v (e .1)) (numbered 0 l)) (skipOver q s) (0, z)) (numbered-struck P v 0 0 l)
+      ∙ tickets-at (λ (e : ℕ × X). v (e .1)) (numbered 0 l) t (0, z)
+      ∙ ap (λ (j : ℕ). getD (numbered 0 l) j (0, z)) (numbered-ahead v 0 l t)
+      ∙ numbered-at 0 l (length (ahead v l t)) z (0, z) i
+      ∙ ap (λ (j : ℕ). (j, owner v l t z)) e
+
+  -- the draws 0, 1, .. find what is kept
+  pub draws : map drawn (upFrom 0 (sumOver (unstruck P v) l)) ≡ kept
+  draws =
+      rw (← kept-length)
+      (ext-getD (0, z) (map drawn (upFrom 0 (length kept))) kept (omega (arith, size))
+      (λ i h.
+      let k : i < length kept = omega (arith, size) in
+      let u : i < length (upFrom 0 (length kept)) = omega (arith, length-upFrom 0 (length kept)) in
+      let e : getD (upFrom 0 (length kept)) i 0 ≡ i = omega (arith, getD-upFrom 0 (length kept) i 0 k) in
+      getD-map drawn (upFrom 0 (length kept)) i 0 (0, z) u ∙ ap drawn e ∙ sym (drawn-at i (omega (arith, kept-length)))))
+    where
+      size : length (map drawn (upFrom 0 (length kept))) ≡ length kept
+      size = omega (arith, length-map (upFrom 0 (length kept)) drawn, length-upFrom 0 (length kept))
+
+-- ---- the struck entries
+
+-- a ends before b begins
+abbrev pub Apart : ℕ × ℕ → ℕ × ℕ → Type 0
+Apart a b = a .0 + a .1 ≤ b .0
+
+-- a begins before b
+abbrev pub Below : ℕ × ℕ → ℕ × ℕ → Type 0
+Below a b = a .0 < b .0
+
+apart-below : (l : List (ℕ × ℕ)) → Pairwise Apart l → ((e : ℕ × ℕ) → e ∈ l → 0 < e .1) → Pairwise Below l
+apart-below [] s h = none
+apart-below (x ∷ l) (more f s) h =
+    more {x = x} {l = l} (λ y m. omega (arith, f y m, h x (List·Memᴰ·head refl))) (apart-below l s (λ e m. h e (List·Memᴰ·tail m)))
+
+module _ {X : Type 0} (P : X → Bool) (v : X → ℕ) where
+  -- an element that fails, in a list whose first ticket is k
+  abbrev From : ℕ → List X → ℕ × ℕ → Type 0
+  From k l e = (b : List X) × (x : X) × (a : List X) × (l ≡ b ++ x ∷ a) × (P x ≡ false) × (e ≡ (k + sumOver v b, v x))
+
+  struck-from : (k : ℕ) (l : List X) (e : ℕ × ℕ) → e ∈ struckFrom P v k l → From k l e
+  struck-from k [] e m = absurd (List·Memᴰ·not-nil m)
+  struck-from k (x ∷ l) e m = go (P x) refl (struck-from (k + v x) l e) m
+    where
+      later : From (k + v x) l e → From k (x ∷ l) e
+      later q =
+          let s : k + v x + sumOver v (q .0) ≡ k + (v x + sumOver v (q .0)) = omega arith in
+          (x ∷ q .0, q .1, q .2, ap (λ (c : List X). x ∷ c) (q .3), q .4, rw s at (q .5))
+
+      go : (b : Bool) → P x ≡ b → (e ∈ struckFrom P v (k + v x) l → From (k + v x) l e)
+          → e ∈ cond b (struckFrom P v (k + v x) l) ((k, v x) ∷ struckFrom P v (k + v x) l) → From k (x ∷ l) e
+      go true p ih n = later (ih n)
+      go false p ih n =
+          elim (List·Memᴰ·cases-cons n) [
+            | inl q ↦ let s : k + 0 ≡ k = omega arith in ([], x, l, refl, p, rw s q)
+            | inr q ↦ later (ih q)
+          ]
+
+  from-struck : (k : ℕ) (b : List X) (x : X) (a : List X) → P x ≡ false → (k + sumOver v b, v x) ∈ struckFrom P v k (b ++ x ∷ a)
+  from-struck k [] x a p = let s : k + 0 ≡ k = omega arith in rw (p, s) (List·Memᴰ·head refl)
+  from-struck k (y ∷ b) x a p = let s : k + (v y + sumOver v b) ≡ k + v y + sumOver v b = omega arith in rw s (go (P y) (from-struck (k + v y) b x a p))
+    where
+      go : (c : Bool) → (k + v y + sumOver v b, v x) ∈ struckFrom P v (k + v y) (b ++ x ∷ a)
+          → (k + v y + sumOver v b, v x) ∈ cond c (struckFrom P v (k + v y) (b ++ x ∷ a)) ((k, v y) ∷ struckFrom P v (k + v y) (b ++ x ∷ a))
+      go true m = m
+      go false m = List·Memᴰ·tail m
+
+  -- they are just the elements that fail
+  pub struck-∈ : (l : List X) (e : ℕ × ℕ) → e ∈ struckFrom P v 0 l ↔ StruckAs P v l e
+  struck-∈ l e = (
+    (λ m.
+        let q = struck-from 0 l e m in
+        let s : 0 + sumOver v (q .0) ≡ sumOver v (q .0) = omega arith in
+        record { before = q .0; at = q .1; after = q .2; list = q .3; fails = q .4; entry = rw s at (q .5) }),
+    (λ r.
+        let s : 0 + sumOver v (r .before) ≡ sumOver v (r .before) = omega arith in
+        rw (r .list, r .entry) (rw s at (from-struck 0 (r .before) (r .at) (r .after) (r .fails)))),
+  )
+
+  pub struck-at-∈ : {l : List X} {e : ℕ × ℕ} (r : StruckAs P v l e) → r .at ∈ l
+  struck-at-∈ r = rw (r .list) (Memᴰ·append-right (r .before) (List·Memᴰ·head refl))
+
+  -- no two overlap, and those with some weight rise
+  pub struck-apart : (k : ℕ) (l : List X) → Pairwise Apart (struckFrom P v k l)
+  struck-apart k [] = none
+  struck-apart k (x ∷ l) = go (P x) (struck-apart (k + v x) l)
+    where
+      go : (b : Bool) → Pairwise Apart (struckFrom P v (k + v x) l)
+          → Pairwise Apart (cond b (struckFrom P v (k + v x) l) ((k, v x) ∷ struckFrom P v (k + v x) l))
+      go true s = s
+      go false s = more {x = (k, v x)} (λ e m. let q = struck-from (k + v x) l e m in omega (arith, ap (λ (c : ℕ × ℕ). c .0) (q .5))) s
+
+  pub struck-below : (l : List X) → ((x : X) → x ∈ l → P x ≡ false → 0 < v x) → Pairwise Below (struckFrom P v 0 l)
+  struck-below l some = apart-below (struckFrom P v 0 l) (struck-apart 0 l) (λ e m. positive e (struck-∈ l e .0 m))
+    where
+      positive : (e : ℕ × ℕ) → StruckAs P v l e → 0 < e .1
+      positive e q = omega (arith, some (q .at) (struck-at-∈ q) (q .fails), ap (λ (c : ℕ × ℕ). c .1) (q .entry))
+
+  -- any rising list of just these is the list of them
+  pub struck-unique : (l : List X) (bad : List (ℕ × ℕ)) → ((x : X) → x ∈ l → P x ≡ false → 0 < v x) → Pairwise Below bad
+      → ((e : ℕ × ℕ) → e ∈ bad ↔ StruckAs P v l e) → bad ≡ struckFrom P v 0 l
+  struck-unique l bad some rising h =
+      order-unique Below (λ x y a b. omega arith) (λ x y a e. omega (arith, ap (λ (c : ℕ × ℕ). c .0) e)) bad (struckFrom P v 0 l) rising
+      (struck-below l some) (λ e m. struck-∈ l e .1 (h e .0 m)) (λ e m. h e .1 (struck-∈ l e .0 m))
+
+-- an owner that fails is struck, by the measure
+module _ {X : Type 0} {v u : X → ℕ} {l : List X} {t : ℕ} {x : X} {n o : ℕ} where
+  pub by-strike : (P : X → Bool) → P x ≡ false → Owns v u l t x n o → StruckAs P u l (n, u x)
+  by-strike P e r = record { before = r .before; at = x; after = r .after; list = r .list; fails = e; entry = rw (r .place) }
+
+-- ---- the skip, as a search by halves meets it
+
+-- what the first k entries weigh
+abbrev pub gone : ℕ → List (ℕ × ℕ) → ℕ
+gone k l = sumOver (λ (e : ℕ × ℕ). e .1) (take k l)
+
+-- the first tickets, each less what the entries before it weigh, rise
+pub apart-gap : (l : List (ℕ × ℕ)) (z : ℕ × ℕ) (i j : ℕ) → Pairwise Apart l → i ≤ j → j < length l → getD l i z .0 + gone j l ≤ getD l j z .0 + gone i l
+apart-gap [] z i j s h k = absurd (omega arith)
+apart-gap (x ∷ l) z zero zero s h k = omega arith
+apart-gap (x ∷ l) z zero (suc zero) (more f s) h k = omega (arith, f (getD l 0 z) (getD-∈ l 0 z (omega arith)))
+apart-gap (x ∷ l) z zero (suc (suc j)) (more f s) h k =
+    omega (arith, f (getD l 0 z) (getD-∈ l 0 z (omega arith)), apart-gap l z 0 (suc j) s (omega arith) (omega arith))
+apart-gap (x ∷ l) z (suc i) zero s h k = absurd (omega arith)
+apart-gap (x ∷ l) z (suc i) (suc j) (more f s) h k = omega (arith, apart-gap l z i j s (omega arith) (omega arith))
+
+-- where they are at most t for the first k entries, and above t for the next, the skip passes just these k
+pub skip-over-at : (l : List (ℕ × ℕ)) (z : ℕ × ℕ) (t k : ℕ) → k ≤ length l → ((i : ℕ) → i < k → getD l i z .0 ≤ t + gone i l)
+    → (k < length l → t + gone k l < getD l k z .0) → skipOver t l ≡ t + gone k l
+skip-over-at [] z t zero h f g = omega arith
+skip-over-at [] z t (suc k) h f g = absurd (omega arith)
+skip-over-at (x ∷ l) z t zero h f g = rw (lt-leb (x .0) t (omega (arith, g (omega arith)))) (omega arith)
+skip-over-at (x ∷ l) z t (suc k) h f g =
+    rw (le-leb (x .0) t (omega (arith, f 0 (omega arith))))
+    (omega (
+      arith,
+      skip-over-at l z (t + x .1) k (omega arith) (λ i m. omega (arith, f (suc i) (omega arith))) (λ m. omega (arith, g (omega arith))),
+    ))

@@ -1,0 +1,232 @@
+-- What *Give* and *Number* ask of the chart and the walk, and what these then say: by the counts entry d itself, by a sentence's letters how
+-- many derivations it has and the place of the first.
+-- Assumes nothing.
+use mathlib.Core.Path.{_≡_, refl, sym, ap, _∙_}
+use mathlib.Core.Bool.{true}
+use mathlib.Core.List.{List, []}
+use Prim.Native.Nat.{ℕ, zero, _+_, _-_, _/_, _%_, _≤_, _<_}
+use native.Mathlib.Omega.{arith}
+use native.Mathlib.Nat.{sub-zero}
+use lib.ListN.{length, getD, drop, replicate, length-replicate}
+use borrow.Rule.Slice.PartMut.{postOf}
+use Rattle.lists.specs.Tables.{entry}
+use Rattle.lists.proofs.Tables.{wide-made, made-entry}
+use Rattle.grammar.specs.Rules.{startIn, countIn, ruled}
+use Rattle.counting.specs.Owned.{OwnedAs}
+use Rattle.counting.specs.Counted.{countAt, Asked, Counted}
+use Rattle.grammar.proofs.Kept.{ruled-same}
+use Rattle.counting.specs.Prepared.{Prepares}
+use Rattle.counting.specs.declared.prepare.Prepared.{Prepared}
+use Rattle.counting.specs.declared.prepare.Prepared.the-variants.{Ready as Passed}
+use Rattle.counting.proofs.Asking.{counted-copied}
+use Rattle.charts.proofs.Placing.{room-short, room-low}
+use Rattle.charts.specs.Letters.{any, letterAt, weightBy}
+use Rattle.charts.specs.Maps.{totalAt, Span, Mapped, Everywhere, Spelt}
+use Rattle.charts.specs.Plan.{lengthIn, chartRow, needed}
+use Rattle.charts.specs.Chart.{Blank, Fills, Filled}
+use Rattle.charts.specs.Ready.{Ready}
+use Rattle.charts.proofs.Mapping.{everywhere-total, everywhere-mapped, all-closed, planned-closed, planned-same}
+use Rattle.walk.specs.Sought.{Hand, Sought}
+use Rattle.walk.specs.Steps.{Placed}
+use Rattle.ranking.specs.Inside.{totalIn, entryIn, readingsIn, numberIn, rankIn, WriteSought}
+use Rattle.ranking.specs.Ranking.{FindSought, Says, FoundAs, Roomy, NumberSought}
+use Rattle.ranking.specs.declared.rank.Found.{Found}
+use Rattle.ranking.proofs.Weighing.{given, readings-weigh, numbered}
+
+-- ---- the start symbol over all positions
+
+module _ {rules totals : List (List ℕ)} {n : ℕ} (c : Counted rules totals n) where
+  pub start-asked : Asked rules n (startIn rules) n
+  start-asked = record { inside = c .table .starts; some = c .some; short = omega arith }
+
+  pub whole : Span n 0 n
+  whole = record { some = c .some; inside = omega arith }
+
+  -- T from the table
+  pub total-asks : (s : ℕ) → s ≡ startIn rules → (17 ≤ length totals) × (s < 32) × (n ≤ 16)
+  total-asks s e = (c .long, omega (arith, c .table .starts, c .table .few), c .short)
+
+  pub total-given : (s : ℕ) → s ≡ startIn rules → (x : ℕ) → x ≡ countAt totals s n → x ≡ totalIn rules n
+  total-given s e x f = f ∙ ap (λ (a : ℕ). countAt totals a n) e ∙ c .right (startIn rules) n start-asked
+
+-- ---- *Give*
+
+-- what follows the part that was lent
+pub rest-kept : (n : ℕ) (out : List ℕ) → postOf 0 (n - 0) out ≡ drop n out
+rest-kept n out = rw sub-zero
+
+module _ {rules totals counts : List (List ℕ)} {n d : ℕ} {out : List ℕ} (w : WriteSought rules totals n d out) (e : Everywhere counts) where
+  abbrev give-hand : Hand rules totals counts counts n
+  give-hand =
+      let c = w .counted in
+      let m = everywhere-mapped rules e c (λ p m. true) in
+      let letter : (p : ℕ) → p < n → letterAt counts p ≡ 256 = λ p h. e .letter p (omega (arith, c .short)) in
+      record {
+        counted = c;
+        known = λ p m. true;
+        closed = all-closed rules n;
+        by = m;
+        to = m;
+        linked = λ p h l. absurd (omega (arith, letter p h));
+        weights = λ p h l. absurd (omega (arith, letter p h));
+        measures = λ p h l. absurd (omega (arith, letter p h));
+      }
+
+  pub give-sought : (s : ℕ) → s ≡ startIn rules → Sought rules totals counts counts s 0 n d
+  give-sought s q =
+      rw q
+      (record {
+        n = n;
+        hand = give-hand;
+        asked = start-asked (w .counted);
+        span = whole (w .counted);
+        known = refl;
+        inside = rw (everywhere-total rules e 0 (startIn rules) n (omega (arith, w .counted .short))) (w .inside);
+      })
+
+  pub give-found : (s : ℕ) → s ≡ startIn rules → {words : List ℕ} {place measured weight offset : ℕ}
+      → OwnedAs (ruled rules) (weightBy rules counts) (weightBy rules counts) s 0 n d words place measured weight offset → words ≡ entryIn rules n d
+  give-found s q r = given rules e n (w .counted .short) (rw q at r)
+
+-- ---- *Number*
+
+module _ {rules plan map counts : List (List ℕ)} {s : List ℕ} {totals : List (List ℕ)} (f : FindSought rules plan map counts s totals) where
+  short : length s ≤ 16
+  short = f .ready .blank .counted .short
+
+  -- the letters are the sentence's
+  module _ {spelt : List (List ℕ)} (p : Spelt s map spelt) where
+    ready-spelt : Ready rules plan spelt totals (length s)
+    ready-spelt = record {
+      blank = f .ready .blank;
+      linked = f .ready .linked;
+      planned = planned-same spelt (p .kept) (f .ready .planned);
+      long = p .long;
+      wide = p .wide;
+    }
+
+    pub fill-asks : Fills rules plan spelt (lengthIn plan) totals
+    fill-asks =
+        rw (f .ready .planned .length)
+        (record { blank = f .ready .blank; planned = ready-spelt .planned; linked = f .ready .linked; letters = λ i h. omega (arith, p .small i h) })
+
+    -- and the chart is filled
+    module _ {after : List (List ℕ)} (q : Filled rules plan spelt (lengthIn plan) totals after) where
+      mapped : Mapped rules after spelt (length s) (needed plan)
+      mapped = rw (f .ready .planned .length) at (q .mapped)
+
+      counted : Counted rules after (length s)
+      counted =
+          let c = f .ready .blank .counted in
+          counted-copied c (omega (arith, q .long, c .long)) (q .wide) (record { long = refl; rows = λ r h. q .kept r (omega (arith, short)); rest = λ r h. refl })
+
+      pub ready-after : Ready rules plan spelt after (length s)
+      ready-after =
+          let b = f .ready .blank in
+          record {
+            blank = record {
+              counted = counted;
+              zeros = λ A. ap (λ (l : List ℕ). getD l A 0) (q .kept 17 (omega arith)) ∙ b .zeros A;
+              room = omega (arith, q .long, b .room);
+            };
+            linked = f .ready .linked;
+            planned = ready-spelt .planned;
+            long = p .long;
+            wide = p .wide;
+          }
+
+      abbrev hand : Hand rules after spelt counts (length s)
+      hand = record {
+        counted = counted;
+        known = needed plan;
+        closed = planned-closed short (ready-spelt .planned);
+        by = mapped;
+        to = everywhere-mapped rules (f .everywhere) counted (needed plan);
+        linked = λ i h l. f .ready .linked;
+        weights = λ i h l. absurd (omega (arith, p .small i h));
+        measures = λ i h l. absurd (omega (arith, f .everywhere .letter i (omega (arith, short))));
+      }
+
+      module _ (a : ℕ) (e : a ≡ startIn rules) where
+        pub count-asks : Placed after spelt a 0 (length s)
+        count-asks = rw e
+            (record {
+              wide = counted .wide;
+              low = mapped .low 0 (length s) (whole counted);
+              inside = omega (arith, counted .table .starts, counted .table .few);
+              early = omega arith;
+              short = short;
+            })
+
+        pub count-is : (x : ℕ) → x ≡ totalAt after spelt 0 a (length s) → x ≡ readingsIn rules s
+        count-is x h =
+            h
+            ∙ ap (λ (b : ℕ). totalAt after spelt 0 b (length s)) e
+            ∙ mapped .right 0 (startIn rules) (length s) (start-asked counted) (whole counted) (f .ready .planned .cut .whole)
+            ∙ readings-weigh rules (f .everywhere) (length s) short spelt s refl (p .letters) (p .small)
+
+        pub find-sought : 1 ≤ readingsIn rules s → Sought rules after spelt counts a 0 (length s) 0
+        find-sought h =
+            rw e
+            (record {
+              n = length s;
+              hand = hand;
+              asked = start-asked counted;
+              span = whole counted;
+              known = f .ready .planned .cut .whole;
+              inside = rw (readings-weigh rules (f .everywhere) (length s) short spelt s refl (p .letters) (p .small)) h;
+            })
+
+        pub found-number : {words : List ℕ} {place measured weight offset : ℕ}
+            → OwnedAs (ruled rules) (weightBy rules spelt) (weightBy rules counts) a 0 (length s) 0 words place measured weight offset → place ≡ numberIn rules s
+        found-number r = numbered rules (f .everywhere) (length s) short spelt s refl (p .letters) (p .small) (rw e at r)
+
+-- ---- the tables, once 1 to 10 are passed
+
+-- zeros where the links go, and above the counts, stay what they are
+pub prepared-sought : {g : List ℕ} {s : List ℕ} {rules₀ rules totals₀ totals : List (List ℕ)} → ((r i : ℕ) → entry rules₀ r i ≡ 0) → 13 ≤ length rules₀ → Roomy (length s) totals₀
+    → {r : Prepared} → Prepares g (length s) rules₀ rules totals₀ totals r → r ≡ Passed → NumberSought rules s totals
+prepared-sought {s = s} {rules₀} {rules} {totals₀} {totals} zeros long t p e =
+    let c = p .ready e .counted in
+    let row : (r i : ℕ) → 4 ≤ r → entry rules r i ≡ 0 = λ r i h. ap (λ (l : List ℕ). getD l i 0) (p .rules-kept .rest r h) ∙ zeros r i in
+    record {
+      blank = record {
+        counted = c;
+        zeros = λ A. ap (λ (l : List ℕ). getD l A 0) (p .totals-kept .rest 17 (omega arith)) ∙ t .zeros 17 A;
+        room = omega (arith, t .long (c .short), p .totals-kept .long);
+      };
+      unlinked = record {
+        table = c .table;
+        long = omega (arith, p .rules-kept .long);
+        no-words = λ x h. row 4 x (omega arith);
+        no-pairs = λ x h. row (9 + x / 256) (x % 256) (omega arith);
+      };
+    }
+
+-- linking keeps what *Number* answers
+pub rank-kept : (rules after : List (List ℕ)) (s : List ℕ) → ((r : ℕ) → r < 4 → getD after r [] ≡ getD rules r []) → rankIn after s ≡ rankIn rules s
+unfolding rankIn
+rank-kept rules after s same =
+    let start-is : startIn after ≡ startIn rules = ap (λ (l : List ℕ). getD l 128 0) (same 3 (omega arith)) in
+    rw (ruled-same rules after same, start-is)
+
+-- room for the chart of five positions, and of sixteen
+pub roomy-short : (n : ℕ) → n ≤ 5 → Roomy n (replicate 33 (replicate 32 0))
+roomy-short n h = record {
+  wide = wide-made 33 32 0;
+  zeros = made-entry 33 32;
+  long = λ l. omega (arith, room-short n h, length-replicate 33 (replicate 32 zero));
+  counts = omega (arith, length-replicate 33 (replicate 32 zero));
+}
+
+pub roomy-long : (n : ℕ) → Roomy n (replicate 154 (replicate 32 0))
+roomy-long n = record {
+  wide = wide-made 154 32 0;
+  zeros = made-entry 154 32;
+  long = λ l. omega (arith, room-low n l, length-replicate 154 (replicate 32 zero));
+  counts = omega (arith, length-replicate 154 (replicate 32 zero));
+}
+
+-- what is found, once its case is known
+pub found-case : {rules plan map : List (List ℕ)} {s : List ℕ} {totals : List (List ℕ)} {f d : Found} → FoundAs rules plan map s totals f → f ≡ d → Says rules s d
+found-case q e = (rw e at q) .says

@@ -1,4 +1,0 @@
-pub mod Pattern
-pub mod Keyed
-pub mod Plan
-pub mod Rows

@@ -1,0 +1,99 @@
+-- From the counts and an accepted history to the collecting of its numbers: the tables are copied to where there is room for links and charts,
+-- and what is collected by the copies is what the rules themselves say.
+-- Assumes nothing.
+use mathlib.Core.Path.{_≡_, refl, sym, ap, _∙_}
+use mathlib.Core.List.{List, []}
+use Prim.Native.Nat.{ℕ, zero, _+_, _/_, _%_, _≤_, _<_}
+use native.Mathlib.Omega.{arith}
+use lib.ListN.{length, getD, replicate, length-replicate}
+use lib.Dec.{leb}
+use Rattle.lists.specs.Tables.{entry, Wide, Copied}
+use Rattle.lists.proofs.Sums.{concat-ext}
+use Rattle.lists.proofs.Tests.{some-ext}
+use Rattle.lists.proofs.Tables.{copied-wide, wide-made, made-entry}
+use Rattle.grammar.specs.Rules.{startIn, ruled}
+use Rattle.grammar.proofs.Kept.{ruled-same, ruled-kept}
+use Rattle.counting.specs.Counted.{Counted}
+use Rattle.counting.proofs.Asking.{counted-copied, counted-kept}
+use Rattle.charts.specs.Maps.{Everywhere}
+use Rattle.charts.specs.Plan.{lengthIn}
+use Rattle.charts.specs.Ready.{Ready, Readies, Readied}
+use Rattle.ranking.specs.Inside.{readingsIn}
+use Rattle.ranking.specs.Ranking.{Roomy}
+use Rattle.history.specs.Heard.{sentences}
+use Rattle.sampling.specs.Unheard.{ofLength}
+use Rattle.sampling.specs.Hearing.{numbersIn, ambiguousIn, Collects, Holds, CollectedAs}
+use Rattle.sampling.specs.Preparing.{Hears}
+use Rattle.sampling.specs.declared.heard.Collected.{Collected}
+use Rattle.sampling.specs.declared.heard.Collected.the-variants.{Numbers, Ambiguous}
+use Rattle.sampling.proofs.Hearing.{collect-case}
+
+-- a table of rules with room for links
+abbrev bare : List (List ℕ)
+bare = replicate 13 (replicate 256 0)
+
+module _ {rules plain : List (List ℕ)} {h : List ℕ} {n : ℕ} {numbers : List ℕ} {totals : List (List ℕ)} (w : Hears rules plain h n numbers) (t : Roomy n totals) where
+  pub counts-asked : (n ≤ 16) × (17 ≤ length plain) × (17 ≤ length totals)
+  counts-asked = (w .counted .short, w .counted .long, omega (arith, t .counts))
+
+  module _ {copied linked : List (List ℕ)} (c : Copied (n + 1) plain totals copied) (k : Copied 4 rules bare linked) where
+    counts : Counted rules copied n
+    counts = counted-copied (w .counted) (counts-asked .2) (t .wide) c
+
+    linked-long : length linked ≡ 13
+    linked-long = k .long ∙ length-replicate 13 (replicate 256 zero)
+
+    linked-wide : Wide linked 256
+    linked-wide = copied-wide (w .counted .table .long) (w .counted .table .wide) (wide-made 13 256 0) k
+
+    clear : (r i : ℕ) → 4 ≤ r → entry linked r i ≡ 0
+    clear r i l = ap (λ (q : List ℕ). getD q i 0) (k .rest r l) ∙ made-entry 13 256 r i
+
+    pub asks-ready : {plan map : List (List ℕ)} → length plan ≡ 4 → length map ≡ 17 → Wide map 16 → Readies linked copied n plan map
+    asks-ready a b d =
+        let long : 4 ≤ length linked = omega (arith, linked-long) in
+        record {
+          blank = record {
+            counted = counted-kept long linked-wide (k .rows) counts;
+            zeros = λ A. ap (λ (q : List ℕ). getD q A 0) (c .rest 17 (omega (arith, w .counted .short))) ∙ t .zeros 17 A;
+            room = omega (arith, t .long (w .counted .short), c .long);
+          };
+          unlinked = record {
+            table = ruled-kept long linked-wide (k .rows) (w .counted .table);
+            long = omega (arith, linked-long);
+            no-words = λ x l. clear 4 x (omega arith);
+            no-pairs = λ x l. clear (9 + x / 256) (x % 256) (omega arith);
+          };
+          plan-long = a;
+          map-long = b;
+          map-wide = d;
+        }
+
+    module _ {after plan map : List (List ℕ)} (r : Readied linked after plan map copied n) where
+      length-is : lengthIn plan ≡ n
+      length-is = r .ready .planned .length
+
+      pub asks-collect : {counts : List (List ℕ)} → Everywhere counts → Collects after plan map counts h copied numbers
+      asks-collect e = record { ready = rw length-is (r .ready); everywhere = e; diary = w .diary; room = w .room }
+
+      -- the copies have the rules
+      same : (q : ℕ) → q < 4 → getD after q [] ≡ getD rules q []
+      same q l = r .kept q l ∙ k .rows q l
+
+      pub collected-is : {numbers′ : List ℕ} {c d : Collected} → CollectedAs after plan h numbers′ c → c ≡ d → Holds rules h n numbers′ d
+      collected-is {numbers′} {d = d} q e =
+          let start-is : startIn after ≡ startIn rules = ap (λ (l : List ℕ). getD l 128 0) (same 3 (omega arith)) in
+          kept (ruled-same rules after same) start-is d (rw length-is at (collect-case q e))
+        where
+          readings : ruled after ≡ ruled rules → startIn after ≡ startIn rules → (s : List ℕ) → readingsIn after s ≡ readingsIn rules s
+          readings f g s = rw (f, g)
+
+          added : ruled after ≡ ruled rules → startIn after ≡ startIn rules → (s : List ℕ) → numbersIn after n s ≡ numbersIn rules n s
+          added f g s = rw (f, g)
+
+          ambiguity : ruled after ≡ ruled rules → startIn after ≡ startIn rules → ambiguousIn after h n ≡ ambiguousIn rules h n
+          ambiguity f g = some-ext (λ s. leb 2 (readingsIn after s)) (λ s. leb 2 (readingsIn rules s)) (ofLength n h) (λ s m. ap (leb 2) (readings f g s))
+
+          kept : ruled after ≡ ruled rules → startIn after ≡ startIn rules → (d : Collected) → Holds after h n numbers′ d → Holds rules h n numbers′ d
+          kept f g (Numbers k) x = (sym (ambiguity f g) ∙ x .0, x .1, x .2 ∙ concat-ext (numbersIn after n) (numbersIn rules n) (sentences h) (λ s m. added f g s))
+          kept f g Ambiguous x = sym (ambiguity f g) ∙ x

@@ -1,0 +1,4 @@
+// What *Left* and *Draw* are asked: numbers from outside, as they come.
+pub struct Question {
+    pub length: u64,
+}

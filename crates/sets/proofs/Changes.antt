@@ -1,0 +1,63 @@
+-- What the contracts of the operations say of single members: one member more, two sets together, a set moved; none, and some.
+-- Assumes nothing.
+use mathlib.Core.Path.{_≡_, refl, sym, _∙_}
+use mathlib.Core.Bool.{true, _&&_, _||_, false≢true}
+use mathlib.Core.Logic.{_⊎_, inl, inr}
+use mathlib.Core.List.{List, [], _∷_, List·Memᴰ·head, List·Memᴰ·not-nil}
+use Prim.Native.Nat.{ℕ, _+_, _-_, _≤_, _<_}
+use native.Mathlib.Omega.{arith}
+use borrow.Author.Tests.{eq-eqb, eqb-true, le-leb, leb-true}
+use lib.Dec.{eqb, leb}
+use Rattle.lists.proofs.Tests.{and-left, and-right, or-first, or-true, or-cases}
+use Rattle.sets.specs.Sets.{member, members}
+use Rattle.sets.proofs.Digits.{member-none}
+use Rattle.sets.proofs.Lists.{members-∈, ∈-members}
+
+-- r is s and a
+module _ (s a r : ℕ) (w : (b : ℕ) → member r b ≡ (member s b || eqb a b)) where
+  pub with-more : (b : ℕ) → member s b ≡ true → member r b ≡ true
+  with-more b h = w b ∙ or-first (member s b) (eqb a b) h
+
+  pub with-new : (b : ℕ) → b ≡ a → member r b ≡ true
+  with-new b e = w b ∙ or-true (member s b) (eqb a b) (eq-eqb a b (sym e))
+
+  pub with-only : (b : ℕ) → member r b ≡ true → (member s b ≡ true) ⊎ (a ≡ b)
+  with-only b h =
+      elim (or-cases (member s b) (eqb a b) (sym (w b) ∙ h)) [
+        | inl l ↦ inl l
+        | inr e ↦ inr (eqb-true a b e)
+      ]
+
+-- r is s and t
+module _ (s t r : ℕ) (e : (b : ℕ) → member r b ≡ (member s b || member t b)) where
+  pub either-left : (b : ℕ) → member s b ≡ true → member r b ≡ true
+  either-left b h = e b ∙ or-first (member s b) (member t b) h
+
+  pub either-right : (b : ℕ) → member t b ≡ true → member r b ≡ true
+  either-right b h = e b ∙ or-true (member s b) (member t b) h
+
+  pub either-cases : (b : ℕ) → member r b ≡ true → (member s b ≡ true) ⊎ (member t b ≡ true)
+  either-cases b h = or-cases (member s b) (member t b) (sym (e b) ∙ h)
+
+-- r is s, moved by k
+module _ (s k r : ℕ) (e : (b : ℕ) → b < 32 → member r b ≡ (leb k b && member s (b - k))) where
+  pub moved-there : (b : ℕ) → b + k < 32 → member s b ≡ true → member r (b + k) ≡ true
+  moved-there b h t =
+      let q : b + k - k ≡ b = omega arith in
+      e (b + k) h ∙ rw (le-leb k (b + k) (omega arith), q) t
+
+  pub moved-back : (b : ℕ) → b < 32 → member r b ≡ true → (k ≤ b) × (member s (b - k) ≡ true)
+  moved-back b h t =
+      let q = sym (e b h) ∙ t in
+      (leb-true k b (and-left (leb k b) (member s (b - k)) q), and-right (leb k b) (member s (b - k)) q)
+
+-- s is empty
+pub none-member : (s a : ℕ) → members s ≡ [] → a < 32 → member s a ≡ true → ⊥
+none-member s a e h t = List·Memᴰ·not-nil (rw e at (∈-members s a h t))
+
+-- a set with a member isn't 0
+pub some-member : (s a : ℕ) → member s a ≡ true → s ≡ 0 → ⊥
+some-member s a t e = false≢true (sym (member-none a) ∙ rw e at t)
+
+pub first-member : (s a : ℕ) (l : List ℕ) → members s ≡ a ∷ l → member s a ≡ true
+first-member s a l e = members-∈ s a (rw e (List·Memᴰ·head refl)) .1

@@ -1,0 +1,5 @@
+-- The laws of the walk.
+mod Linking
+mod Leaves
+pub mod Joined
+mod Walking

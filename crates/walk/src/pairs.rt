@@ -1,0 +1,124 @@
+// A longer span: which pair rule of a nonterminal, with which left length, holds a ticket.
+ghost use mathlib.Core.Path.{_≡_};
+ghost use Prim.Native.Nat.{ℕ, _-_, _≤_, _<_};
+ghost use Rattle.grammar.specs.Rules.{ruled};
+ghost use Rattle.counting.specs.Owned.{ChosenAs};
+ghost use Rattle.charts.specs.Letters.{weightBy};
+ghost use Rattle.walk.specs.Sought.{Sought};
+ghost use Rattle.walk.specs.Steps.{SplitSought, SplitFound};
+use crate::nodes::Node;
+use crate::nodes::product;
+use counting::tallies::LONGEST;
+use grammar::rules;
+
+// A pair rule's nonterminals and a left length, 0 for none, with what stands before and what is left of the ticket.
+pub struct Pick {
+    pub b: usize,
+    pub c: usize,
+    pub k: usize,
+    pub before: u64,
+    pub left: u64,
+}
+
+// The first left length that leaves the right half at most l positions.
+fn first(m: usize, l: u64) -> usize
+    requires { ⌜ 1 ≤ m ⌝ }
+    ensures { λ r. ⌜ (1 ≤ r) × (r ≤ m) × ((k : ℕ) → 1 ≤ k → k < r → l < m - k) ⌝ }
+{
+    let longest = l as usize;
+    if longest < m - 1 { m - longest } else { 1 }
+}
+
+// Past the last left length of at most l positions.
+fn past(m: usize, l: u64) -> usize
+    requires { ⌜ 1 ≤ m ⌝ }
+    ensures { λ r. ⌜ (r ≤ m) × ((k : ℕ) → r ≤ k → k < m → l < k) ⌝ }
+{
+    let longest = l as usize;
+    if longest < m - 1 { longest + 1 } else { m }
+}
+
+// Of the left lengths of the pair rule at i the one that holds the ticket. Only those are looked at at which neither half is longer than
+// its longest derivation.
+fn choose_split(
+    rules: &[[u8; 256]],
+    totals: &[[u64; 32]],
+    choice: &[[u16; 16]; 17],
+    measure: &[[u16; 16]; 17],
+    node: Node,
+    i: usize,
+    ticket: u64,
+) -> Pick
+    requires { ⌜ SplitSought (now rules) (now totals) (now choice) (now measure) (node .a) (node .p) (node .m) i ⌝ }
+    ensures { λ r. ⌜ SplitFound (now (rules .entry)) (now (choice .entry)) (now (measure .entry)) (node .p) (node .m) i ticket (r .b) (r .c) (r .k) (r .before) (r .left) ⌝ }
+{
+    let p = node.p;
+    let m = node.m;
+    let b = rules::left_at(rules, i);
+    let c = rules::right_at(rules, i);
+    let end = past(m, totals[LONGEST][b]);
+    let mut before: u64 = 0;
+    let mut left = ticket;
+    let mut k = first(m, totals[LONGEST][c]);
+    while k < end {
+        let l = Node { a: b, p, m: k };
+        let r = Node {
+            a: c,
+            p: p + k,
+            m: m - k,
+        };
+        let x = product(totals, choice, l, r);
+        if left < x {
+            return Pick {
+                b,
+                c,
+                k,
+                before,
+                left,
+            };
+        }
+        left -= x;
+        before += product(totals, measure, l, r);
+        k += 1;
+    }
+    Pick {
+        b,
+        c,
+        k: 0,
+        before,
+        left,
+    }
+}
+
+// Of the pair rules of a node and their left lengths the one that holds the ticket.
+pub fn choose_rule(
+    rules: &[[u8; 256]],
+    totals: &[[u64; 32]],
+    choice: &[[u16; 16]; 17],
+    measure: &[[u16; 16]; 17],
+    node: Node,
+    ticket: u64,
+) -> Pick
+    requires { ⌜ Sought (now rules) (now totals) (now choice) (now measure) (node .a) (node .p) (node .m) ticket × (2 ≤ node .m) ⌝ }
+    ensures { λ r. ⌜ ChosenAs (ruled (now (rules .entry))) (weightBy (now (rules .entry)) (now (choice .entry))) (weightBy (now (rules .entry)) (now (measure .entry))) (node .a) (node .p) (node .m) ticket (r .b) (r .c) (r .k) (r .before) (r .left) ⌝ }
+{
+    let mut i = rules::pairs_from(rules, node.a);
+    let mut before: u64 = 0;
+    let mut left = ticket;
+    loop {
+        let s = choose_split(rules, totals, choice, measure, node, i, left);
+        before += s.before;
+        left = s.left;
+        let k = s.k;
+        if 0 < k {
+            return Pick {
+                b: s.b,
+                c: s.c,
+                k,
+                before,
+                left,
+            };
+        }
+        i += 1;
+    }
+}
