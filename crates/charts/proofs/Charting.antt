@@ -1,34 +1,37 @@
 -- Spans of one length after another: what the row of a needed span asks, from the rows of shorter ones; that it has the span's totals then; and
--- that the other rows have theirs still, since each needed span has a row of its own.
+-- that the other rows have theirs still, since each needed span has a row of its own. Then the loops, position after position and length
+-- after length.
 -- Assumes nothing.
 use mathlib.Core.Path.{_≡_, refl, sym, ap, _∙_}
 use mathlib.Core.Bool.{Bool, true, false, cond, false≢true}
-use mathlib.Core.List.{List, [], _∷_}
+use mathlib.Core.List.{List, [], _∷_, List·Memᴰ·head, List·Memᴰ·tail}
 use Prim.Native.Nat.{ℕ, zero, _+_, _-_, _≤_, _<_}
 use native.Mathlib.Omega.{arith}
 use native.Mathlib.Decide.{ℕ-discrete, decLe, decLt}
 use borrow.Author.Tests.{ne-eqb}
-use lib.ListN.{length, getD}
+use lib.ListN.{length, getD, drop}
 use Rattle.lists.specs.Tables.{entry, Wide}
+use Rattle.lists.specs.Joined.{_∈_}
 use Rattle.sets.specs.Sets.{member, members}
 use Rattle.sets.proofs.Digits.{member-none}
-use Rattle.sets.proofs.Loops.{turn-member}
+use Rattle.sets.proofs.Loops.{turn-member, turn}
+use Rattle.sets.proofs.Lists.{members-∈}
 use Rattle.grammar.specs.Rules.{countIn, ruled}
 use Rattle.counting.specs.Totals.{total, T}
 use Rattle.counting.specs.Tables.{most}
 use Rattle.counting.specs.Counted.{Asked}
 use Rattle.counting.proofs.Counts.{total-le}
-use Rattle.counting.proofs.Asking.{total-dead}
+use Rattle.counting.proofs.Asking.{counted-rows, total-dead}
 use Rattle.charts.specs.Letters.{letterAt, weightBy}
 use Rattle.charts.specs.Maps.{rowAt, totalAt, Span}
 use Rattle.charts.specs.Plan.{cuts, spots, wanted, needed, noneRow, chartRow, room, Cut, Rowed}
-use Rattle.charts.specs.Chart.{FillsBeside, Filled}
-use Rattle.charts.specs.Filling.{only, cutsSum, spanSum, Makes, Half, Spans, Spanned, Done, FilledTo, Lengthened}
+use Rattle.charts.specs.Chart.{Clean, Fills, Filled, Charted}
+use Rattle.charts.specs.Filling.{only, cutsSum, spanSum, Makes, Half, Spans, Spanned, Done, FilledTo, Lengthened, Lengthens}
 use Rattle.charts.proofs.Totalling.{letter-le, cuts-total, leaf-total}
 
 -- ---- what filling asks
 
-module _ {rules plan map : List (List ℕ)} {n : ℕ} {sets : List ℕ} {totals : List (List ℕ)} (q : FillsBeside rules plan map n sets totals) where
+module _ {rules plan map : List (List ℕ)} {n : ℕ} {sets : List ℕ} {totals : List (List ℕ)} (q : Fills rules plan map n sets totals) where
   -- totals of weights up to 1 fit
   pub totals-fit : (p A m : ℕ) → Asked rules n A m → Span n p m → total (ruled rules) (weightBy rules map) p A m ≤ most
   totals-fit p A m a s =
@@ -39,29 +42,20 @@ module _ {rules plan map : List (List ℕ)} {n : ℕ} {sets : List ℕ} {totals 
       )
 
   -- it holds still where the rows below the chart are as they were
-  pub fills-kept : {sets′ : List ℕ} {totals′ : List (List ℕ)} → length sets′ ≡ length sets → length totals′ ≡ length totals → Wide totals′ 32
-      → ((r : ℕ) → r < chartRow → getD totals′ r [] ≡ getD totals r []) → FillsBeside rules plan map n sets′ totals′
-  fills-kept ls lt w k =
+  pub fills-kept : {sets′ : List ℕ} {totals′ : List (List ℕ)} → Clean n sets′ totals′ → length totals′ ≡ length totals → Wide totals′ 32
+      → ((r : ℕ) → r < chartRow → getD totals′ r [] ≡ getD totals r []) → Fills rules plan map n sets′ totals′
+  fills-kept clean lt w k =
       let c = q .blank .counted in
       record {
         blank = record {
-          counted = record {
-            table = c .table;
-            some = c .some;
-            short = c .short;
-            long = omega (arith, c .long);
-            wide = w;
-            right = λ A m a. ap (λ (l : List ℕ). getD l A 0) (k m (omega (arith, a .short, c .short))) ∙ c .right A m a;
-            fits = c .fits;
-            longest = λ A m a h. c .longest A m a (rw (k 0 (omega arith)) at h);
-          };
+          counted = counted-rows c (omega (arith, c .long)) w (λ r h. k r (omega (arith, c .short)));
           zeros = λ A. ap (λ (l : List ℕ). getD l A 0) (k noneRow (omega arith)) ∙ q .blank .zeros A;
           room = omega (arith, q .blank .room);
         };
         planned = q .planned;
         linked = q .linked;
         letters = q .letters;
-        beside = omega (arith, q .beside);
+        clean = clean;
       }
 
 -- ---- the row of one span
@@ -96,23 +90,23 @@ module _ {rules plan map : List (List ℕ)} {n m left : ℕ} {sets : List ℕ} {
     right-span : Span n (p + k) (m - k)
     right-span = record { some = omega (arith, inner .1); inside = omega (arith, span .inside, inner .1) }
 
-    left-done : Done rules map n p k sets totals
+    left-done : Done rules map n p k totals
     left-done = f .shorter p k left-span (inner .1) (parts .0)
 
-    right-done : Done rules map n (p + k) (m - k) sets totals
+    right-done : Done rules map n (p + k) (m - k) totals
     right-done = f .shorter (p + k) (m - k) right-span (omega (arith, inner .0, inner .1)) (parts .1)
 
-    half : (i j : ℕ) → Span n i j → needed plan i j ≡ true → j < m → Done rules map n i j sets totals → Half map (rowAt map p m) i j sets totals
-    half i j s h u d =
+    half : (i j : ℕ) → Span n i j → needed plan i j ≡ true → j < m → Half map (rowAt map p m) i j sets totals
+    half i j s h u =
         let w = rows .some i j s h in
         record {
           inside = omega (arith, w .1, f .fills .blank .room);
-          beside = omega (arith, w .1, f .fills .beside);
+          beside = omega (arith, w .1, f .fills .clean .beside);
           apart = λ e. omega (arith, rows .own i j p m s span h need e .1);
-          zero = d .zero;
+          zero = λ A. f .fills .clean .zero (rowAt map i j) A (w .0) (w .1);
         }
 
-  makes : Makes rules map p m totals
+  makes : Makes rules map p m (getD sets (rowAt map p m) 0) totals
   makes = record {
     table = f .fills .blank .counted .table;
     linked = f .fills .linked;
@@ -122,6 +116,7 @@ module _ {rules plan map : List (List ℕ)} {n m left : ℕ} {sets : List ℕ} {
     some = some;
     short = omega (arith, n-low);
     letter = f .fills .letters p (omega (arith, span .inside));
+    zero = λ A. let w = rows .some p m span need in f .fills .clean .zero (rowAt map p m) A (w .0) (w .1);
   }
 
   -- for a nonterminal that isn't wanted there is no derivation
@@ -147,54 +142,67 @@ module _ {rules plan map : List (List ℕ)} {n m left : ℕ} {sets : List ℕ} {
           omega (arith, wanted-total more A a, totals-fit (f .fills) p A m a span)
       go false e = rw e (omega arith)
 
+  beside : rowAt map p m < length sets
+  beside = omega (arith, rows .some p m span need .1, f .fills .clean .beside)
+
   pub span-asks : Spans rules plan map p m sets totals
   span-asks = record {
     makes = makes;
-    beside = omega (arith, rows .some p m span need .1, f .fills .beside);
+    beside = beside;
     joins = λ more.
         record {
           makes = makes;
+          beside = beside;
           pairs = cut .pairs;
           within = λ k h c. let w = inner k h c in (w .0, w .1, omega (arith, w .1, span .inside, n-low));
-          left = λ k h c. half k h c p k (left-span k h c) (parts k h c .0) (inner k h c .1) (left-done k h c);
+          left = λ k h c. half k h c p k (left-span k h c) (parts k h c .0) (inner k h c .1);
           right = λ k h c.
               let w = inner k h c in
-              half k h c (p + k) (m - k) (right-span k h c) (parts k h c .1) (omega (arith, w .0, w .1)) (right-done k h c);
+              half k h c (p + k) (m - k) (right-span k h c) (parts k h c .1) (omega (arith, w .0, w .1));
           fits = sums-fit more;
         };
   }
 
   module _ {sets′ : List ℕ} {totals′ : List (List ℕ)} (d : Spanned rules plan map p m sets totals sets′ totals′) where
     -- the span's row has its totals
-    span-done : Done rules map n p m sets′ totals′
-    span-done = record { right = λ A a. d .made .here A (a .inside) ∙ is A a (ℕ-discrete m 1); zero = d .made .zero }
+    span-done : Done rules map n p m totals′
+    span-done A a = d .made .here A (a .inside) ∙ is A a (ℕ-discrete m 1)
       where
         is : (A : ℕ) → Asked rules n A m → Dec (m ≡ 1) → spanSum rules plan map totals p m A ≡ R p A m
         is A a (yes e) = rw e (leaf-total rules map p A)
         is A a (no e) = rw (ne-eqb m 1 e) (wanted-total (omega arith) A a)
 
     -- another needed span's row has its own still
-    other-done : (i j : ℕ) → Span n i j → needed plan i j ≡ true → ((i ≡ p) × (j ≡ m) → ⊥) → Done rules map n i j sets totals
-        → Done rules map n i j sets′ totals′
-    other-done i j s h apart e =
+    other-done : (i j : ℕ) → Span n i j → needed plan i j ≡ true → ((i ≡ p) × (j ≡ m) → ⊥) → Done rules map n i j totals
+        → Done rules map n i j totals′
+    other-done i j s h apart e A a =
         let n : rowAt map i j ≡ rowAt map p m → ⊥ = λ z. apart (rows .own i j p m s span h need z) in
-        let row = d .made .others (rowAt map i j) n in
-        record {
-          right = λ A a. ap (λ (l : List ℕ). getD l A 0) row ∙ e .right A a;
-          zero = λ A l z. ap (λ (l : List ℕ). getD l A 0) row ∙ e .zero A l (rw (d .others (rowAt map i j) n) at z);
-        }
+        ap (λ (l : List ℕ). getD l A 0) (d .made .others (rowAt map i j) n) ∙ e A a
+
+    -- every row is 0 outside its set: this one outside its new set, the others have theirs still
+    span-clean : Clean n sets′ totals′
+    span-clean = record {
+      beside = omega (arith, f .fills .clean .beside, d .long);
+      zero = λ r A c u l z.
+          elim (ℕ-discrete r (rowAt map p m)) [
+            | yes e ↦ rw e (d .made .zero A l (rw e at z))
+            | no apart ↦
+                ap (λ (l : List ℕ). getD l A 0) (d .made .others r apart)
+                ∙ f .fills .clean .zero r A c u l (rw (d .others r apart) at z)
+          ];
+    }
 
     pub span-kept : (r : ℕ) → r < chartRow → getD totals′ r [] ≡ getD totals r []
     span-kept r h = d .made .others r (λ e. omega (arith, rows .some p m span need .0))
 
     pub span-next : (next : ℕ) → members left ≡ p ∷ members next → FilledTo rules plan map n m next sets′ totals′
     span-next next t = record {
-      fills = fills-kept (f .fills) (d .long) (d .made .long) (d .made .wide) span-kept;
+      fills = fills-kept (f .fills) span-clean (d .made .long) (d .made .wide) span-kept;
       shorter = λ i j s l h. other-done i j s h (λ e. omega (arith, e .1)) (f .shorter i j s l h);
       here = λ i s h z. here i s h z (ℕ-discrete i p);
     }
       where
-        here : (i : ℕ) → Span n i m → needed plan i m ≡ true → member next i ≡ false → Dec (i ≡ p) → Done rules map n i m sets′ totals′
+        here : (i : ℕ) → Span n i m → needed plan i m ≡ true → member next i ≡ false → Dec (i ≡ p) → Done rules map n i m totals′
         here i s h z (yes e) = rw e span-done
         here i s h z (no e) =
             let out : member left i ≡ false
@@ -205,7 +213,7 @@ module _ {rules plan map : List (List ℕ)} {n m left : ℕ} {sets : List ℕ} {
 
 module _ {rules plan map : List (List ℕ)} {n : ℕ} where
   -- before the spans of the length 1
-  pub lengths-start : {sets : List ℕ} {totals : List (List ℕ)} → FillsBeside rules plan map n sets totals
+  pub lengths-start : {sets : List ℕ} {totals : List (List ℕ)} → Fills rules plan map n sets totals
       → Lengthened rules plan map n 1 (spots plan 1) sets totals sets totals
   lengths-start q = record {
     filled = record {
@@ -245,7 +253,7 @@ module _ {rules plan map : List (List ℕ)} {n : ℕ} where
   lengths-end m {totals′ = totals′} past w =
       let q = w .filled .fills in
       let rows = q .planned .rows in
-      let done : (p k : ℕ) → Span n p k → needed plan p k ≡ true → Done rules map n p k _ totals′
+      let done : (p k : ℕ) → Span n p k → needed plan p k ≡ true → Done rules map n p k totals′
       = λ p k s h. w .filled .shorter p k s (omega (arith, s .inside)) h in
       record {
         long = w .long;
@@ -253,7 +261,7 @@ module _ {rules plan map : List (List ℕ)} {n : ℕ} where
         kept = w .kept;
         mapped = record {
           low = λ p m s. low p m s (needed plan p m) refl;
-          right = λ p A m a s h. done p m s h .right A a;
+          right = λ p A m a s h. done p m s h A a;
           below = λ p A m a s. below p A m a s (needed plan p m) refl;
           fits = λ p A m a s. totals-fit q p A m a s;
         };
@@ -265,5 +273,65 @@ module _ {rules plan map : List (List ℕ)} {n : ℕ} where
 
       below : (p A m : ℕ) → Asked rules n A m → Span n p m → (t : Bool) → needed plan p m ≡ t
           → totalAt totals′ map p A m ≤ total (ruled rules) (weightBy rules map) p A m
-      below p A m a s true h = omega (arith, w .filled .shorter p m s (omega (arith, s .inside)) h .right A a)
+      below p A m a s true h = omega (arith, w .filled .shorter p m s (omega (arith, s .inside)) h A a)
       below p A m a s false h = rw (w .filled .fills .planned .rows .none p m s h) (omega (arith, w .filled .fills .blank .zeros A))
+
+-- before the positions in `left`, whatever n the plan is for
+pub record LengthWalk (rules plan map : List (List ℕ)) (m left : ℕ) (sets : List ℕ) (totals : List (List ℕ)) (sets′ : List ℕ) (totals′ : List (List ℕ)) : Type 0 where
+  pub among : (p : ℕ) → p ∈ members left → p ∈ members (spots plan m)
+  pub done : (n : ℕ) → Lengthens rules plan map n m sets totals → Lengthened rules plan map n m left sets totals sets′ totals′
+
+module _ {rules plan map : List (List ℕ)} {m : ℕ} {sets : List ℕ} {totals : List (List ℕ)} where
+  pub length-start : LengthWalk rules plan map m (spots plan m) sets totals sets totals
+  length-start = record {
+    among = λ p i. i;
+    done = λ n q. record { filled = q .filled; sets-long = refl; long = refl; kept = λ r h. refl };
+  }
+
+  module _ {left : ℕ} {sets′ : List ℕ} {totals′ : List (List ℕ)} (w : LengthWalk rules plan map m left sets totals sets′ totals′) where
+    pub length-end : left ≡ 0 → (n : ℕ) → Lengthens rules plan map n m sets totals → Lengthened rules plan map n m 0 sets totals sets′ totals′
+    length-end e n q = rw e at (w .done n q)
+
+    module _ (p : ℕ) (first : members left ≡ p ∷ drop 1 (members left)) where
+      spot : (p < 32) × (needed plan p m ≡ true)
+      spot = members-∈ (spots plan m) p (w .among p (rw first (List·Memᴰ·head refl)))
+
+      pub length-asks : (n : ℕ) → Lengthens rules plan map n m sets totals → Spans rules plan map p m sets′ totals′
+      length-asks n q = span-asks (w .done n q .filled) (q .some) (q .short) p (spot .0) (spot .1)
+
+      pub length-step : {sets″ : List ℕ} {totals″ : List (List ℕ)} (next : ℕ) → members next ≡ drop 1 (members left)
+          → Spanned rules plan map p m sets′ totals′ sets″ totals″ → LengthWalk rules plan map m next sets totals sets″ totals″
+      length-step next rest d = record {
+        among = λ i j. w .among i (rw first (List·Memᴰ·tail (rw rest at j)));
+        done = λ n q.
+            let a = w .done n q in
+            record {
+              filled = span-next (a .filled) (q .some) (q .short) p (spot .0) (spot .1) d next (turn left p first next rest);
+              sets-long = d .long ∙ a .sets-long;
+              long = d .made .long ∙ a .long;
+              kept = λ r h. span-kept (a .filled) (q .some) (q .short) p (spot .0) (spot .1) d r h ∙ a .kept r h;
+            };
+      }
+
+-- ---- length after length
+
+-- before the length m
+pub record FillWalk (rules plan map : List (List ℕ)) (n m : ℕ) (sets : List ℕ) (totals : List (List ℕ)) (sets′ : List ℕ) (totals′ : List (List ℕ)) : Type 0 where
+  pub some : 1 ≤ m
+  pub short : m ≤ n + 1
+  pub done : Lengthened rules plan map n m (spots plan m) sets totals sets′ totals′
+
+module _ {rules plan map : List (List ℕ)} {n : ℕ} {sets : List ℕ} {totals : List (List ℕ)} where
+  pub fill-start : Fills rules plan map n sets totals → FillWalk rules plan map n 1 sets totals sets totals
+  fill-start q = record { some = omega arith; short = omega arith; done = lengths-start q }
+
+  module _ {m : ℕ} {sets′ : List ℕ} {totals′ : List (List ℕ)} (w : FillWalk rules plan map n m sets totals sets′ totals′) where
+    pub fill-asks : m ≤ n → Lengthens rules plan map n m sets′ totals′
+    fill-asks h = record { some = w .some; short = h; filled = w .done .filled }
+
+    pub fill-step : m ≤ n → {sets″ : List ℕ} {totals″ : List (List ℕ)} → Lengthened rules plan map n m 0 sets′ totals′ sets″ totals″
+        → FillWalk rules plan map n (m + 1) sets totals sets″ totals″
+    fill-step h d = record { some = omega arith; short = omega arith; done = lengths-next m (w .done) d }
+
+    pub fill-end : n < m → Charted rules plan map n totals sets′ totals′
+    fill-end h = record { filled = lengths-end m h (w .done); clean = w .done .filled .fills .clean }

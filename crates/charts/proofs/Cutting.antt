@@ -5,7 +5,7 @@ use mathlib.Core.Bool.{true, _||_}
 use mathlib.Core.List.{List, [], _∷_, List·Memᴰ·head, List·Memᴰ·tail}
 use Prim.Native.Nat.{ℕ, _+_, _-_, _≤_, _<_}
 use native.Mathlib.Omega.{arith}
-use lib.ListN.{getD, set, drop, length-set}
+use lib.ListN.{length, getD, set, drop, length-set}
 use Rattle.lists.specs.Joined.{_∈_}
 use Rattle.lists.specs.Tables.{entry}
 use Rattle.lists.proofs.Sums.{sum-ext}
@@ -16,9 +16,8 @@ use Rattle.grammar.specs.Rules.{countIn}
 use Rattle.counting.specs.Tables.{most}
 use Rattle.charts.specs.Maps.{rowAt}
 use Rattle.charts.specs.Plan.{cuts, wanted}
-use Rattle.charts.specs.Filling.{only, pairSum, cutSum, cutsSum, Grown, AddsSplit, Made, Half, Joins}
-use Rattle.charts.proofs.Growing.{growing-start, grown-ext}
-use Rattle.charts.proofs.Parts.{Parts, parts-end, parts-fits, parts-step}
+use Rattle.charts.specs.Filling.{Clears, only, pairSum, cutSum, cutsSum, Grown, AddsSplit, Made, Half, Joins}
+use Rattle.charts.proofs.Growing.{growing-start, grown-ext, Parts, parts-end, parts-fits, parts-step}
 use Rattle.charts.proofs.Making.{zeros, cleared, cleared-wide, made}
 
 -- what a cut adds depends on the rows of the halves alone
@@ -62,7 +61,9 @@ module _ {rules plan map : List (List ℕ)} {p m : ℕ} {sets : List ℕ} {befor
       some = q .makes .some;
       short = q .makes .short;
       letter = q .makes .letter;
+      zero = λ A h z. cleared before (rowAt map p m) (q .makes .inside) A h;
     };
+    beside = q .beside;
     pairs = q .pairs;
     within = q .within;
     left = λ k h c. blank-half p k (q .left k h c);
@@ -82,16 +83,26 @@ module _ {rules plan map : List (List ℕ)} {p m : ℕ} {sets : List ℕ} {befor
 
   -- the row as it was read from the map
   module _ (row : ℕ) (e : row ≡ rowAt map p m) where
-    pub cuts-joins : Joins rules plan map p m sets (set before row zeros)
-    cuts-joins = rw e joins-blank
+    pub cuts-beside : row < length sets
+    cuts-beside = omega (arith, q .beside)
 
-    pub cuts-clear : (A : ℕ) → A < 32 → entry (set before row zeros) (rowAt map p m) A ≡ 0
-    cuts-clear = rw e blank-zero
+    pub cuts-clears : Clears (getD sets row 0) row before
+    cuts-clears = rw e (record { wide = q .makes .wide; inside = q .makes .inside; zero = q .makes .zero })
 
-    pub cuts-made : {after : List (List ℕ)} {s : ℕ}
-        → Grown (rowAt map p m) (countIn rules) (λ A. only (wanted plan m) A (cutsSum rules plan map (set before row zeros) p m A)) (set before row zeros) after s
-        → Made (rowAt map p m) (countIn rules) (λ A. only (wanted plan m) A (cutsSum rules plan map before p m A)) before after s
-    cuts-made = rw e blank-made
+    module _ {now : List (List ℕ)} (z : now ≡ set before row zeros) where
+      pub cuts-long : length now ≡ length before
+      cuts-long = ap length z ∙ length-set before row zeros
+
+      pub cuts-joins : Joins rules plan map p m sets now
+      cuts-joins = rw (z, e) joins-blank
+
+      pub cuts-clear : (A : ℕ) → A < 32 → entry now (rowAt map p m) A ≡ 0
+      cuts-clear = rw (z, e) blank-zero
+
+      pub cuts-made : {after : List (List ℕ)} {s : ℕ}
+          → Grown (rowAt map p m) (countIn rules) (λ A. only (wanted plan m) A (cutsSum rules plan map now p m A)) now after s
+          → Made (rowAt map p m) (countIn rules) (λ A. only (wanted plan m) A (cutsSum rules plan map before p m A)) before after s
+      cuts-made = rw (z, e) blank-made
 
 -- ---- cut after cut, from a row of zeros
 

@@ -13,7 +13,7 @@ use lib.ListN.{length, set, length-set}
 use lib.Seq.{getD-set-same, getD-set-other}
 use Rattle.lists.specs.Tables.{entry}
 use Rattle.sets.specs.Sets.{member, members}
-use Rattle.sets.proofs.Changes.{with-more, with-new, with-only, none-member}
+use Rattle.sets.proofs.Loops.{with-more, with-new, with-only, none-member}
 use Rattle.grammar.specs.Rules.{leftAt, rightAt, countIn}
 use Rattle.charts.specs.Planning.{at, Sides, Sided, Wants, Wanted, Cuts, Cutting}
 

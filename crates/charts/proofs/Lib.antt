@@ -1,4 +1,5 @@
--- The laws of charts.
+-- The laws of charts. In the proof of a function a need that is plain arithmetic, or a fact at hand, has no name: it is answered
+-- where the needs come together.
 mod Gathering
 mod Spreading
 pub mod Placing
@@ -7,12 +8,9 @@ pub mod Mapping
 mod Growing
 mod Walking
 mod Words
-mod Parts
-mod Pairing
 mod Adding
+mod Clearing
 mod Making
 mod Cutting
-mod Spanning
 mod Totalling
 mod Charting
-mod Lengths

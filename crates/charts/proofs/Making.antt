@@ -1,12 +1,13 @@
--- A row made from zeros: of a single position by its letter, of a longer span cut after cut. The rows of the halves stay as they are.
+-- A row made from zeros: of a single position by its letter, of a longer span cut after cut; and a set stored beside it.
 -- Assumes nothing.
 use mathlib.Core.Path.{_≡_, refl, sym, ap, _∙_}
 use mathlib.Core.List.{List}
 use Prim.Native.Nat.{ℕ, _≤_, _<_}
 use native.Mathlib.Omega.{arith}
-use borrow.Author.Tests.{ne-eqb}
+use borrow.Author.Tests.{ne-eqb, eq-eqb}
 use lib.Dec.{eqb}
 use lib.ListN.{length, getD, set, replicate, length-set, getD-replicate}
+use lib.Seq.{getD-set-same, getD-set-other}
 use Rattle.lists.specs.Searched.{bit}
 use Rattle.lists.specs.Tables.{entry, Wide}
 use Rattle.lists.proofs.Sums.{sum-ext, sum-one}
@@ -15,7 +16,8 @@ use Rattle.grammar.specs.Rules.{countIn, wordsIn}
 use Rattle.grammar.proofs.Ruling.{word-count}
 use Rattle.charts.specs.Letters.{any, weighed, letterAt, weightBy}
 use Rattle.charts.specs.Maps.{rowAt}
-use Rattle.charts.specs.Filling.{wordCount, wordTimes, leafSum, Grown, Clear, Made, Makes}
+use Rattle.charts.specs.Filling.{Clears, wordCount, wordTimes, leafSum, Grown, Clear, Made, Makes, only, cutsSum, spanSum, Joins, Spans, Spanned}
+use Rattle.charts.specs.Plan.{wanted}
 
 abbrev pub zeros : List ℕ
 zeros = replicate 32 0
@@ -44,42 +46,85 @@ made-ext e g = record { long = g .long; wide = g .wide; here = λ A u. g .here A
 
 -- ---- a single position
 
-module _ {rules map : List (List ℕ)} {p : ℕ} {before : List (List ℕ)} (q : Makes rules map p 1 before) where
-  pub leaf-clear : (row : ℕ) → row ≡ rowAt map p 1 → Clear rules (set before row zeros) row
-  leaf-clear row e =
-      let inside : row < length before = omega (arith, q .inside) in
-      record {
-        table = q .table;
-        linked = q .linked;
-        wide = cleared-wide before row inside (q .wide);
-        inside = omega (arith, length-set before row zeros);
-        zeros = cleared before row inside;
-      }
+module _ {rules map : List (List ℕ)} {p old : ℕ} {before : List (List ℕ)} (q : Makes rules map p 1 old before) where
+  pub leaf-clears : (row : ℕ) → row ≡ rowAt map p 1 → Clears old row before
+  leaf-clears row e = rw e (record { wide = q .wide; inside = q .inside; zero = q .zero })
 
   pub leaf-low : (letterAt map p ≡ any → ⊥) → letterAt map p < 256
   leaf-low n = omega (arith, q .letter)
 
-  -- any word counts for 1
-  pub leaf-any : (row : ℕ) → row ≡ rowAt map p 1 → letterAt map p ≡ any → {after : List (List ℕ)} {s : ℕ}
-      → Grown row (countIn rules) (wordCount rules) (set before row zeros) after s
-      → Made (rowAt map p 1) (countIn rules) (leafSum rules map p) before after s
-  leaf-any row e x g = rw e at (made-ext all (made before row (omega (arith, q .inside)) (q .table .few) g))
-    where
-      one : (w : ℕ) → weightBy rules map p w ≡ 1
-      one w = rw x
+  -- from the row of zeros on
+  module _ (row : ℕ) (e : row ≡ rowAt map p 1) {now : List (List ℕ)} (z : now ≡ set before row zeros) where
+    inside : row < length before
+    inside = omega (arith, q .inside)
 
-      all : (A : ℕ) → A < countIn rules → wordCount rules A ≡ leafSum rules map p A
-      all A h =
-          sym (sum-ext (weightBy rules map p) (λ w. 1) (wordsIn rules A) (λ w m. one w) ∙ sum-one (wordsIn rules A) ∙ word-count rules A)
+    pub leaf-long : length now ≡ length before
+    leaf-long = ap length z ∙ length-set before row zeros
 
-  -- one word does
-  pub leaf-word : (row : ℕ) → row ≡ rowAt map p 1 → (letterAt map p ≡ any → ⊥) → {after : List (List ℕ)} {s : ℕ}
-      → Grown row (countIn rules) (wordTimes rules (letterAt map p)) (set before row zeros) after s
-      → Made (rowAt map p 1) (countIn rules) (leafSum rules map p) before after s
-  leaf-word row e n g = rw e at (made-ext all (made before row (omega (arith, q .inside)) (q .table .few) g))
-    where
-      one : (w : ℕ) → bit (eqb (letterAt map p) w) ≡ weightBy rules map p w
-      one w = rw (ne-eqb (letterAt map p) any n, ne-eqb (letterAt map p) weighed (λ z. omega (arith, leaf-low n)))
+    pub leaf-clear : Clear rules now row
+    leaf-clear =
+        rw z
+        (record {
+          table = q .table;
+          linked = q .linked;
+          wide = cleared-wide before row inside (q .wide);
+          inside = omega (arith, inside, length-set before row zeros);
+          zeros = cleared before row inside;
+        })
 
-      all : (A : ℕ) → A < countIn rules → wordTimes rules (letterAt map p) A ≡ leafSum rules map p A
-      all A h = sum-ext (λ w. bit (eqb (letterAt map p) w)) (weightBy rules map p) (wordsIn rules A) (λ w m. one w)
+    leaf-made : {f h : ℕ → ℕ} {after : List (List ℕ)} {s : ℕ} → ((A : ℕ) → A < countIn rules → f A ≡ h A) → Grown row (countIn rules) f now after s
+        → Made (rowAt map p 1) (countIn rules) h before after s
+    leaf-made all g = rw e at (made-ext all (made before row inside (q .table .few) (rw z at g)))
+
+    -- any word counts for 1
+    pub leaf-any : letterAt map p ≡ any → {after : List (List ℕ)} {s : ℕ} → Grown row (countIn rules) (wordCount rules) now after s
+        → Made (rowAt map p 1) (countIn rules) (leafSum rules map p) before after s
+    leaf-any x g = leaf-made all g
+      where
+        one : (w : ℕ) → weightBy rules map p w ≡ 1
+        one w = rw x
+
+        all : (A : ℕ) → A < countIn rules → wordCount rules A ≡ leafSum rules map p A
+        all A h =
+            sym (sum-ext (weightBy rules map p) (λ w. 1) (wordsIn rules A) (λ w m. one w) ∙ sum-one (wordsIn rules A) ∙ word-count rules A)
+
+    -- one word does
+    pub leaf-word : (letterAt map p ≡ any → ⊥) → {after : List (List ℕ)} {s : ℕ} → Grown row (countIn rules) (wordTimes rules (letterAt map p)) now after s
+        → Made (rowAt map p 1) (countIn rules) (leafSum rules map p) before after s
+    leaf-word n g = leaf-made all g
+      where
+        one : (w : ℕ) → bit (eqb (letterAt map p) w) ≡ weightBy rules map p w
+        one w = rw (ne-eqb (letterAt map p) any n, ne-eqb (letterAt map p) weighed (λ z. omega (arith, leaf-low n)))
+
+        all : (A : ℕ) → A < countIn rules → wordTimes rules (letterAt map p) A ≡ leafSum rules map p A
+        all A h = sum-ext (λ w. bit (eqb (letterAt map p) w)) (weightBy rules map p) (wordsIn rules A) (λ w m. one w)
+
+module _ {rules plan map : List (List ℕ)} {p m : ℕ} {sets : List ℕ} {before : List (List ℕ)} (q : Spans rules plan map p m sets before) where
+  -- a set is stored beside the row
+  stored : (row : ℕ) → row ≡ rowAt map p m → {after : List (List ℕ)} {s : ℕ}
+      → Made (rowAt map p m) (countIn rules) (spanSum rules plan map before p m) before after s
+      → Spanned rules plan map p m sets before (set sets row s) after
+  stored row e {after} {s} d =
+      let is : getD (set sets row s) (rowAt map p m) 0 ≡ s = rw e (getD-set-same sets (rowAt map p m) s 0 (q .beside)) in
+      record {
+        made = rw is d;
+        long = length-set sets row s;
+        others = λ r n. getD-set-other sets row r s 0 (λ z. n (z ∙ e));
+      }
+
+  module _ (one : m ≡ 1) where
+    pub span-leaf-asks : (row : ℕ) → row ≡ rowAt map p m → Makes rules map p 1 (getD sets row 0) before
+    span-leaf-asks row e = rw (e, one) (rw one at (q .makes))
+
+    pub span-leaf : (row : ℕ) → row ≡ rowAt map p m → {after : List (List ℕ)} {s : ℕ}
+        → Made (rowAt map p 1) (countIn rules) (leafSum rules map p) before after s → Spanned rules plan map p m sets before (set sets row s) after
+    span-leaf row e {after} {s} d = stored row e (made-ext (λ A h. sym (rw (eq-eqb m 1 one))) (rw (← one) at d))
+
+  module _ (more : m ≡ 1 → ⊥) where
+    pub span-cuts-asks : Joins rules plan map p m sets before
+    span-cuts-asks = q .joins (omega (arith, q .makes .some, more))
+
+    pub span-cuts : (row : ℕ) → row ≡ rowAt map p m → {after : List (List ℕ)} {s : ℕ}
+        → Made (rowAt map p m) (countIn rules) (λ A. only (wanted plan m) A (cutsSum rules plan map before p m A)) before after s
+        → Spanned rules plan map p m sets before (set sets row s) after
+    span-cuts row e d = stored row e (made-ext (λ A h. sym (rw (ne-eqb m 1 more))) d)

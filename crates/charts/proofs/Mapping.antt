@@ -16,10 +16,10 @@ use Rattle.counting.specs.Counted.{Asked, Counted}
 use Rattle.grammar.specs.Links.{Links}
 use Rattle.counting.proofs.Totals.{total-within, T-anywhere}
 use Rattle.counting.proofs.Asking.{counted-kept}
-use Rattle.charts.specs.Chart.{Blank}
+use Rattle.charts.specs.Chart.{Blank, Clean}
 use Rattle.charts.specs.Letters.{any, letterAt, letterWeight, weightBy}
 use Rattle.charts.specs.Maps.{rowAt, totalAt, Span, Closed, Mapped, Everywhere, rowsFrom, plainMap, Spelt}
-use Rattle.charts.specs.Plan.{needed, Planned}
+use Rattle.charts.specs.Plan.{needed, chartRow, room, Planned}
 
 -- ---- the map of plain counts
 
@@ -142,3 +142,10 @@ linked-blank l b = record {
   zeros = b .zeros;
   room = b .room;
 }
+
+-- ---- sets to begin with
+
+-- beside rows of zeros any sets will do
+pub clean-start : (n : ℕ) (sets : List ℕ) (totals : List (List ℕ)) → room n ≤ length sets → ((r A : ℕ) → chartRow ≤ r → entry totals r A ≡ 0)
+    → Clean n sets totals
+clean-start n sets totals beside zeros = record { beside = beside; zero = λ r A c u l z. zeros r A c }

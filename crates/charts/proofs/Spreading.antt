@@ -16,8 +16,7 @@ use Rattle.lists.proofs.Tests.{or-true}
 use Rattle.sets.specs.Sets.{member, members}
 use Rattle.sets.proofs.Digits.{member-none}
 use Rattle.sets.proofs.Lists.{members-∈}
-use Rattle.sets.proofs.Loops.{turn-member}
-use Rattle.sets.proofs.Changes.{with-new, with-only, either-left, either-right, either-cases, moved-there, moved-back, none-member}
+use Rattle.sets.proofs.Loops.{turn-member, with-new, with-only, either-left, either-right, either-cases, moved-there, moved-back, none-member}
 use Rattle.charts.specs.Planning.{at, Halves, Inside, Spreads, Spread, Spots, Spotted}
 use Rattle.charts.proofs.Gathering.{stored-long, stored-same, stored-more}
 

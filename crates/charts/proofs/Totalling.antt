@@ -87,8 +87,8 @@ module _ {rules plan : List (List ℕ)} (map : List (List ℕ)) {n : ℕ} (t : R
       ∙ all-lengths
 
   -- so the rows of the halves give the total
-  pub cuts-total : {sets : List ℕ} (totals : List (List ℕ))
-      → ((k : ℕ) → k < 32 → member (cuts plan m) k ≡ true → Done rules map n p k sets totals × Done rules map n (p + k) (m - k) sets totals)
+  pub cuts-total : (totals : List (List ℕ))
+      → ((k : ℕ) → k < 32 → member (cuts plan m) k ≡ true → Done rules map n p k totals × Done rules map n (p + k) (m - k) totals)
       → cutsSum rules plan map totals p m A ≡ R p A m
   cuts-total totals done =
       sum-ext (cutSum rules map totals p m A) here (members (cuts plan m))
@@ -100,8 +100,8 @@ module _ {rules plan : List (List ℕ)} (map : List (List ℕ)) {n : ℕ} (t : R
       (λ (e : ℕ × ℕ). R p (e .0) k * R (p + k) (e .1) (m - k)) (pairsIn rules A)
       (λ e j.
       rw (
-        d .0 .right (e .0) (asked-left t asked e j k (w .0) (omega (arith, w .1))),
-        d .1 .right (e .1) (asked-right t asked e j (m - k) (omega (arith, w .1)) (omega (arith, w .0))),
+        d .0 (e .0) (asked-left t asked e j k (w .0) (omega (arith, w .1))),
+        d .1 (e .1) (asked-right t asked e j (m - k) (omega (arith, w .1)) (omega (arith, w .0))),
       )))
       ∙ cuts-all
 

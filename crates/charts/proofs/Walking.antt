@@ -11,6 +11,7 @@ use borrow.Author.Tests.{eq-eqb, ne-eqb}
 use lib.Dec.{eqb}
 use lib.ListN.{length}
 use Rattle.lists.specs.Tables.{entry, put, Wide}
+use Rattle.lists.proofs.Tests.{cond-none}
 use Rattle.sets.specs.Sets.{member}
 use Rattle.grammar.specs.Rules.{wordAt, wordFrom, pairFrom, countIn}
 use Rattle.grammar.specs.Links.{last, pickSum, both, bothAt, nextWord, wordOwner, withWord, nextPair, pairOwner, withPair, Keyed}
@@ -28,10 +29,6 @@ pub record Walking (key owner : ℕ → ℕ) (keeps : ℕ → Bool) (v x n row c
   pub at : l ≡ last key x to
   pub growing : Growing row count f before now (λ A. cond (keeps A) (pickSum key owner (λ i. v) x A to) 0) s
 
-none-kept : (t : Bool) (x : ℕ) → x ≡ 0 → cond t x 0 ≡ 0
-none-kept true x e = e
-none-kept false x e = refl
-
 module _ {key owner : ℕ → ℕ} {keeps : ℕ → Bool} {v x n row count : ℕ} {f : ℕ → ℕ} {before : List (List ℕ)} where
   pub walk-start : {s l : ℕ} → Wide before 32 → l ≡ last key x n → ((A : ℕ) → A < count → cond (keeps A) (pickSum key owner (λ i. v) x A n) 0 ≡ f A)
       → Walking key owner keeps v x n row count f before before s l
@@ -40,7 +37,7 @@ module _ {key owner : ℕ → ℕ} {keeps : ℕ → Bool} {v x n row count : ℕ
   pub walk-end : {now : List (List ℕ)} {s l : ℕ} → l ≤ 0 → Walking key owner keeps v x n row count f before now s l → Grown row count f before now s
   walk-end h w =
       growing-end (w .growing)
-      (λ A u. none-kept (keeps A) (pickSum key owner (λ i. v) x A (w .to)) (pick-none key owner (λ i. v) x A (w .to) (omega (arith, w .at))))
+      (λ A u. cond-none (keeps A) (pickSum key owner (λ i. v) x A (w .to)) (pick-none key owner (λ i. v) x A (w .to) (omega (arith, w .at))))
 
 module _ {key from : ℕ → ℕ} {count n keys : ℕ} {head next owner : ℕ → ℕ} (k : Keyed key from count n keys head next owner) (r : Rising from count n)
     {keeps : ℕ → Bool} {v x row : ℕ} {f : ℕ → ℕ} {before now : List (List ℕ)} {s l : ℕ} (some : 0 < l)

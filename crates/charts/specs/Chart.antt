@@ -1,10 +1,12 @@
 -- The chart of a sentence or a pattern: what filling it asks and promises.
 -- Assumes nothing: these are definitions.
 use mathlib.Core.Path.{_≡_}
+use mathlib.Core.Bool.{false}
 use mathlib.Core.List.{List, []}
 use Prim.Native.Nat.{ℕ, _≤_, _<_}
 use lib.ListN.{length, getD}
 use Rattle.lists.specs.Tables.{entry, Wide}
+use Rattle.sets.specs.Sets.{member}
 use Rattle.grammar.specs.Links.{Linked}
 use Rattle.counting.specs.Counted.{Counted}
 use Rattle.charts.specs.Letters.{any, letterAt}
@@ -17,30 +19,27 @@ pub record Blank (rules totals : List (List ℕ)) (n : ℕ) : Type 0 where
   pub zeros : (A : ℕ) → entry totals noneRow A ≡ 0
   pub room : room n ≤ length totals
 
--- what filling asks: words or blanks as letters, their plan, and the links of the rules
-pub record Fills (rules plan map : List (List ℕ)) (n : ℕ) (totals : List (List ℕ)) : Type 0 where
+-- rows of a chart beside sets outside which they are 0, as the chart before left them
+pub record Clean (n : ℕ) (sets : List ℕ) (totals : List (List ℕ)) : Type 0 where
+  pub beside : room n ≤ length sets
+  pub zero : (r A : ℕ) → chartRow ≤ r → r < room n → A < 32 → member (getD sets r 0) A ≡ false → entry totals r A ≡ 0
+
+-- what filling asks: words or blanks as letters, their plan, the links of the rules, and the sets beside the rows
+pub record Fills (rules plan map : List (List ℕ)) (n : ℕ) (sets : List ℕ) (totals : List (List ℕ)) : Type 0 where
   pub blank : Blank rules totals n
   pub planned : Planned rules plan map n
   pub linked : Linked rules
   pub letters : (p : ℕ) → p < n → letterAt map p ≤ any
+  pub clean : Clean n sets totals
 
--- what it promises: the chart, and the rows below it as they were
+-- the chart, and the rows below it as they were
 pub record Filled (rules plan map : List (List ℕ)) (n : ℕ) (before after : List (List ℕ)) : Type 0 where
   pub long : length after ≡ length before
   pub wide : Wide after 32
   pub kept : (r : ℕ) → r < chartRow → getD after r [] ≡ getD before r []
   pub mapped : Mapped rules after map n (needed plan)
 
--- ---- with sets of nonterminals beside the rows
-
-pub record FillsBeside (rules plan map : List (List ℕ)) (n : ℕ) (sets : List ℕ) (totals : List (List ℕ)) : Type 0 where
-  pub blank : Blank rules totals n
-  pub planned : Planned rules plan map n
-  pub linked : Linked rules
-  pub letters : (p : ℕ) → p < n → letterAt map p ≤ any
-  pub beside : room n ≤ length sets
-
--- and as many sets as there were
-pub record Charted (rules plan map : List (List ℕ)) (n : ℕ) (sets : List ℕ) (totals : List (List ℕ)) (sets′ : List ℕ) (totals′ : List (List ℕ)) : Type 0 where
+-- what filling promises: the chart, and its sets beside the rows
+pub record Charted (rules plan map : List (List ℕ)) (n : ℕ) (totals : List (List ℕ)) (sets′ : List ℕ) (totals′ : List (List ℕ)) : Type 0 where
   pub filled : Filled rules plan map n totals totals′
-  pub sets-long : length sets′ ≡ length sets
+  pub clean : Clean n sets′ totals′

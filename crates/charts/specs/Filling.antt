@@ -6,7 +6,7 @@ use mathlib.Core.Bool.{true, false, cond, _&&_}
 use mathlib.Core.List.{List, []}
 use Prim.Native.Nat.{ℕ, _+_, _-_, _*_, _≤_, _<_}
 use lib.Dec.{eqb}
-use lib.ListN.{length, getD}
+use lib.ListN.{length, getD, set, replicate}
 use Rattle.lists.specs.Joined.{_∈_, sumOver}
 use Rattle.lists.specs.Searched.{times}
 use Rattle.lists.specs.Tables.{entry, Wide}
@@ -20,7 +20,22 @@ use Rattle.counting.specs.Counted.{Asked}
 use Rattle.charts.specs.Letters.{any, letterAt, weightBy}
 use Rattle.charts.specs.Maps.{rowAt, totalAt, Span}
 use Rattle.charts.specs.Plan.{cuts, spots, wanted, partners, needed, chartRow}
-use Rattle.charts.specs.Chart.{FillsBeside}
+use Rattle.charts.specs.Chart.{Fills}
+
+-- ---- a row that is cleared
+
+-- a row that is 0 outside a set
+abbrev pub Zero : (totals : List (List ℕ)) (row set : ℕ) → Type 0
+Zero totals row set = (A : ℕ) → A < 32 → member set A ≡ false → entry totals row A ≡ 0
+
+pub record Clears (set row : ℕ) (totals : List (List ℕ)) : Type 0 where
+  pub wide : Wide totals 32
+  pub inside : row < length totals
+  pub zero : Zero totals row set
+
+-- the row is all 0
+abbrev pub blanked : (totals : List (List ℕ)) (row : ℕ) → List (List ℕ)
+blanked totals row = set totals row (replicate 32 0)
 
 -- ---- what is added
 
@@ -95,10 +110,6 @@ pub record AddsPair (rules : List (List ℕ)) (wanted row left right b c : ℕ) 
   pub b-low : b < 32
   pub c-low : c < 32
 
--- a row that is 0 outside a set
-abbrev pub Zero : (totals : List (List ℕ)) (row set : ℕ) → Type 0
-Zero totals row set = (A : ℕ) → A < 32 → member set A ≡ false → entry totals row A ≡ 0
-
 -- the right nonterminals of each left one
 abbrev pub Partners : (rules plan : List (List ℕ)) → Type 0
 Partners rules plan = (A B C : ℕ) → A < countIn rules → (B, C) ∈ pairsIn rules A → member (partners plan B) C ≡ true
@@ -132,8 +143,8 @@ pub record Made (row count : ℕ) (f : ℕ → ℕ) (before after : List (List �
   pub others : (r : ℕ) → (r ≡ row → ⊥) → getD after r [] ≡ getD before r []
   pub zero : Zero after row set
 
--- what the row of a span asks
-pub record Makes (rules map : List (List ℕ)) (p m : ℕ) (totals : List (List ℕ)) : Type 0 where
+-- what the row of a span asks; it is 0 outside `old`
+pub record Makes (rules map : List (List ℕ)) (p m old : ℕ) (totals : List (List ℕ)) : Type 0 where
   pub table : Ruled rules
   pub linked : Linked rules
   pub wide : Wide totals 32
@@ -142,6 +153,7 @@ pub record Makes (rules map : List (List ℕ)) (p m : ℕ) (totals : List (List 
   pub some : 1 ≤ m
   pub short : m ≤ 16
   pub letter : letterAt map p ≤ any
+  pub zero : Zero totals (rowAt map p m) old
 
 -- A's total at a single position
 abbrev pub leafSum : (rules map : List (List ℕ)) (p A : ℕ) → ℕ
@@ -156,7 +168,8 @@ pub record Half (map : List (List ℕ)) (row p m : ℕ) (sets : List ℕ) (total
 
 -- what the row of two positions or more asks
 pub record Joins (rules plan map : List (List ℕ)) (p m : ℕ) (sets : List ℕ) (totals : List (List ℕ)) : Type 0 where
-  pub makes : Makes rules map p m totals
+  pub makes : Makes rules map p m (getD sets (rowAt map p m) 0) totals
+  pub beside : rowAt map p m < length sets
   pub pairs : Partners rules plan
   pub within : (k : ℕ) → k < 32 → member (cuts plan m) k ≡ true → (1 ≤ k) × (k < m) × (p + k < 16)
   pub left : (k : ℕ) → k < 32 → member (cuts plan m) k ≡ true → Half map (rowAt map p m) p k sets totals
@@ -165,7 +178,7 @@ pub record Joins (rules plan map : List (List ℕ)) (p m : ℕ) (sets : List ℕ
 
 -- what the row of a span asks, and what it is to hold
 pub record Spans (rules plan map : List (List ℕ)) (p m : ℕ) (sets : List ℕ) (totals : List (List ℕ)) : Type 0 where
-  pub makes : Makes rules map p m totals
+  pub makes : Makes rules map p m (getD sets (rowAt map p m) 0) totals
   pub beside : rowAt map p m < length sets
   pub joins : 2 ≤ m → Joins rules plan map p m sets totals
 
@@ -180,16 +193,15 @@ pub record Spanned (rules plan map : List (List ℕ)) (p m : ℕ) (sets : List �
 
 -- ---- spans of one length after another
 
--- the row of a span has its totals, and its set is beside it
-pub record Done (rules map : List (List ℕ)) (n p m : ℕ) (sets : List ℕ) (totals : List (List ℕ)) : Type 0 where
-  pub right : (A : ℕ) → Asked rules n A m → totalAt totals map p A m ≡ total (ruled rules) (weightBy rules map) p A m
-  pub zero : Zero totals (rowAt map p m) (getD sets (rowAt map p m) 0)
+-- the row of a span has its totals
+abbrev pub Done : (rules map : List (List ℕ)) (n p m : ℕ) (totals : List (List ℕ)) → Type 0
+Done rules map n p m totals = (A : ℕ) → Asked rules n A m → totalAt totals map p A m ≡ total (ruled rules) (weightBy rules map) p A m
 
 -- so have those of all needed spans shorter than m, and of those of the length m at a position that isn't in `left`
 pub record FilledTo (rules plan map : List (List ℕ)) (n m left : ℕ) (sets : List ℕ) (totals : List (List ℕ)) : Type 0 where
-  pub fills : FillsBeside rules plan map n sets totals
-  pub shorter : (p k : ℕ) → Span n p k → k < m → needed plan p k ≡ true → Done rules map n p k sets totals
-  pub here : (p : ℕ) → Span n p m → needed plan p m ≡ true → member left p ≡ false → Done rules map n p m sets totals
+  pub fills : Fills rules plan map n sets totals
+  pub shorter : (p k : ℕ) → Span n p k → k < m → needed plan p k ≡ true → Done rules map n p k totals
+  pub here : (p : ℕ) → Span n p m → needed plan p m ≡ true → member left p ≡ false → Done rules map n p m totals
 
 -- what filling the spans of the length m asks
 pub record Lengthens (rules plan map : List (List ℕ)) (n m : ℕ) (sets : List ℕ) (totals : List (List ℕ)) : Type 0 where

@@ -1,5 +1,5 @@
 // The chart of a sentence or a pattern: for each span that is needed a row of totals, shorter spans first. Beside each row a set of
-// nonterminals outside which it is 0.
+// nonterminals outside which it is 0: by that set the row is cleared before it is made anew.
 ghost use mathlib.Core.Path.{_≡_};
 ghost use Prim.Native.Nat.{ℕ, _+_, _*_, _-_, _≤_, _<_};
 ghost use lib.ListN.{length};
@@ -7,8 +7,8 @@ ghost use Rattle.lists.specs.Tables.{entry};
 ghost use Rattle.grammar.specs.Rules.{countIn};
 ghost use Rattle.charts.specs.Maps.{rowAt};
 ghost use Rattle.charts.specs.Plan.{lengthIn, wanted};
-ghost use Rattle.charts.specs.Chart.{Fills, Filled, FillsBeside, Charted};
-ghost use Rattle.charts.specs.Filling.{only, tieSum, sideSum, pairSum, cutsSum, wordCount, wordTimes, leafSum, Grown, Clear, AddsPair, AddsLeft, AddsSplit, Made, Makes, Joins, Spans, Spanned, Lengthens, Lengthened};
+ghost use Rattle.charts.specs.Chart.{Fills, Charted};
+ghost use Rattle.charts.specs.Filling.{blanked, Clears, only, tieSum, sideSum, pairSum, cutsSum, wordCount, wordTimes, leafSum, Grown, Clear, AddsPair, AddsLeft, AddsSplit, Made, Makes, Joins, Spans, Spanned, Lengthens, Lengthened};
 use crate::maps;
 use crate::plan;
 use crate::plan::CUTS;
@@ -16,6 +16,21 @@ use crate::plan::PARTNERS;
 use crate::plan::SPOTS;
 use crate::plan::WANTED;
 use grammar::rules;
+
+// ---- a row to begin with
+
+// A row that is 0 outside the set becomes all 0.
+fn clear(set: u32, row: usize, totals: &mut [[u64; 32]])
+    requires { ⌜ Clears set row (now totals) ⌝ }
+    ensures { λ _. ⌜ now (totals .exit) ≡ blanked (now (totals .entry)) row ⌝ }
+{
+    let mut left = set;
+    while left != 0 {
+        let a = sets::lowest(left);
+        totals[row][a] = 0;
+        left = sets::after_lowest(left);
+    }
+}
 
 // ---- one position
 
@@ -54,13 +69,19 @@ fn add_word(rules: &[[u8; 256]], x: usize, row: usize, totals: &mut [[u64; 32]])
     set
 }
 
-// The row of the position p.
-fn fill_leaf(rules: &[[u8; 256]], map: &[[u16; 16]; 17], p: usize, totals: &mut [[u64; 32]]) -> u32
-    requires { ⌜ Makes (now rules) (now map) p 1 (now totals) ⌝ }
+// The row of the position p; it is 0 outside `old`.
+fn fill_leaf(
+    rules: &[[u8; 256]],
+    map: &[[u16; 16]; 17],
+    p: usize,
+    old: u32,
+    totals: &mut [[u64; 32]],
+) -> u32
+    requires { ⌜ Makes (now rules) (now map) p 1 old (now totals) ⌝ }
     ensures { λ r. ⌜ Made (rowAt (now (map .entry)) p 1) (countIn (now (rules .entry))) (leafSum (now (rules .entry)) (now (map .entry)) p) (now (totals .entry)) (now (totals .exit)) r ⌝ }
 {
     let row = maps::row_at(map, p, 1);
-    totals[row] = [0; 32];
+    clear(old, row, totals);
     let x = map[maps::LETTERS][p];
     if x == maps::ANY {
         return add_words(rules, row, totals);
@@ -169,7 +190,7 @@ fn fill_cuts(
     ensures { λ r. ⌜ Made (rowAt (now (map .entry)) p m) (countIn (now (rules .entry))) (λ A. only (wanted (now (plan .entry)) m) A (cutsSum (now (rules .entry)) (now (plan .entry)) (now (map .entry)) (now (totals .entry)) p m A)) (now (totals .entry)) (now (totals .exit)) r ⌝ }
 {
     let row = maps::row_at(map, p, m);
-    totals[row] = [0; 32];
+    clear(sets[row], row, totals);
     let wanted = plan[WANTED][m];
     let mut set = sets::none();
     let mut ks = plan[CUTS][m];
@@ -203,7 +224,7 @@ fn fill_span(
 {
     let row = maps::row_at(map, p, m);
     if m == 1 {
-        sets[row] = fill_leaf(rules, map, p, totals);
+        sets[row] = fill_leaf(rules, map, p, sets[row], totals);
         return;
     }
     sets[row] = fill_cuts(rules, plan, map, p, m, &sets[..], totals);
@@ -229,41 +250,21 @@ fn fill_length(
     }
 }
 
-// All rows that are needed, shorter spans first.
-fn fill_beside(
+// The chart of the map's letters, shorter spans first. The sets are those that the chart before left, if any.
+pub fn fill(
     rules: &[[u8; 256]],
     plan: &[[u32; 32]; 4],
     map: &[[u16; 16]; 17],
-    n: usize,
     sets: &mut [u32],
     totals: &mut [[u64; 32]],
 )
-    requires { ⌜ FillsBeside (now rules) (now plan) (now map) n (now sets) (now totals) ⌝ }
-    ensures { λ _. ⌜ Charted (now (rules .entry)) (now (plan .entry)) (now (map .entry)) n (now (sets .entry)) (now (totals .entry)) (now (sets .exit)) (now (totals .exit)) ⌝ }
+    requires { ⌜ Fills (now rules) (now plan) (now map) (lengthIn (now plan)) (now sets) (now totals) ⌝ }
+    ensures { λ _. ⌜ Charted (now (rules .entry)) (now (plan .entry)) (now (map .entry)) (lengthIn (now (plan .entry))) (now (totals .entry)) (now (sets .exit)) (now (totals .exit)) ⌝ }
 {
+    let n = plan::length(plan);
     let mut m = 1;
     while m <= n {
         fill_length(rules, plan, map, m, sets, totals);
         m += 1;
     }
-}
-
-// The chart of the map's letters. As many sets as a chart of the plan's length has rows: of up to five positions 33, of sixteen 154.
-pub fn fill(
-    rules: &[[u8; 256]],
-    plan: &[[u32; 32]; 4],
-    map: &[[u16; 16]; 17],
-    totals: &mut [[u64; 32]],
-)
-    requires { ⌜ Fills (now rules) (now plan) (now map) (lengthIn (now plan)) (now totals) ⌝ }
-    ensures { λ _. ⌜ Filled (now (rules .entry)) (now (plan .entry)) (now (map .entry)) (lengthIn (now (plan .entry))) (now (totals .entry)) (now (totals .exit)) ⌝ }
-{
-    let n = plan::length(plan);
-    if n <= 5 {
-        let mut sets = [0u32; 33];
-        fill_beside(rules, plan, map, n, &mut sets, totals);
-        return;
-    }
-    let mut sets = [0u32; 154];
-    fill_beside(rules, plan, map, n, &mut sets, totals);
 }

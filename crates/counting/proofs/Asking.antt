@@ -1,5 +1,4 @@
--- What is asked for: with a nonterminal and a length the halves of its pair rules. A total of what has no derivation is 0, and a total of
--- weights up to 1 is no larger than the count.
+-- What is asked for: with a nonterminal and a length the halves of its pair rules. A total of what has no derivation is 0.
 -- Assumes nothing.
 use mathlib.Core.Path.{_≡_, refl, sym, ap, _∙_}
 use mathlib.Core.List.{List, [], _∷_}
@@ -9,7 +8,7 @@ use lib.ListN.{length, getD}
 use Rattle.lists.specs.Joined.{_∈_, sumOver}
 use Rattle.grammar.specs.Chains.{Rule}
 use Rattle.grammar.specs.Rules.{countIn, pairsIn, Ruled}
-use Rattle.lists.specs.Tables.{entry, Wide, Copied}
+use Rattle.lists.specs.Tables.{Wide, Copied}
 use Rattle.lists.proofs.Tables.{copied-wide}
 use Rattle.grammar.proofs.Ruling.{pair-inside}
 use Rattle.grammar.proofs.Kept.{ruled-same, ruled-kept}
@@ -38,20 +37,23 @@ total-dead rules v p A m e =
 -- ---- other tables with the same counts
 
 -- the rows up to n are what the counts of the length n are read from
+pub counted-rows : {rules from after : List (List ℕ)} {n : ℕ} → Counted rules from n → 17 ≤ length after → Wide after 32
+    → ((r : ℕ) → r ≤ n → getD after r [] ≡ getD from r []) → Counted rules after n
+counted-rows c long wide same = record {
+  table = c .table;
+  some = c .some;
+  short = c .short;
+  long = long;
+  wide = wide;
+  right = λ A m a. ap (λ (l : List ℕ). getD l A 0) (same m (a .short)) ∙ c .right A m a;
+  fits = c .fits;
+  longest = λ A m a h. c .longest A m a (rw (same 0 (omega arith)) at h);
+}
+
 pub counted-copied : {rules from before after : List (List ℕ)} {n : ℕ} → Counted rules from n → 17 ≤ length before → Wide before 32 → Copied (n + 1) from before after
     → Counted rules after n
-counted-copied {rules} {from} {before} {after} {n} c long wide q =
-    let entry-same : (r i : ℕ) → r ≤ n → entry after r i ≡ entry from r i = λ r i h. ap (λ (l : List ℕ). getD l i 0) (q .rows r (omega arith)) in
-    record {
-      table = c .table;
-      some = c .some;
-      short = c .short;
-      long = omega (arith, q .long);
-      wide = copied-wide (omega (arith, c .short, c .long)) (c .wide) wide q;
-      right = λ A m a. entry-same m A (a .short) ∙ c .right A m a;
-      fits = c .fits;
-      longest = λ A m a h. c .longest A m a (rw (entry-same 0 A (omega arith)) at h);
-    }
+counted-copied c long wide q =
+    counted-rows c (omega (arith, q .long)) (copied-wide (omega (arith, c .short, c .long)) (c .wide) wide q) (λ r h. q .rows r (omega arith))
 
 -- rules with the same first four rows have the same counts
 pub counted-kept : {rules after totals : List (List ℕ)} {n : ℕ} → 4 ≤ length after → Wide after 256 → ((r : ℕ) → r < 4 → getD after r [] ≡ getD rules r []) → Counted rules totals n

@@ -14,14 +14,14 @@ use lib.Dec.{ltb}
 use lib.ListN.{length, getD, set, drop, length-set}
 use lib.Seq.{drop-cons, drop-length}
 use Rattle.lists.specs.Joined.{sumOver}
-use Rattle.lists.specs.Tables.{put, Wide}
+use Rattle.lists.specs.Tables.{put, Wide, Kept}
 use Rattle.lists.proofs.Tests.{below-at, below-clear, below-some, to-clear, to-some}
-use Rattle.lists.proofs.Tables.{put-same, put-row, put-other-row, put-beside, wide-put}
+use Rattle.lists.proofs.Tables.{put-same, put-row, put-other-row, put-beside, kept-same, kept-then, kept-put}
 use Rattle.grammar.specs.Rules.{leftAt, rightAt, wordFrom, pairFrom, countIn, pairsIn, ruled}
 use Rattle.grammar.proofs.Ruling.{words-ruled, pairs-ruled, word-count, pair-count, pair-here, pair-below}
 use Rattle.counting.specs.Totals.{T}
 use Rattle.counting.specs.Tables.{most, overflows}
-use Rattle.counting.specs.Counted.{countAt, longestAt, Kept}
+use Rattle.counting.specs.Counted.{countAt, longestAt}
 use Rattle.counting.specs.Filling.{
   Says,
   Filling,
@@ -156,24 +156,8 @@ module _ {rules totals : List (List ℕ)} {m a : ℕ} (d : Deriving rules totals
 
 -- ---- what a store leaves
 
-module _ {first width : ℕ} where
-  pub kept-same : {totals : List (List ℕ)} → Wide totals width → Kept first width totals totals
-  kept-same h = record { long = refl; wide = h; rest = λ r l. refl }
-
-  pub kept-then : {before between after : List (List ℕ)} → Kept first width before between → Kept first width between after → Kept first width before after
-  kept-then h k = record { long = k .long ∙ h .long; wide = k .wide; rest = λ r l. k .rest r l ∙ h .rest r l }
-
-  pub kept-put : (totals : List (List ℕ)) (r i v : ℕ) → r < first → Wide totals width → Kept first width totals (put totals r i v)
-  kept-put totals r i v h k = record {
-    long = length-set totals r (set (getD totals r []) i v);
-    wide = wide-put totals width r i v k;
-    rest = λ q l. put-row totals r i v q (λ e. omega arith);
-  }
-
 kept-stored : (totals : List (List ℕ)) (a m v : ℕ) → m ≤ 16 → Wide totals 32 → Kept 17 32 totals (stored totals a m v)
-kept-stored totals a m v h k =
-    let first = kept-put {first = 17} totals m a v (omega arith) k in
-    kept-then first (kept-put (put totals m a v) 0 a (longer (longestAt totals a) m v) (omega arith) (first .wide))
+kept-stored totals a m v h k = kept-put 0 a (longer (longestAt totals a) m v) (omega arith) (kept-put m a v (omega arith) (kept-same k))
 
 -- the entries once v is stored at a and m
 module _ (totals : List (List ℕ)) (m a v : ℕ) (long : 17 ≤ length totals) (wide : Wide totals 32) (ha : a < 32) (h₁ : 1 ≤ m) (h : m ≤ 16) where
@@ -315,12 +299,12 @@ module _ {rules start : List (List ℕ)} (f : RowFilling rules start 1) {a n : �
   -- the longest length of a may be set anew
   pub passed-anew : {before : List (List ℕ)} → Passed rules start before 1 a → Passed rules start (put before 0 a 0) 1 a
   passed-anew {before} p =
-      let kept = kept-put {first = 17} before 0 a 0 (omega arith) (p .rows .wide) in
+      let kept = kept-put 0 a 0 (omega arith) (p .kept) in
       let long = p .rows .long in
       record {
         reached = p .reached;
         rows = record {
-          long = omega (arith, kept .long);
+          long = omega (arith, length-set before 0 (set (getD before 0 []) a 0));
           wide = kept .wide;
           right = λ A k hA l u. absurd (omega arith);
           longest = λ A k hA l u. absurd (omega arith);
@@ -328,7 +312,7 @@ module _ {rules start : List (List ℕ)} (f : RowFilling rules start 1) {a n : �
           longest-here = λ A l u. p .rows .longest-here A l (rw (put-beside before 0 a 0 A (omega arith) (λ z. omega arith)) at u);
         };
         fit = p .fit;
-        kept = kept-then (p .kept) kept;
+        kept = kept;
       }
 
 -- ---- the loop over the rows

@@ -23,7 +23,8 @@ use Rattle.grammar.specs.declared.checks.GrammarAnswer.{GrammarAnswer}
 use Rattle.grammar.specs.declared.checks.GrammarAnswer.the-variants as checked
 use Rattle.counting.specs.Totals.{T}
 use Rattle.counting.specs.Tables.{tooLarge}
-use Rattle.counting.specs.Counted.{countAt, Kept}
+use Rattle.lists.specs.Tables.{Kept}
+use Rattle.counting.specs.Counted.{countAt}
 use Rattle.counting.specs.Filling.{Filling, Filled}
 use Rattle.counting.specs.Prepared.{openRows, preparedRows, countNumber, Opens, Lent, Prepares}
 use Rattle.counting.specs.Answers as answers
@@ -32,7 +33,7 @@ use Rattle.counting.specs.declared.prepare.CountRefusal.the-variants.{Gr
 use Rattle.counting.specs.declared.prepare.Prepared.{Prepared}
 use Rattle.counting.specs.declared.prepare.Prepared.the-variants.{Ready, Refused}
 use Rattle.counting.specs.declared.count.CountAnswer.the-variants as counted
-use Rattle.counting.proofs.Filling.{kept-same}
+use Rattle.lists.proofs.Tables.{kept-same}
 use Rattle.counting.proofs.Tabled.{tabled-T, tabled-large}
 
 -- ---- refusals have numbers above 0

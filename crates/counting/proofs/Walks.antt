@@ -1,25 +1,22 @@
 -- The walk over a nonterminal's sentences: a single word, a rule and a left length, two halves.
 -- Assumes nothing.
-use mathlib.Core.Path.{_≡_, refl, sym, ap, _∙_}
+use mathlib.Core.Path.{_≡_, sym, _∙_}
 use mathlib.Core.List.{List, [], _∷_, _++_}
-use Prim.Native.Nat.{ℕ, zero, suc, _+_, _*_, _-_, _/_, _%_, _≤_, _<_}
+use Prim.Native.Nat.{ℕ, _+_, _*_, _-_, _/_, _%_, _≤_, _<_}
 use native.Mathlib.Omega.{arith}
 use native.Mathlib.Nat.{mod-lt, mul-le-mul-right}
-use lib.ListN.{length}
-use Rattle.lists.specs.Joined.{sumOver, concatMap, combine, upFrom}
-use Rattle.lists.proofs.Sums.{sum-ext, sum-combine, sum-concat}
-use Rattle.lists.proofs.Members.{upFrom-∈}
-use Rattle.grammar.specs.Chains.{Rule, wordsOf, pairsOf}
-use Rattle.counting.specs.Totals.{splitSum, total}
+use Rattle.lists.specs.Joined.{sumOver, combine}
+use Rattle.lists.proofs.Sums.{sum-combine}
+use Rattle.grammar.specs.Chains.{Rule, wordsOf}
+use Rattle.counting.specs.Totals.{total}
 use Rattle.counting.specs.Sentences.{sentences, weight, splitList}
-use Rattle.counting.proofs.Totals.{pairTotal, total-more}
-use Rattle.counting.proofs.Sentences.{sentences-one, sentences-more, sentence-length}
-use Rattle.counting.proofs.Counts.{weight-append, total-sum}
+use Rattle.counting.proofs.Totals.{pairTotal}
+use Rattle.counting.proofs.Sentences.{sentences-one, sentence-length}
+use Rattle.counting.proofs.Counts.{weight-append, total-sum, split-total}
 use Rattle.lists.specs.Tickets.{Owns, Product}
-use Rattle.lists.specs.Parts.{Part}
-use Rattle.counting.specs.Owned.{OwnedAs, halves, halvesTotal, InHalves, HalvesAs, ChosenAs}
-use Rattle.lists.proofs.Owners.{owns-∈, owns-inside, owns-map, owns-ext}
-use Rattle.lists.proofs.Parts.{part-owns, part-total, part-size, part-within, block-part}
+use Rattle.counting.specs.Owned.{OwnedAs, halvesTotal, InHalves, HalvesAs, ChosenAs}
+use Rattle.lists.proofs.Owners.{owns-inside, owns-map, owns-ext}
+use Rattle.lists.proofs.Parts.{part-owns, part-total, part-size}
 use Rattle.lists.proofs.Products.{product-some, product-left, product-right, product-owns, product-weight, product-measure}
 
 module _ (rules : ℕ → List Rule) where
@@ -38,35 +35,9 @@ module _ (rules : ℕ → List Rule) where
 
   -- ---- the left lengths of a pair rule
 
-  split-list : (list : ℕ → ℕ → List (List ℕ)) (B C m k j : ℕ) → k + j ≡ m
-      → splitList list B C k j ≡ concatMap (λ i. combine _++_ (list B i) (list C (m - i))) (upFrom k j)
-  split-list list B C m k zero e = refl
-  split-list list B C m k (suc j) e =
-      let z : m - k ≡ suc j = omega arith in
-      rw (z, split-list list B C m (suc k) j (omega arith))
-
-  split-total : (f : ℕ → ℕ → ℕ → ℕ) (B C p m k j : ℕ) → k + j ≡ m
-      → splitSum f B C p k j ≡ sumOver (λ i. f p B i * f (p + i) C (m - i)) (upFrom k j)
-  split-total f B C p m k zero e = refl
-  split-total f B C p m k (suc j) e =
-      let z : m - k ≡ suc j = omega arith in
-      rw (z, split-total f B C p m (suc k) j (omega arith))
-
-  rule-list : (B C m : ℕ) → 1 ≤ m → splitList (sentences rules) B C 1 (m - 1) ≡ concatMap (λ i. halves rules B C i m) (upFrom 1 (m - 1))
-  rule-list B C m h = split-list (sentences rules) B C m 1 (m - 1) (omega arith)
-
   pub rule-total : (v : ℕ → ℕ → ℕ) (p m : ℕ) (x : ℕ × ℕ) → 1 ≤ m
       → sumOver (weight v p) (splitList (sentences rules) (x .0) (x .1) 1 (m - 1)) ≡ pairTotal (total rules v) p m x
-  rule-total v p m x h =
-      ap (sumOver (weight v p)) (rule-list (x .0) (x .1) m h)
-      ∙ sum-concat (λ i. halves rules (x .0) (x .1) i m) (weight v p) (upFrom 1 (m - 1))
-      ∙ sum-ext (λ i. sumOver (weight v p) (halves rules (x .0) (x .1) i m)) (halvesTotal rules v (x .0) (x .1) p m) (upFrom 1 (m - 1))
-      (λ i j. halves-total v (x .0) (x .1) p m i)
-      ∙ sym (split-total (total rules v) (x .0) (x .1) p m 1 (m - 1) (omega arith))
-
-  -- a ticket of A is one of its rules'
-  pub some-rule : (v : ℕ → ℕ → ℕ) (p A m t : ℕ) → 2 ≤ m → t < total rules v p A m → t < sumOver (pairTotal (total rules v) p m) (pairsOf (rules A))
-  some-rule v p A m t h k = rw (← total-more rules v p A m h) k
+  rule-total v p m x h = split-total rules v (x .0) (x .1) p 1 (m - 1) (omega arith)
 
 module _ {rules : ℕ → List Rule} {v u : ℕ → ℕ → ℕ} where
   -- ---- a single word
@@ -78,31 +49,6 @@ module _ {rules : ℕ → List Rule} {v u : ℕ → ℕ → ℕ} where
     measure-is = omega arith;
     weighs-is = omega arith;
   }
-
-  -- ---- a rule and a left length: the rules by what each adds, the left lengths of the rule found by the products of the halves' totals
-
-  pub chosen : {A p m t B C n o k n′ o′ : ℕ} → 2 ≤ m
-      → Owns (pairTotal (total rules v) p m) (pairTotal (total rules u) p m) (pairsOf (rules A)) t (B, C) n o
-      → Owns (halvesTotal rules v B C p m) (halvesTotal rules u B C p m) (upFrom 1 (m - 1)) o k n′ o′
-      → ChosenAs rules v u A p m t B C k (n + n′) o′
-  chosen {A} {p} {m} {t} {B} {C} {n} {o} {k} {n′} {o′} h r q =
-      let i = upFrom-∈ 1 (m - 1) (owns-∈ q) in
-      let rule : Part (weight v p) (weight u p) (sentences rules A m) (splitList (sentences rules) B C 1 (m - 1)) t n o
-      = rw (sentences-more rules A m h)
-      (block-part (λ x. splitList (sentences rules) (x .0) (x .1) 1 (m - 1))
-      (owns-ext (λ x. sumOver (weight v p) (splitList (sentences rules) (x .0) (x .1) 1 (m - 1))) (λ x. sumOver (weight u p) (splitList (sentences rules) (x .0) (x .1) 1 (m - 1)))
-      (λ x j. sym (rule-total rules v p m x (omega arith))) (λ x j. sym (rule-total rules u p m x (omega arith))) r)) in
-      let length : Part (weight v p) (weight u p) (splitList (sentences rules) B C 1 (m - 1)) (halves rules B C k m) o n′ o′
-      = rw (rule-list rules B C m (omega arith))
-      (block-part (λ i. halves rules B C i m)
-      (owns-ext (λ i. sumOver (weight v p) (halves rules B C i m)) (λ i. sumOver (weight u p) (halves rules B C i m))
-      (λ i j. sym (halves-total rules v B C p m i)) (λ i j. sym (halves-total rules u B C p m i)) q)) in
-      record {
-        rule = owns-∈ r;
-        some = i .0;
-        short = omega arith;
-        part = part-within rule length (n + n′) refl;
-      }
 
 -- ---- an owner's tickets
 

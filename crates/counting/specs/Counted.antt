@@ -2,9 +2,9 @@
 -- 16 the counts T of the length m; a row has a number for each nonterminal. Rows above are other crates'.
 -- Assumes nothing: these are definitions.
 use mathlib.Core.Path.{_≡_}
-use mathlib.Core.List.{List, []}
+use mathlib.Core.List.{List}
 use Prim.Native.Nat.{ℕ, _≤_, _<_}
-use lib.ListN.{length, getD}
+use lib.ListN.{length}
 use Rattle.lists.specs.Tables.{entry, Wide}
 use Rattle.grammar.specs.Rules.{countIn, ruled, Ruled}
 use Rattle.counting.specs.Totals.{T}
@@ -34,9 +34,3 @@ pub record Counted (rules totals : List (List ℕ)) (n : ℕ) : Type 0 where
   pub right : (A m : ℕ) → Asked rules n A m → countAt totals A m ≡ T (ruled rules) A m
   pub fits : (A m : ℕ) → Asked rules n A m → T (ruled rules) A m ≤ most
   pub longest : (A m : ℕ) → Asked rules n A m → longestAt totals A < m → T (ruled rules) A m ≡ 0
-
--- the table is as large as it was, and the rows from `first` on are what they were
-pub record Kept (first width : ℕ) (before after : List (List ℕ)) : Type 0 where
-  pub long : length after ≡ length before
-  pub wide : Wide after width
-  pub rest : (r : ℕ) → first ≤ r → getD after r [] ≡ getD before r []

@@ -8,11 +8,11 @@ use Prim.Native.Nat.{ℕ, zero, suc, _+_, _*_, _-_, _≤_, _<_}
 use lib.Dec.{ltb, eqb}
 use lib.ListN.{length, getD}
 use Rattle.lists.specs.Searched.{someBelow}
-use Rattle.lists.specs.Tables.{put, Wide}
+use Rattle.lists.specs.Tables.{put, Wide, Kept}
 use Rattle.grammar.specs.Rules.{countIn, ruled, Ruled}
 use Rattle.counting.specs.Totals.{T}
 use Rattle.counting.specs.Tables.{most, overflows}
-use Rattle.counting.specs.Counted.{countAt, longestAt, Counted, Kept}
+use Rattle.counting.specs.Counted.{countAt, longestAt, Counted}
 use Rattle.counting.specs.declared.tallies.Tally.{Tally}
 use Rattle.counting.specs.declared.tallies.Tally.the-variants.{Fits, Over}
 

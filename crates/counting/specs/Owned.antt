@@ -11,10 +11,6 @@ use Rattle.counting.specs.Sentences.{sentences, weight, splitList}
 use Rattle.lists.specs.Tickets.{Owns}
 use Rattle.lists.specs.Parts.{Part}
 
--- every word counts for 1
-abbrev pub counts : ℕ → ℕ → ℕ
-counts p w = 1
-
 module _ (rules : ℕ → List Rule) where
   -- the sentences of m words that B and C make with left length k
   abbrev pub halves : (B C k m : ℕ) → List (List ℕ)

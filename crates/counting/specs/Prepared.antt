@@ -6,14 +6,14 @@ use mathlib.Core.Bool.{false}
 use mathlib.Core.List.{List, [], _∷_, _++_}
 use Prim.Native.Nat.{ℕ, _≤_}
 use lib.ListN.{length}
-use Rattle.lists.specs.Tables.{Wide}
+use Rattle.lists.specs.Tables.{Wide, Kept}
 use Rattle.answers.specs.Answer.{Row, firstThatApplies}
 use Rattle.answers.specs.Length.{badLength}
 use Rattle.grammar.specs.Refusals.{grammarRows}
 use Rattle.grammar.specs.Answers.{refusalNumber}
 use Rattle.grammar.specs.Rules.{Holds, Roomy}
 use Rattle.counting.specs.Tables.{tooLarge}
-use Rattle.counting.specs.Counted.{Counted, Kept}
+use Rattle.counting.specs.Counted.{Counted}
 use Rattle.counting.specs.declared.prepare.Prepared.{Prepared}
 use Rattle.counting.specs.declared.prepare.Prepared.the-variants.{Ready, Refused}
 use Rattle.counting.specs.declared.prepare.CountRefusal.{CountRefusal}

@@ -20,7 +20,7 @@ use Rattle.lists.specs.Tables.{entry, put}
 use Rattle.lists.proofs.Members.{concat-∈}
 use Rattle.lists.proofs.Sums.{concat-append}
 use Rattle.lists.proofs.Places.{getD-same, getD-left, map-upFrom, upFrom-split, set-le}
-use Rattle.lists.proofs.Tables.{put-same, put-row, put-beside, put-other-row, wide-put}
+use Rattle.lists.proofs.Tables.{put-same, put-beside, put-other-row, wide-put, kept-same, kept-then, kept-put}
 use Rattle.lists.proofs.Tests.{to-clear, to-some}
 use Rattle.lists.proofs.Searches.{times-∈, ∈-times, times-append, times-mark, times-few}
 use Rattle.lists.proofs.Linked.{met-none, met-step, met-inside}
@@ -198,20 +198,6 @@ row-long m row h = m .wide .row row (omega (arith, m .long))
 row-inside : {t : List (List ℕ)} → Roomy t → (row : ℕ) → row < 4 → row < length t
 row-inside m row h = omega (arith, m .long)
 
-pub kept-none : {t : List (List ℕ)} → Roomy t → Kept t t
-kept-none m = record { long = refl; wide = m .wide; rest = λ q h. refl }
-
-pub kept-put : {old t : List (List ℕ)} (r i v : ℕ) → r < 4 → Kept old t → Kept old (put t r i v)
-kept-put {old} {t} r i v h k =
-    record {
-      long = length-set t r (set (getD t r []) i v) ∙ k .long;
-      wide = wide-put t 256 r i v (k .wide);
-      rest = λ q u. put-row t r i v q (λ e. omega arith) ∙ k .rest q u;
-    }
-
-pub kept-kept : {t u v : List (List ℕ)} → Kept t u → Kept u v → Kept t v
-kept-kept k l = record { long = l .long ∙ k .long; wide = l .wide; rest = λ q h. l .rest q h ∙ k .rest q h }
-
 -- ---- what is entered
 
 -- as long as there are fewer than 255 rules, there is room for one more
@@ -374,31 +360,32 @@ module _ {g seen₀ : List ℕ} {t₀ : List (List ℕ)} {a : ℕ} (s : Entering
       rules-low : length (map (ruleOf g) (v .done)) < 255
       rules-low = omega (arith, walk-free, both-kinds (map (ruleOf g) (v .done)), v .words, v .pairs, s .readable .sized .numbered)
 
+      -- with its entry
+      walk-on : {t′ : List (List ℕ)} {w′ p′ : ℕ} → Entered g t′ (map (ruleOf g) (v .done) ++ (x ∷ [])) a
+          → w′ ≡ length (wordsOf (map (ruleOf g) (v .done) ++ (x ∷ []))) → p′ ≡ length (pairsOf (map (ruleOf g) (v .done) ++ (x ∷ [])))
+          → Walking g (set seen j 1) t′ a next w′ p′
+      walk-on e ew ep = record {
+        done = v .done ++ (at ∷ []);
+        left = v .left - 1;
+        split = more-split;
+        enough = more-enough;
+        marked = more-marked;
+        entered = rw more-rules e;
+        words = rw more-rules ew;
+        pairs = rw more-rules ep;
+      }
+
     pub walk-word : {x j next : ℕ} → j ≡ at → getD seen j 0 ≡ 0 → Met g at (word x) next
         → Walking g (set seen j 1) (put t 0 w x) a next (w + 1) p
-    walk-word {x} ej new m = record {
-      done = v .done ++ (at ∷ []);
-      left = v .left - 1;
-      split = more-split ej new m;
-      enough = more-enough ej new m;
-      marked = more-marked ej new m;
-      entered = rw (more-rules ej new m) (enter-word (rules-low ej new m) (v .entered) x (v .words));
-      words = rw (more-rules ej new m) (simp (words-append, length-append) (omega (arith, v .words)));
-      pairs = rw (more-rules ej new m) (simp (pairs-append, append-nil) (v .pairs));
-    }
+    walk-word {x} ej new m =
+        walk-on ej new m (enter-word (rules-low ej new m) (v .entered) x (v .words)) (simp (words-append, length-append) (omega (arith, v .words)))
+        (simp (pairs-append, append-nil) (v .pairs))
 
     pub walk-pair : {B C j next : ℕ} → j ≡ at → getD seen j 0 ≡ 0 → Met g at (pair B C) next
         → Walking g (set seen j 1) (put (put t 1 p B) 2 p C) a next w (p + 1)
-    walk-pair {B} {C} ej new m = record {
-      done = v .done ++ (at ∷ []);
-      left = v .left - 1;
-      split = more-split ej new m;
-      enough = more-enough ej new m;
-      marked = more-marked ej new m;
-      entered = rw (more-rules ej new m) (enter-pair (rules-low ej new m) (v .entered) B C (v .pairs));
-      words = rw (more-rules ej new m) (simp (words-append, append-nil) (v .words));
-      pairs = rw (more-rules ej new m) (simp (pairs-append, length-append) (omega (arith, v .pairs)));
-    }
+    walk-pair {B} {C} ej new m =
+        walk-on ej new m (enter-pair (rules-low ej new m) (v .entered) B C (v .pairs)) (simp (words-append, append-nil) (v .words))
+        (simp (pairs-append, length-append) (omega (arith, v .pairs)))
 
     pub walk-end : {i : ℕ} → i ≡ a → isNumber (rules g) at ≡ false → Kept t₀ t
         → Enters g seen t₀ (put (put t 3 (i + 1) w) 3 (64 + i + 1) p) a false
@@ -463,7 +450,7 @@ prepare-all {g} {t} {s} {n} {w} m es en ew = record {
   kept =
       kept-put 3 130 w (omega arith)
       (kept-put 3 129 n (omega arith)
-      (kept-put 3 128 s (omega arith) (kept-put 3 64 0 (omega arith) (kept-put 3 0 0 (omega arith) (kept-none m)))));
+      (kept-put 3 128 s (omega arith) (kept-put 3 64 0 (omega arith) (kept-put 3 0 0 (omega arith) (kept-same (m .wide))))));
 }
   where
     m₁ : Roomy (put t 3 0 0)
@@ -493,7 +480,7 @@ build-start {g} o = record { marked = marks-none g; entered = o .entered }
 pub build-again : {g seen : List ℕ} {old t new : List (List ℕ)} {a : ℕ} → Kept old t → Enters g seen t new a true → Builds g old new true
 build-again k e =
     record {
-      kept = kept-kept k (e .kept);
+      kept = kept-then k (e .kept);
       says = sym (e .twice refl);
       sorted = λ z. absurd (false≢true (sym z));
       many = λ z. absurd (false≢true (sym z));

@@ -178,10 +178,6 @@ eqb-turn : (a b : ℕ) → eqb a b ≡ eqb b a
 eqb-turn a b =
     both-ways (eqb a b) (eqb b a) (λ e. eq-eqb b a (sym (eqb-true a b e))) (λ e. eq-eqb a b (sym (eqb-true b a e)))
 
-one-bit : (t : Bool) → cond t 1 0 ≡ bit t
-one-bit true = refl
-one-bit false = refl
-
 module _ {rules : List (List ℕ)} (t : Ruled rules) where
   pub words-rise : Rising (wordFrom rules) (countIn rules) (wordFrom rules (countIn rules))
   words-rise = record { first = t .word-first; rises = t .word-rises; ends = refl }
@@ -198,7 +194,7 @@ module _ {rules : List (List ℕ)} (t : Ruled rules) where
           let places = upFrom (wordFrom rules A) (wordFrom rules (A + 1) - wordFrom rules A) in
           pick-all (links .by-word) words-rise (λ i. 1) x A inside
           ∙ sum-ext (λ i. cond (eqb (wordAt rules i) x) 1 0) (λ i. bit (eqb x (wordAt rules i))) places
-          (λ i m. one-bit (eqb (wordAt rules i) x) ∙ ap bit (eqb-turn (wordAt rules i) x))
+          (λ i m. ap bit (eqb-turn (wordAt rules i) x))
           ∙ sym (sum-map (wordAt rules) (λ y. bit (eqb x y)) places)
 
       -- v for each of its pair rules (b, c)

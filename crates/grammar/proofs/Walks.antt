@@ -1,11 +1,11 @@
--- The walks of an accepted grammar: each chain's walk ends, and the walks together meet every rule and none twice. What a step tells needs
--- less: that each rule can be read.
+-- The walks of an accepted grammar: each chain's walk ends, the walks together meet every rule and none twice, and so what a walk
+-- yields can be said step by step, with no bound on its length. What a step tells needs less: that each rule can be read.
 -- The argument: R rules, none of them met twice, make walks of at most R steps, so none of the R + 1 allowed is missing.
 -- Assumes nothing.
 use mathlib.Core.Path.{_≡_, refl, sym, ap, _∙_}
 use mathlib.Core.Logic.{_⊎_, inl, inr, ⊎-elim}
 use mathlib.Core.Bool.{Bool, true, false}
-use mathlib.Core.List.{List, [], _∷_, List·Memᴰ·head, List·Memᴰ·tail, List·Memᴰ·not-nil, Memᴰ·of-map}
+use mathlib.Core.List.{List, [], _∷_, map, List·Memᴰ·head, List·Memᴰ·tail, List·Memᴰ·not-nil, Memᴰ·of-map}
 use Prim.Native.Nat.{ℕ, _+_, _*_, _≤_, _<_}
 use native.Mathlib.Omega.{arith}
 use lib.ListN.{length}
@@ -15,15 +15,15 @@ use Rattle.lists.specs.Ordered.{Distinct}
 use Rattle.lists.specs.Linked.{isNumber, Walk}
 use Rattle.lists.proofs.Members.{concat-∈, upFrom-∈, ∈-upFrom}
 use Rattle.lists.proofs.Searches.{times-few, ∈-times, times-distinct, times-concat}
-use Rattle.lists.proofs.Linked.{zero-none, above-none, inside-one, one-inside, met-inside, met-walk}
+use Rattle.lists.proofs.Linked.{zero-none, above-none, inside-one, one-inside, met-none, met-inside, met-free, met-walk}
 use Rattle.grammar.specs.declared.cursor.Step.{Step}
 use Rattle.grammar.specs.declared.cursor.Step.the-variants.{Word, Pair, End}
 use Rattle.grammar.specs.Layout.{byteAt, nonterminals, words, rules, headOf, kindOf, aOf, bOf, nextOf}
 use Rattle.grammar.specs.Chains.{Rule, word, pair, ruleOf, numbersFrom, chainNumbers, met, rest, wordsOf, pairsOf}
 use Rattle.grammar.specs.Refusals.{Accepted}
 use Rattle.grammar.specs.Checks.{Readable}
-use Rattle.grammar.specs.Steps.{handed, stepAt}
-use Rattle.grammar.proofs.Acceptance.{Known, known, fits-cases, rule-fits}
+use Rattle.grammar.specs.Steps.{handed, stepAt, yielded}
+use Rattle.grammar.proofs.Acceptance.{Known, known, readable, fits-cases, rule-fits}
 
 -- ---- of an accepted grammar
 
@@ -40,6 +40,14 @@ module _ (g : List ℕ) (ok : Known g) where
         times-concat r (chainNumbers g) A (upFrom 0 (nonterminals g)) (∈-upFrom A 0 (nonterminals g) (omega arith) (omega arith)),
       )) in
       omega arith
+
+  -- each rule is on a chain, so the bound can be left out of the step from it
+  pub numbers-step : (r : ℕ) → 1 ≤ r → r ≤ rules g → numbersFrom g (rules g + 1) r ≡ r ∷ numbersFrom g (rules g + 1) (nextOf g r)
+  numbers-step r h k =
+      let m : r ∈ met g = ∈-times r (met g) (omega (arith, ok .once r h k)) in
+      let q = concat-∈ (chainNumbers g) (upFrom 0 (nonterminals g)) m in
+      let inside = upFrom-∈ 0 (nonterminals g) (q .1) in
+      met-free (nextOf g) (rules g) (rules g + 1) (headOf g (q .0)) r (chain-over (q .0) (omega arith)) (q .2)
 
 -- every chain's walk ends (`Walk` sets no bound on its length), no rule is met twice on them, and every rule is met
 pub record Chained (g : List ℕ) : Type 0 where
@@ -123,7 +131,17 @@ step-told g r {s} {t} e f =
     let z : handed (isNumber (rules g) r) (ruleOf g r) (nextOf g r) ≡ t = sym e ∙ f in
     rw z at (handed-told g r (isNumber (rules g) r) (ruleOf g r) refl refl)
 
--- ---- what stands on a chain
+-- ---- what a walk yields: the laws that crates above use, and no byte
+
+told-yields : (g : List ℕ) → Known g → (r : ℕ) (s : Step) → Told g r s → rest g r ≡ yielded (rest g) s
+unfolding rest
+told-yields g ok r (Word w next) m = ap (map (ruleOf g)) (numbers-step g ok r (m .some) (m .inside)) ∙ rw (m .rule, m .link)
+told-yields g ok r (Pair B C next) m = ap (map (ruleOf g)) (numbers-step g ok r (m .some) (m .inside)) ∙ rw (m .rule, m .link)
+told-yields g ok r End e = ap (map (ruleOf g)) (met-none (nextOf g) (rules g) (rules g + 1) r e)
+
+-- of an accepted grammar: the rule of the step, and what the walk after it yields
+pub step-yields : (g : List ℕ) → Accepted g → (r : ℕ) {s : Step} → s ≡ stepAt g r → rest g r ≡ yielded (rest g) s
+step-yields g ok r {s} e = told-yields g (known g ok) r s (step-told g r e refl)
 
 -- the words of a rule are below W, its nonterminals below N
 abbrev pub Inside : List ℕ → Rule → Type 0
@@ -143,6 +161,9 @@ readable-inside g ok r m =
     let q = Memᴰ·of-map (ruleOf g) (numbersFrom g (rules g + 1) r) m in
     let i = met-inside (nextOf g) (rules g) (rules g + 1) r (q .1) in
     rw (← q .2) (rule-inside g ok (q .0) (i .0) (i .1))
+
+pub rest-inside : (g : List ℕ) → Accepted g → (r : ℕ) {x : Rule} → x ∈ rest g r → Inside g x
+rest-inside g ok = readable-inside g (readable g (known g ok))
 
 -- a word, or a pair of nonterminals, is that of a rule
 pub words-∈ : {x : ℕ} (rs : List Rule) → x ∈ wordsOf rs → word x ∈ rs

@@ -8,7 +8,8 @@ use Prim.Native.Nat.{ℕ, _+_, _≤_, _<_}
 use lib.ListN.{length, getD}
 use Rattle.lists.specs.Joined.{concatMap, upFrom}
 use Rattle.lists.specs.Searched.{times}
-use Rattle.lists.specs.Tables.{entry, Wide}
+use Rattle.lists.specs.Tables.{entry}
+use Rattle.lists.specs.Tables as tables
 use Rattle.grammar.specs.Layout.{nonterminals, words, start}
 use Rattle.grammar.specs.Chains.{Rule, ruleOf, chainNumbers, met, chain, wordsOf, pairsOf}
 use Rattle.grammar.specs.Refusals.{metTwice}
@@ -47,10 +48,8 @@ pub record Entered (g : List ℕ) (rules : List (List ℕ)) (done : List Rule) (
   pub numbers : Run rules 3 128 3 (own g)
 
 -- the rows of links and weights are as they were
-pub record Kept (old new : List (List ℕ)) : Type 0 where
-  pub long : length new ≡ length old
-  pub wide : Wide new 256
-  pub rest : (q : ℕ) → 4 ≤ q → getD new q [] ≡ getD old q []
+abbrev pub Kept : (old new : List (List ℕ)) → Type 0
+Kept old new = tables.Kept 4 256 old new
 
 -- before any chain is walked
 pub record Prepares (g : List ℕ) (old new : List (List ℕ)) : Type 0 where

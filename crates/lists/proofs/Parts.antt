@@ -5,10 +5,10 @@ use mathlib.Core.Path.{_≡_, refl, sym, ap, _∙_}
 use mathlib.Core.List.{List, [], _∷_, _++_, append-assoc}
 use Prim.Native.Nat.{ℕ, _+_, _-_, _≤_, _<_}
 use native.Mathlib.Omega.{arith}
-use Rattle.lists.specs.Joined.{sumOver, concatMap}
+use Rattle.lists.specs.Joined.{sumOver}
 use Rattle.lists.specs.Tickets.{Owns}
 use Rattle.lists.specs.Parts.{Passed, Part}
-use Rattle.lists.proofs.Sums.{sum-append, sum-concat, concat-append}
+use Rattle.lists.proofs.Sums.{sum-append}
 use Rattle.lists.proofs.Owners.{owns-left, owns-right}
 
 module _ {X : Type 0} where
@@ -86,17 +86,3 @@ module _ {X : Type 0} {v u : X → ℕ} {whole part : List X} {t before left : �
         };
         inside = q .inside;
       }
-
-module _ {X Y : Type 0} (f : X → List Y) {v u : Y → ℕ} {l : List X} {t : ℕ} {x : X} {n o : ℕ} where
-  -- Each x weighs and measures what the elements of f x do together. Where x owns t, f x is the part that holds t, as the ticket o.
-  pub block-part : Owns (λ x. sumOver v (f x)) (λ x. sumOver u (f x)) l t x n o → Part v u (concatMap f l) (f x) t n o
-  block-part r = record {
-    rest = concatMap f (r .after);
-    passed = record {
-      done = concatMap f (r .before);
-      whole-is = ap (concatMap f) (r .list) ∙ concat-append f (r .before) (x ∷ r .after);
-      before-is = r .place ∙ sym (sum-concat f u (r .before));
-      left-is = omega (arith, r .ticket, sum-concat f v (r .before));
-    };
-    inside = r .own;
-  }

@@ -7,7 +7,7 @@ use native.Mathlib.Omega.{arith}
 use native.Mathlib.Decide.{ℕ-discrete, decLt}
 use lib.ListN.{length, getD, set, replicate, length-set, length-replicate, getD-replicate}
 use lib.Seq.{getD-set-same, getD-set-other}
-use Rattle.lists.specs.Tables.{entry, put, Wide, Copied}
+use Rattle.lists.specs.Tables.{entry, put, Wide, Kept, Copied}
 use Rattle.lists.proofs.Places.{getD-same}
 
 module _ (t : List (List ℕ)) where
@@ -62,6 +62,22 @@ wide-made n w x = record {
       let inside : q < n = omega (arith, length-replicate n (replicate w x)) in
       ap length (getD-replicate n q (replicate w x) [] inside) ∙ length-replicate w x;
 }
+
+-- ---- what a store leaves
+
+module _ {first width : ℕ} where
+  pub kept-same : {t : List (List ℕ)} → Wide t width → Kept first width t t
+  kept-same h = record { long = refl; wide = h; rest = λ r l. refl }
+
+  pub kept-then : {t u v : List (List ℕ)} → Kept first width t u → Kept first width u v → Kept first width t v
+  kept-then h k = record { long = k .long ∙ h .long; wide = k .wide; rest = λ r l. k .rest r l ∙ h .rest r l }
+
+  pub kept-put : {old t : List (List ℕ)} (r i v : ℕ) → r < first → Kept first width old t → Kept first width old (put t r i v)
+  kept-put {old} {t} r i v h k = record {
+    long = length-set t r (set (getD t r []) i v) ∙ k .long;
+    wide = wide-put t width r i v (k .wide);
+    rest = λ q l. put-row t r i v q (λ e. omega arith) ∙ k .rest q l;
+  }
 
 -- ---- rows copied, one after another
 

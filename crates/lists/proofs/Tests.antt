@@ -2,7 +2,7 @@
 -- a bound as a loop meets it.
 -- Assumes nothing.
 use mathlib.Core.Path.{_≡_, refl, sym, ap, _∙_}
-use mathlib.Core.Bool.{Bool, true, false, not, _&&_, _||_, or-false, false≢true}
+use mathlib.Core.Bool.{Bool, true, false, cond, not, _&&_, _||_, or-false, false≢true}
 use mathlib.Core.Logic.{_⊎_, inl, inr}
 use mathlib.Core.List.{List, [], _∷_, List·Memᴰ·head, List·Memᴰ·tail}
 use Prim.Native.Nat.{ℕ, zero, suc, _-_, _*_, _≤_, _<_}
@@ -22,6 +22,11 @@ bit-le false = omega arith
 pub bit-and : (a b : Bool) → bit (a && b) ≡ bit a * bit b
 bit-and true b = omega arith
 bit-and false b = omega arith
+
+-- a number that is taken or left, and is 0 anyway
+pub cond-none : (b : Bool) (x : ℕ) → x ≡ 0 → cond b x 0 ≡ 0
+cond-none true x e = e
+cond-none false x e = refl
 
 pub and-left : (a b : Bool) → (a && b) ≡ true → a ≡ true
 and-left true b e = refl

@@ -17,6 +17,12 @@ put t r i v = set t r (set (getD t r []) i v)
 pub record Wide (t : List (List ℕ)) (w : ℕ) : Type 0 where
   pub row : (r : ℕ) → r < length t → length (getD t r []) ≡ w
 
+-- the table is as large as it was, and the rows from `first` on are what they were
+pub record Kept (first width : ℕ) (before after : List (List ℕ)) : Type 0 where
+  pub long : length after ≡ length before
+  pub wide : Wide after width
+  pub rest : (r : ℕ) → first ≤ r → getD after r [] ≡ getD before r []
+
 -- the first n rows of `from` are now those of a table, and its others as they were
 pub record Copied (n : ℕ) (from before after : List (List ℕ)) : Type 0 where
   pub long : length after ≡ length before

@@ -23,7 +23,7 @@ use Rattle.charts.proofs.Placing.{room-short, room-low}
 use Rattle.charts.specs.Letters.{any, letterAt, weightBy}
 use Rattle.charts.specs.Maps.{totalAt, Span, Mapped, Everywhere, Spelt}
 use Rattle.charts.specs.Plan.{lengthIn, chartRow, needed}
-use Rattle.charts.specs.Chart.{Blank, Fills, Filled}
+use Rattle.charts.specs.Chart.{Blank, Clean, Fills, Filled, Charted}
 use Rattle.charts.specs.Ready.{Ready}
 use Rattle.charts.proofs.Mapping.{everywhere-total, everywhere-mapped, all-closed, planned-closed, planned-same}
 use Rattle.walk.specs.Sought.{Hand, Sought}
@@ -90,7 +90,7 @@ module _ {rules totals counts : List (List ℕ)} {n d : ℕ} {out : List ℕ} (w
 
 -- ---- *Number*
 
-module _ {rules plan map counts : List (List ℕ)} {s : List ℕ} {totals : List (List ℕ)} (f : FindSought rules plan map counts s totals) where
+module _ {rules plan map counts : List (List ℕ)} {s sets : List ℕ} {totals : List (List ℕ)} (f : FindSought rules plan map counts s sets totals) where
   short : length s ≤ 16
   short = f .ready .blank .counted .short
 
@@ -105,13 +105,22 @@ module _ {rules plan map counts : List (List ℕ)} {s : List ℕ} {totals : List
       wide = p .wide;
     }
 
-    pub fill-asks : Fills rules plan spelt (lengthIn plan) totals
+    pub fill-asks : Fills rules plan spelt (lengthIn plan) sets totals
     fill-asks =
         rw (f .ready .planned .length)
-        (record { blank = f .ready .blank; planned = ready-spelt .planned; linked = f .ready .linked; letters = λ i h. omega (arith, p .small i h) })
+        (record {
+          blank = f .ready .blank;
+          planned = ready-spelt .planned;
+          linked = f .ready .linked;
+          letters = λ i h. omega (arith, p .small i h);
+          clean = f .clean;
+        })
 
     -- and the chart is filled
-    module _ {after : List (List ℕ)} (q : Filled rules plan spelt (lengthIn plan) totals after) where
+    module _ {sets′ : List ℕ} {after : List (List ℕ)} (charted : Charted rules plan spelt (lengthIn plan) totals sets′ after) where
+      abbrev q : Filled rules plan spelt (lengthIn plan) totals after
+      q = charted .filled
+
       mapped : Mapped rules after spelt (length s) (needed plan)
       mapped = rw (f .ready .planned .length) at (q .mapped)
 
@@ -120,7 +129,7 @@ module _ {rules plan map counts : List (List ℕ)} {s : List ℕ} {totals : List
           let c = f .ready .blank .counted in
           counted-copied c (omega (arith, q .long, c .long)) (q .wide) (record { long = refl; rows = λ r h. q .kept r (omega (arith, short)); rest = λ r h. refl })
 
-      pub ready-after : Ready rules plan spelt after (length s)
+      ready-after : Ready rules plan spelt after (length s)
       ready-after =
           let b = f .ready .blank in
           record {
@@ -134,6 +143,9 @@ module _ {rules plan map counts : List (List ℕ)} {s : List ℕ} {totals : List
             long = p .long;
             wide = p .wide;
           }
+
+      pub found-as : {o : Found} → Says rules s o → FoundAs rules plan spelt s sets′ after o
+      found-as says = record { says = says; ready = ready-after; clean = rw (f .ready .planned .length) at (charted .clean) }
 
       abbrev hand : Hand rules after spelt counts (length s)
       hand = record {
@@ -189,10 +201,11 @@ pub prepared-sought : {g : List ℕ} {s : List ℕ} {rules₀ rules totals₀ to
 prepared-sought {s = s} {rules₀} {rules} {totals₀} {totals} zeros long t p e =
     let c = p .ready e .counted in
     let row : (r i : ℕ) → 4 ≤ r → entry rules r i ≡ 0 = λ r i h. ap (λ (l : List ℕ). getD l i 0) (p .rules-kept .rest r h) ∙ zeros r i in
+    let none : (r A : ℕ) → 17 ≤ r → entry totals r A ≡ 0 = λ r A h. ap (λ (l : List ℕ). getD l A 0) (p .totals-kept .rest r h) ∙ t .zeros r A in
     record {
       blank = record {
         counted = c;
-        zeros = λ A. ap (λ (l : List ℕ). getD l A 0) (p .totals-kept .rest 17 (omega arith)) ∙ t .zeros 17 A;
+        zeros = λ A. none 17 A (omega arith);
         room = omega (arith, t .long (c .short), p .totals-kept .long);
       };
       unlinked = record {
@@ -201,6 +214,7 @@ prepared-sought {s = s} {rules₀} {rules} {totals₀} {totals} zeros long t p e
         no-words = λ x h. row 4 x (omega arith);
         no-pairs = λ x h. row (9 + x / 256) (x % 256) (omega arith);
       };
+      zeros = λ r A h. none r A (omega arith);
     }
 
 -- linking keeps what *Number* answers
@@ -228,5 +242,5 @@ roomy-long n = record {
 }
 
 -- what is found, once its case is known
-pub found-case : {rules plan map : List (List ℕ)} {s : List ℕ} {totals : List (List ℕ)} {f d : Found} → FoundAs rules plan map s totals f → f ≡ d → Says rules s d
+pub found-case : {rules plan map : List (List ℕ)} {s sets : List ℕ} {totals : List (List ℕ)} {f d : Found} → FoundAs rules plan map s sets totals f → f ≡ d → Says rules s d
 found-case q e = (rw e at q) .says

@@ -7,17 +7,18 @@ use lib.ListN.{length}
 use Rattle.lists.specs.Tables.{entry, Wide}
 use Rattle.grammar.specs.Links.{Unlinked}
 use Rattle.charts.specs.Maps.{Everywhere}
-use Rattle.charts.specs.Plan.{room}
-use Rattle.charts.specs.Chart.{Blank}
+use Rattle.charts.specs.Plan.{chartRow, room}
+use Rattle.charts.specs.Chart.{Blank, Clean}
 use Rattle.charts.specs.Ready.{Ready}
 use Rattle.ranking.specs.Inside.{readingsIn, numberIn}
 use Rattle.ranking.specs.declared.rank.Found.{Found}
 use Rattle.ranking.specs.declared.rank.Found.the-variants.{None, One, Many}
 
--- what all sentences of the length share, and the map of the counts
-pub record FindSought (rules plan map counts : List (List ℕ)) (s : List ℕ) (totals : List (List ℕ)) : Type 0 where
+-- what all sentences of the length share, the map of the counts, and the sets beside the rows of the chart
+pub record FindSought (rules plan map counts : List (List ℕ)) (s sets : List ℕ) (totals : List (List ℕ)) : Type 0 where
   pub ready : Ready rules plan map totals (length s)
   pub everywhere : Everywhere counts
+  pub clean : Clean (length s) sets totals
 
 -- what each case says of the sentence s
 abbrev pub Says : (rules : List (List ℕ)) (s : List ℕ) → Found → Type 0
@@ -26,9 +27,10 @@ Says rules s (One d) = (readingsIn rules s ≡ 1) × (d .0 ≡ numberIn rules s)
 Says rules s Many = 2 ≤ readingsIn rules s
 
 -- that, and the tables for the next sentence
-pub record FoundAs (rules plan map : List (List ℕ)) (s : List ℕ) (totals : List (List ℕ)) (f : Found) : Type 0 where
+pub record FoundAs (rules plan map : List (List ℕ)) (s sets : List ℕ) (totals : List (List ℕ)) (f : Found) : Type 0 where
   pub says : Says rules s f
   pub ready : Ready rules plan map totals (length s)
+  pub clean : Clean (length s) sets totals
 
 -- room for the chart of n positions, in a table of zeros
 pub record Roomy (n : ℕ) (totals : List (List ℕ)) : Type 0 where
@@ -41,3 +43,4 @@ pub record Roomy (n : ℕ) (totals : List (List ℕ)) : Type 0 where
 pub record NumberSought (rules : List (List ℕ)) (s : List ℕ) (totals : List (List ℕ)) : Type 0 where
   pub blank : Blank rules totals (length s)
   pub unlinked : Unlinked rules
+  pub zeros : (r A : ℕ) → chartRow ≤ r → entry totals r A ≡ 0

@@ -37,13 +37,14 @@ pub fn find(
     map: &mut [[u16; 16]; 17],
     counts: &[[u16; 16]; 17],
     sentence: &[u8],
+    sets: &mut [u32],
     totals: &mut [[u64; 32]],
 ) -> Found
-    requires { ⌜ FindSought (now rules) (now plan) (now map) (now counts) (now sentence) (now totals) ⌝ }
-    ensures { λ f. ⌜ FoundAs (now (rules .entry)) (now (plan .entry)) (now (map .exit)) (now (sentence .entry)) (now (totals .exit)) f ⌝ }
+    requires { ⌜ FindSought (now rules) (now plan) (now map) (now counts) (now sentence) (now sets) (now totals) ⌝ }
+    ensures { λ f. ⌜ FoundAs (now (rules .entry)) (now (plan .entry)) (now (map .exit)) (now (sentence .entry)) (now (sets .exit)) (now (totals .exit)) f ⌝ }
 {
     maps::spell(sentence, map);
-    chart::fill(rules, plan, map, totals);
+    chart::fill(rules, plan, map, sets, totals);
     let n = sentence.len();
     let node = Node {
         a: rules::start(rules),
@@ -74,7 +75,8 @@ fn number_by(rules: &mut [[u8; 256]], sentence: &[u8], totals: &mut [[u64; 32]])
     let mut map = [map_row; 17];
     ready::ready(rules, totals, n, &mut plan, &mut map);
     let counts = maps::EVERYWHERE;
-    let f = find(rules, &plan, &mut map, &counts, sentence, totals);
+    let mut sets = [0u32; 154];
+    let f = find(rules, &plan, &mut map, &counts, sentence, &mut sets, totals);
     match f {
         Found::None => RankAnswer::Underivable,
         Found::Many => RankAnswer::Ambiguous,

@@ -6,10 +6,10 @@ use mathlib.Core.Bool.{Bool, true, false, cond, _&&_, _||_}
 use mathlib.Core.List.{List, [], _∷_, _++_, map, append-nil, append-assoc}
 use Prim.Native.Nat.{ℕ, suc, _+_, _-_, _≤_, _<_}
 use native.Mathlib.Omega.{arith}
+use native.Mathlib.Numerals.{add-one}
 use borrow.Author.Tests.{eq-eqb, ne-eqb, le-leb, lt-leb}
-use lib.ListN.{length, set, take, drop, length-drop}
-use lib.Seq.{length-take-le, take-append-le, take-append-add}
-use borrow.Rule.Slice.PartMut.{putMid, same-len-mid}
+use lib.ListN.{length, set, take, length-set}
+use lib.Seq.{take-suc-set}
 use lib.Dec.{leb, eqb}
 use Rattle.lists.specs.Joined.{concatMap}
 use Rattle.lists.specs.Searched.{someOf}
@@ -17,7 +17,7 @@ use Rattle.lists.specs.Struck.{keep}
 use Rattle.charts.specs.Plan.{lengthIn}
 use Rattle.charts.specs.Ready.{Ready}
 use Rattle.ranking.specs.Inside.{readingsIn, numberIn}
-use Rattle.ranking.specs.Ranking.{FindSought, FoundAs}
+use Rattle.ranking.specs.Ranking.{FindSought, Says, FoundAs}
 use Rattle.ranking.specs.declared.rank.Found.{Found}
 use Rattle.ranking.specs.declared.rank.Found.the-variants.{None, One, Many}
 use Rattle.ranking.specs.declared.unrank.DerivationNumber.{DerivationNumber}
@@ -29,7 +29,7 @@ use Rattle.history.specs.Heard.{sentences}
 use Rattle.history.proofs.Acceptance.{known}
 use Rattle.history.proofs.Chain.{chained}
 use Rattle.history.proofs.Reading.{read-end, read-record}
-use Rattle.sampling.specs.Hearing.{numbersIn, manyIn, ambiguousIn, Tells, ToldAs, Collects, Holds, CollectedAs}
+use Rattle.sampling.specs.Hearing.{numbersIn, manyIn, ambiguousIn, Tells, Adds, ToldAs, Collects, Holds, CollectedAs}
 use Rattle.sampling.specs.declared.heard.Collected.{Collected}
 use Rattle.sampling.specs.declared.heard.Collected.the-variants.{Numbers, Ambiguous}
 
@@ -66,40 +66,22 @@ module _ (rules : List (List ℕ)) (n : ℕ) (s : List ℕ) where
 
 -- ---- one sentence
 
--- a number in front
-take-put : (l : List ℕ) (x : ℕ) → 1 ≤ length l → take 1 (set l 0 x) ≡ x ∷ []
-take-put [] x h = absurd (omega arith)
-take-put (y ∷ l) x h = refl
-
-module _ {rules plan map counts totals : List (List ℕ)} {room : List ℕ} (w : Tells rules plan map counts totals room) {s : List ℕ} where
-  pub told-other : (length s ≡ lengthIn plan → ⊥) → ToldAs rules plan map s totals room (Numbers 0)
-  told-other f =
-      let q = other-none rules (lengthIn plan) s f in
-      record { adds = (q .0, rw (q .1) refl, rw (q .1) refl); ready = w .ready }
+module _ {rules plan map counts : List (List ℕ)} {sets : List ℕ} {totals : List (List ℕ)} (w : Tells rules plan map counts sets totals) {s : List ℕ} where
+  pub told-other : (length s ≡ lengthIn plan → ⊥) → ToldAs rules plan map s sets totals None
+  told-other f = record { adds = other-none rules (lengthIn plan) s f; ready = w .ready; clean = w .clean }
 
   module _ (e : length s ≡ lengthIn plan) where
-    pub told-sought : FindSought rules plan map counts s totals
-    told-sought = record { ready = rw e (w .ready); everywhere = w .everywhere }
+    pub told-sought : FindSought rules plan map counts s sets totals
+    told-sought = record { ready = rw e (w .ready); everywhere = w .everywhere; clean = rw e (w .clean) }
 
-    module _ {map′ totals′ : List (List ℕ)} where
-      pub told-none : FoundAs rules plan map′ s totals′ None → ToldAs rules plan map′ s totals′ room (Numbers 0)
-      told-none f =
-          let q = read-none rules (lengthIn plan) s e (f .says) in
-          record { adds = (q .0, rw (q .1) refl, rw (q .1) refl); ready = rw e at (f .ready) }
-
-      pub told-many : FoundAs rules plan map′ s totals′ Many → ToldAs rules plan map′ s totals′ room Ambiguous
-      told-many f = record { adds = read-many rules (lengthIn plan) s e (f .says); ready = rw e at (f .ready) }
-
-      pub told-one : (d : DerivationNumber) → FoundAs rules plan map′ s totals′ (One d)
-          → ToldAs rules plan map′ s totals′ (set room 0 (d .0)) (Numbers 1)
-      told-one d f =
-          let q = read-one rules (lengthIn plan) s e (f .says .0) in
-          record { adds = (q .0, rw (q .1) refl, rw (q .1) (take-put room (d .0) (w .some) ∙ rw (f .says .1))); ready = rw e at (f .ready) }
-
--- what is found, once its case is known
-pub found-as : {rules plan map : List (List ℕ)} {s : List ℕ} {totals : List (List ℕ)} {f d : Found} → FoundAs rules plan map s totals f → f ≡ d
-    → FoundAs rules plan map s totals d
-found-as q e = rw e at q
+    pub told-found : {map′ : List (List ℕ)} {sets′ : List ℕ} {totals′ : List (List ℕ)} {f : Found} → FoundAs rules plan map′ s sets′ totals′ f
+        → ToldAs rules plan map′ s sets′ totals′ f
+    told-found {f = f} q = record { adds = adds f (q .says); ready = rw e at (q .ready); clean = rw e at (q .clean) }
+      where
+        adds : (f : Found) → Says rules s f → Adds rules (lengthIn plan) s f
+        adds None z = read-none rules (lengthIn plan) s e z
+        adds (One d) z = rw (z .1) (read-one rules (lengthIn plan) s e (z .0))
+        adds Many z = read-many rules (lengthIn plan) s e z
 
 -- ---- the whole chain
 
@@ -178,53 +160,42 @@ module _ (plan : List (List ℕ)) {rules : List (List ℕ)} {h : List ℕ} {numb
     pub collect-room : count < 1000
     collect-room = omega (arith, w .room, fewer)
 
-    module _ {map totals : List (List ℕ)} {after : List ℕ} {c : Collected} (told : ToldAs rules plan map s totals after c) where
-      pub collect-many : c ≡ Ambiguous → {numbers′ : List ℕ} → CollectedAs rules plan h numbers′ Ambiguous
+    module _ {map : List (List ℕ)} {sets : List ℕ} {totals : List (List ℕ)} {f : Found} (told : ToldAs rules plan map s sets totals f) where
+      pub collect-many : f ≡ Many → {numbers′ : List ℕ} → CollectedAs rules plan h numbers′ Ambiguous
       collect-many case = let q = rw case at told in record { holds = sym (w .many) ∙ rw (comes, q .adds) }
 
-      pub collect-count : {k : ℕ} → c ≡ Numbers k → k ≤ 1
-      collect-count case = let q = rw case at told in omega (arith, q .adds .1, few-in rules (lengthIn plan) s)
-
-      -- what it adds stands behind the numbers so far
-      pub collect-more : {next k : ℕ} {numbers′ : List ℕ} → next ≡ nextAt h at → c ≡ Numbers k
-          → take (count + k) numbers′ ≡ take count numbers ++ take k after → length numbers′ ≡ length numbers
-          → Collecting rules h (lengthIn plan) numbers′ next (count + k)
-      collect-more {next} {k} {numbers′} e case front kept =
+      -- the numbers that it adds stand behind those so far
+      behind : (k : List ℕ) → manyIn rules (lengthIn plan) s ≡ false → numbersIn rules (lengthIn plan) s ≡ k → length k ≤ 1
+          → {next count′ : ℕ} {numbers′ : List ℕ} → next ≡ nextAt h at → count′ ≡ count + length k
+          → take count′ numbers′ ≡ take count numbers ++ k → length numbers′ ≡ length numbers
+          → Collecting rules h (lengthIn plan) numbers′ next count′
+      behind k many adds few {next} {count′} {numbers′} e c front kept =
           let n = lengthIn plan in
-          let q = rw case at told in
-          let few = few-in rules n s in
           rw e
           (record {
-            due = ap (λ (l : List ℕ). l ++ concatMap (numbersIn rules n) (toCome h (nextAt h at))) (front ∙ ap (λ (l : List ℕ). take count numbers ++ l) (q .adds .2))
+            due = ap (λ (l : List ℕ). l ++ concatMap (numbersIn rules n) (toCome h (nextAt h at))) (front ∙ ap (λ (l : List ℕ). take count numbers ++ l) (sym adds))
                 ∙ append-assoc (take count numbers) (numbersIn rules n s) (concatMap (numbersIn rules n) (toCome h (nextAt h at)))
                 ∙ ap (λ (l : List (List ℕ)). take count numbers ++ concatMap (numbersIn rules n) l) (sym comes)
                 ∙ w .due;
-            many = ap (λ (b : Bool). b || someOf (manyIn rules n) (toCome h (nextAt h at))) (sym (q .adds .0))
+            many = ap (λ (b : Bool). b || someOf (manyIn rules n) (toCome h (nextAt h at))) (sym many)
                 ∙ ap (someOf (manyIn rules n)) (sym comes)
                 ∙ w .many;
-            room = omega (arith, q .adds .1, few, w .room, fewer);
+            room = omega (arith, few, w .room, fewer);
             long = omega (arith, w .long);
           })
+
+      pub collect-none : f ≡ None → {next : ℕ} → next ≡ nextAt h at → Collecting rules h (lengthIn plan) numbers next count
+      collect-none case e =
+          let q = rw case at told in
+          behind [] (q .adds .0) (q .adds .1) (omega arith) e (omega arith) (sym (append-nil (take count numbers))) refl
+
+      pub collect-one : {d : DerivationNumber} → f ≡ One d → {next : ℕ} → next ≡ nextAt h at
+          → Collecting rules h (lengthIn plan) (set numbers count (d .0)) next (count + 1)
+      collect-one {d} case e =
+          let q = rw case at told in
+          behind (d .0 ∷ []) (q .adds .0) (q .adds .1) (omega arith) e refl (rw (add-one, take-suc-set numbers count (d .0) (omega (arith, collect-room, w .long))) refl) (length-set numbers count (d .0))
 
 -- what is collected, once its case is known
 pub collect-case : {rules plan : List (List ℕ)} {h : List ℕ} {numbers : List ℕ} {c d : Collected} → CollectedAs rules plan h numbers c → c ≡ d
     → Holds rules h (lengthIn plan) numbers d
 collect-case q e = (rw e at q) .holds
-
--- ---- the numbers' room, lent from `count` on
-
-module _ (count : ℕ) (numbers zs : List ℕ) (h : count ≤ length numbers) (e : length zs ≡ length (take (length numbers - count) (drop count numbers))) where
-  -- what stands in front of it after
-  pub room-front : (k : ℕ) → k ≤ length zs → take (count + k) (putMid count (length numbers - count) numbers zs) ≡ take count numbers ++ take k zs
-  room-front k l =
-      let rest = drop (length numbers - count) (drop count numbers) in
-      let long = length-take-le count numbers h in
-      ap (λ (c : ℕ). take (c + k) (take count numbers ++ (zs ++ rest))) (sym long)
-      ∙ take-append-add (take count numbers) (zs ++ rest) k
-      ∙ ap (λ (r : List ℕ). take count numbers ++ r) (take-append-le k zs rest l)
-
-  pub room-kept : length (putMid count (length numbers - count) numbers zs) ≡ length numbers
-  room-kept = same-len-mid count (length numbers - count) numbers zs e
-
-  pub room-long : length zs ≡ length numbers - count
-  room-long = e ∙ length-take-le (length numbers - count) (drop count numbers) (omega (arith, length-drop count numbers)) ∙ refl

@@ -40,6 +40,9 @@ module _ {rules plain : List (List ℕ)} {h : List ℕ} {n : ℕ} {numbers : Lis
     counts : Counted rules copied n
     counts = counted-copied (w .counted) (counts-asked .2) (t .wide) c
 
+    none : (r A : ℕ) → n + 1 ≤ r → entry copied r A ≡ 0
+    none r A l = ap (λ (q : List ℕ). getD q A 0) (c .rest r l) ∙ t .zeros r A
+
     linked-long : length linked ≡ 13
     linked-long = k .long ∙ length-replicate 13 (replicate 256 zero)
 
@@ -55,7 +58,7 @@ module _ {rules plain : List (List ℕ)} {h : List ℕ} {n : ℕ} {numbers : Lis
         record {
           blank = record {
             counted = counted-kept long linked-wide (k .rows) counts;
-            zeros = λ A. ap (λ (q : List ℕ). getD q A 0) (c .rest 17 (omega (arith, w .counted .short))) ∙ t .zeros 17 A;
+            zeros = λ A. none 17 A (omega (arith, w .counted .short));
             room = omega (arith, t .long (w .counted .short), c .long);
           };
           unlinked = record {
@@ -74,7 +77,13 @@ module _ {rules plain : List (List ℕ)} {h : List ℕ} {n : ℕ} {numbers : Lis
       length-is = r .ready .planned .length
 
       pub asks-collect : {counts : List (List ℕ)} → Everywhere counts → Collects after plan map counts h copied numbers
-      asks-collect e = record { ready = rw length-is (r .ready); everywhere = e; diary = w .diary; room = w .room }
+      asks-collect e = record {
+        ready = rw length-is (r .ready);
+        everywhere = e;
+        zeros = λ q A l. none q A (omega (arith, w .counted .short));
+        diary = w .diary;
+        room = w .room;
+      }
 
       -- the copies have the rules
       same : (q : ℕ) → q < 4 → getD after q [] ≡ getD rules q []

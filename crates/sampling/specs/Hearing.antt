@@ -8,13 +8,17 @@ use lib.ListN.{length, take}
 use lib.Dec.{leb, eqb}
 use Rattle.lists.specs.Joined.{concatMap}
 use Rattle.lists.specs.Searched.{someOf}
-use Rattle.charts.specs.Plan.{lengthIn}
+use Rattle.lists.specs.Tables.{entry}
+use Rattle.charts.specs.Plan.{lengthIn, chartRow}
+use Rattle.charts.specs.Chart.{Clean}
 use Rattle.charts.specs.Maps.{Everywhere}
 use Rattle.charts.specs.Ready.{Ready}
 use Rattle.ranking.specs.Inside.{readingsIn, numberIn}
 use Rattle.history.specs.Refusals.{Accepted}
 use Rattle.history.specs.Heard.{sentences}
 use Rattle.sampling.specs.Unheard.{ofLength}
+use Rattle.ranking.specs.declared.rank.Found.{Found}
+use Rattle.ranking.specs.declared.rank.Found.the-variants.{None, One, Many}
 use Rattle.sampling.specs.declared.heard.Collected.{Collected}
 use Rattle.sampling.specs.declared.heard.Collected.the-variants.{Numbers, Ambiguous}
 
@@ -32,27 +36,29 @@ ambiguousIn rules h n = someOf (λ s. leb 2 (readingsIn rules s)) (ofLength n h)
 
 -- ---- one sentence
 
--- the tables for sentences of the plan's length, and room for a number
-pub record Tells (rules plan map counts totals : List (List ℕ)) (room : List ℕ) : Type 0 where
+-- the tables for sentences of the plan's length
+pub record Tells (rules plan map counts : List (List ℕ)) (sets : List ℕ) (totals : List (List ℕ)) : Type 0 where
   pub ready : Ready rules plan map totals (lengthIn plan)
   pub everywhere : Everywhere counts
-  pub some : 1 ≤ length room
+  pub clean : Clean (lengthIn plan) sets totals
 
 -- the numbers that the sentence s adds, or that it has two or more derivations
-abbrev pub Adds : (rules : List (List ℕ)) (n : ℕ) (s : List ℕ) (after : List ℕ) → Collected → Type 0
-Adds rules n s after (Numbers k) =
-    (manyIn rules n s ≡ false) × (k ≡ length (numbersIn rules n s)) × (take k after ≡ numbersIn rules n s)
-Adds rules n s after Ambiguous = manyIn rules n s ≡ true
+abbrev pub Adds : (rules : List (List ℕ)) (n : ℕ) (s : List ℕ) → Found → Type 0
+Adds rules n s None = (manyIn rules n s ≡ false) × (numbersIn rules n s ≡ [])
+Adds rules n s (One d) = (manyIn rules n s ≡ false) × (numbersIn rules n s ≡ d .0 ∷ [])
+Adds rules n s Many = manyIn rules n s ≡ true
 
-pub record ToldAs (rules plan map : List (List ℕ)) (s : List ℕ) (totals : List (List ℕ)) (after : List ℕ) (c : Collected) : Type 0 where
-  pub adds : Adds rules (lengthIn plan) s after c
+pub record ToldAs (rules plan map : List (List ℕ)) (s sets : List ℕ) (totals : List (List ℕ)) (f : Found) : Type 0 where
+  pub adds : Adds rules (lengthIn plan) s f
   pub ready : Ready rules plan map totals (lengthIn plan)
+  pub clean : Clean (lengthIn plan) sets totals
 
 -- ---- all sentences
 
 pub record Collects (rules plan map counts : List (List ℕ)) (h : List ℕ) (totals : List (List ℕ)) (numbers : List ℕ) : Type 0 where
   pub ready : Ready rules plan map totals (lengthIn plan)
   pub everywhere : Everywhere counts
+  pub zeros : (r A : ℕ) → chartRow ≤ r → entry totals r A ≡ 0
   pub diary : Accepted h
   pub room : 1000 ≤ length numbers
 

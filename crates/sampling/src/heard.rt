@@ -11,31 +11,23 @@ pub enum Collected {
     Ambiguous,
 }
 
-// What a sentence of the history adds in front of the numbers' room: how many numbers, none or one.
+// The derivations of a sentence of the history; one of another length has none of the plan's.
 fn tell(
     rules: &[[u8; 256]],
     plan: &[[u32; 32]; 4],
     map: &mut [[u16; 16]; 17],
     counts: &[[u16; 16]; 17],
     s: &[u8],
+    sets: &mut [u32],
     totals: &mut [[u64; 32]],
-    room: &mut [u64],
-) -> Collected
-    requires { ⌜ Tells (now rules) (now plan) (now map) (now counts) (now totals) (now room) ⌝ }
-    ensures { λ c. ⌜ ToldAs (now (rules .entry)) (now (plan .entry)) (now (map .exit)) (now (s .entry)) (now (totals .exit)) (now (room .exit)) c ⌝ }
+) -> Found
+    requires { ⌜ Tells (now rules) (now plan) (now map) (now counts) (now sets) (now totals) ⌝ }
+    ensures { λ f. ⌜ ToldAs (now (rules .entry)) (now (plan .entry)) (now (map .exit)) (now (s .entry)) (now (sets .exit)) (now (totals .exit)) f ⌝ }
 {
     if s.len() != plan::length(plan) {
-        return Collected::Numbers(0);
+        return Found::None;
     }
-    let f = rank::find(rules, plan, map, counts, s, totals);
-    match f {
-        Found::None => Collected::Numbers(0),
-        Found::Many => Collected::Ambiguous,
-        Found::One(d) => {
-            room[0] = d.0;
-            Collected::Numbers(1)
-        }
-    }
+    rank::find(rules, plan, map, counts, s, sets, totals)
 }
 
 // The numbers along the chain, one sentence after another. An empty sentence is the end.
@@ -51,6 +43,7 @@ pub fn collect(
     requires { ⌜ Collects (now rules) (now plan) (now map) (now counts) (now h) (now totals) (now numbers) ⌝ }
     ensures { λ c. ⌜ CollectedAs (now (rules .entry)) (now (plan .entry)) (now (h .entry)) (now (numbers .exit)) c ⌝ }
 {
+    let mut sets = [0u32; 154];
     let mut at = reader::first(h);
     let mut count = 0;
     loop {
@@ -58,14 +51,16 @@ pub fn collect(
         if s.len() == 0 {
             return Collected::Numbers(count);
         }
-        let c = tell(rules, plan, map, counts, s, totals, &mut numbers[count..]);
-        match c {
-            Collected::Ambiguous => {
+        let f = tell(rules, plan, map, counts, s, &mut sets, totals);
+        at = reader::after(h, at);
+        match f {
+            Found::None => {}
+            Found::Many => {
                 return Collected::Ambiguous;
             }
-            Collected::Numbers(k) => {
-                at = reader::after(h, at);
-                count += k;
+            Found::One(d) => {
+                numbers[count] = d.0;
+                count += 1;
             }
         }
     }

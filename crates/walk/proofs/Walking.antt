@@ -31,12 +31,6 @@ use Rattle.walk.specs.Steps.{Placed, Cut, WordSought, LeafAs, SplitSough
 
 -- ---- a cut of a known span
 
-zero-left : (x y z : ℕ) → x ≡ 0 → z ≤ x → z * y ≡ 0
-zero-left x y z e h = let q : z ≡ 0 = omega arith in rw q (omega arith)
-
-zero-right : (x y z : ℕ) → y ≡ 0 → z ≤ y → x * z ≡ 0
-zero-right x y z e h = let q : z ≡ 0 = omega arith in rw q (omega arith)
-
 module _ {rules totals choice measure : List (List ℕ)} {a p m t : ℕ} (s : Sought rules totals choice measure a p m t) where
   pub few : countIn rules ≤ 32
   few = s .hand .counted .table .few
@@ -97,13 +91,13 @@ module _ {rules totals choice measure : List (List ℕ)} {a p m t : ℕ} (s : So
                       rw (q .right p b k left-asked left-span (w .0), q .right (p + k) c (m - k) right-asked right-span (w .1))
                   | no y ↦
                       let d = total-dead (ruled rules) v (p + k) c (m - k) (omega arith) in
-                      zero-right (totalAt totals map p b k) (total (ruled rules) v (p + k) c (m - k)) (totalAt totals map (p + k) c (m - k)) d br
-                      ∙ sym (zero-right (total (ruled rules) v p b k) (total (ruled rules) v (p + k) c (m - k)) (total (ruled rules) v (p + k) c (m - k)) d (omega arith))
+                      let z : totalAt totals map (p + k) c (m - k) ≡ 0 = omega (arith, br) in
+                      rw (z, d) (omega arith)
                 ]
             | no x ↦
                 let d = total-dead (ruled rules) v p b k (omega arith) in
-                zero-left (total (ruled rules) v p b k) (totalAt totals map (p + k) c (m - k)) (totalAt totals map p b k) d bl
-                ∙ sym (zero-left (total (ruled rules) v p b k) (total (ruled rules) v (p + k) c (m - k)) (total (ruled rules) v p b k) d (omega arith))
+                let z : totalAt totals map p b k ≡ 0 = omega (arith, bl) in
+                rw (z, d) (omega arith)
           ]
 
       pub cut : Cut totals map b p k c (p + k) (m - k)

@@ -1,7 +1,6 @@
 -- The rule chooser and the halves writer meet their contracts. They call each other, and the length falls: the measure is three times the
 -- length, for the chooser one more and for a left half two more. A single word is found by the leaf; of a pair rule that is chosen both halves
 -- are known and have tickets, and what they make together is found where the laws of proofs/Walking.antt say.
--- A need that is plain arithmetic has no name: it is answered where the needs of its function come together.
 -- Assumes nothing.
 use mathlib.Core.Path.{_≡_, ap, _∙_}
 use mathlib.Core.List.{List, _++_}
@@ -263,12 +262,6 @@ module _ (d : ℕ) where
         offset-fits (from .pre .1 .0) (totalled .before .total .ensures) (written .before .before .quotient .ensures) (written .left-half .ensures)
         (rest-is (right-to-rest c)) (c .before .before .quotient2 .ensures) (c .choose .ensures)
 
-  halves-add-left-half : in-halves halves-lts.Need-add-left-half
-  halves-add-left-half c = let s = c .before .before .pre .1 .0 in omega (arith, k-short s, span-short s)
-
-  halves-sub-choose : in-halves halves-lts.Need-sub-choose
-  halves-sub-choose c = let s = c .before .before .before .pre .1 .0 in omega (arith, k-short s)
-
   halves-total-requires : in-halves halves-lts.Need-total-requires
   halves-total-requires c κs = placed-by (c .before .before .before .pre .1 .0)
 
@@ -277,9 +270,6 @@ module _ (d : ℕ) where
 
   halves-quotient-requires : in-halves halves-lts.Need-quotient-requires
   halves-quotient-requires c κs = some-right (totals-from c .pre .1 .0) (c .before .total .ensures)
-
-  halves-part-left-end : in-halves halves-lts.Need-part-left-half-end
-  halves-part-left-end c = let s = totals-from (c .before) in omega (arith, k-short (s .pre .1 .0), s .pre .1 .1)
 
   halves-left-requires : in-halves halves-lts.Need-left-half-requires
   halves-left-requires c κs =
@@ -300,18 +290,6 @@ module _ (d : ℕ) where
       let q = left-to-totals (c .before .before .before) in
       some-right (totals-from q .pre .1 .0) (q .before .total .ensures)
 
-  halves-add-x : in-halves halves-lts.Need-add-x
-  halves-add-x c = omega (arith, rest-room c)
-
-  halves-quotient-requires-2 : in-halves halves-lts.Need-quotient-requires-2
-  halves-quotient-requires-2 c κs = left-some (rest-to-left c)
-
-  halves-sub-choose-2 : in-halves halves-lts.Need-sub-choose-2
-  halves-sub-choose-2 c = k-done (rest-to-left (c .before))
-
-  halves-part-choose-start : in-halves halves-lts.Need-part-choose-start
-  halves-part-choose-start c = omega (arith, k-done (rest-to-left (c .before)))
-
   halves-choose-requires : in-halves halves-lts.Need-choose-requires
   halves-choose-requires c κs =
       let r = c .before .before in
@@ -326,36 +304,9 @@ module _ (d : ℕ) where
         ),
       )
 
-  halves-mul-t23 : in-halves halves-lts.Need-mul-t23
-  halves-mul-t23 c = omega (arith, joined-room (c .before .before .before))
-
-  halves-add-t19 : in-halves halves-lts.Need-add-t19
-  halves-add-t19 c = omega (arith, joined-room (c .before .before .before .before))
-
-  halves-mul-t27 : in-halves halves-lts.Need-mul-t27
-  halves-mul-t27 c = omega (arith, joined-room (c .before .before .before .before .before .before))
-
-  halves-add-t28 : in-halves halves-lts.Need-add-t28
-  halves-add-t28 c = omega (arith, joined-room (c .before .before .before .before .before .before))
-
-  halves-mul-t29 : in-halves halves-lts.Need-mul-t29
-  halves-mul-t29 c = omega (arith, joined-room (c .before .before .before .before .before .before .before .before))
-
-  halves-mul-t30 : in-halves halves-lts.Need-mul-t30
-  halves-mul-t30 c = omega (arith, weight-room (c .before .before .before .before .before .before .before .before .before))
-
-  halves-mul-t31 : in-halves halves-lts.Need-mul-t31
-  halves-mul-t31 c = omega (arith, offset-room (c .before .before .before .before .before .before .before .before .before .before))
-
-  halves-remainder-requires-2 : in-halves halves-lts.Need-remainder-requires-2
-  halves-remainder-requires-2 c κs = left-some (written (c .before .before .before .before .before .before .before .before .before .before))
-
   -- from the place where every part is known back to where both halves are written
   abbrev done : in-halves halves-lts.After-remainder2 → in-halves halves-lts.After-choose
   done c = c .before .before .before .before .before .before .before .before .before .before .before
-
-  halves-add-t33 : in-halves halves-lts.Need-add-t33
-  halves-add-t33 c = omega (arith, offset-room (done c), c .remainder2 .ensures)
 
   halves-same-length : in-halves halves-lts.Need-same-length
   halves-same-length c =
@@ -375,32 +326,32 @@ module _ (d : ℕ) where
   halves-holds : {M : Type 1} → halves-lts.Closed halves-calls halves-at halves.Post M
   halves-holds =
       halves-lts.spec halves-calls halves-at halves.Post
-      halves-add-left-half
-      halves-sub-choose
+      (λ c. let s = c .before .before .pre .1 .0 in omega (arith, k-short s, span-short s))
+      (λ c. let s = c .before .before .before .pre .1 .0 in omega (arith, k-short s))
       halves-total-requires
       halves-total-requires-2
       halves-quotient-requires
       (λ c. omega arith)
       (λ c. omega arith)
-      halves-part-left-end
+      (λ c. let s = totals-from (c .before) in omega (arith, k-short (s .pre .1 .0), s .pre .1 .1))
       halves-left-requires
       halves-mul-x
       halves-remainder-requires
-      halves-add-x
-      halves-quotient-requires-2
-      halves-sub-choose-2
-      halves-part-choose-start
+      (λ c. omega (arith, rest-room c))
+      (λ c κs. left-some (rest-to-left c))
+      (λ c. k-done (rest-to-left (c .before)))
+      (λ c. omega (arith, k-done (rest-to-left (c .before))))
       (λ c. omega arith)
       halves-choose-requires
-      halves-mul-t23
-      halves-add-t19
-      halves-mul-t27
-      halves-add-t28
-      halves-mul-t29
-      halves-mul-t30
-      halves-mul-t31
-      halves-remainder-requires-2
-      halves-add-t33
+      (λ c. omega (arith, joined-room (c .before .before .before)))
+      (λ c. omega (arith, joined-room (c .before .before .before .before)))
+      (λ c. omega (arith, joined-room (c .before .before .before .before .before .before)))
+      (λ c. omega (arith, joined-room (c .before .before .before .before .before .before)))
+      (λ c. omega (arith, joined-room (c .before .before .before .before .before .before .before .before)))
+      (λ c. omega (arith, weight-room (c .before .before .before .before .before .before .before .before .before)))
+      (λ c. omega (arith, offset-room (c .before .before .before .before .before .before .before .before .before .before)))
+      (λ c κs. left-some (written (c .before .before .before .before .before .before .before .before .before .before)))
+      (λ c. omega (arith, offset-room (done c), c .remainder2 .ensures))
       halves-same-length
       halves-returns
 

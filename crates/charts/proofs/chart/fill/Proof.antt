@@ -1,33 +1,60 @@
--- `fill` meets its contract: either array has a set for each row of a chart of the plan's length.
+-- `fill` meets its contract. The loop's invariant is `FillWalk`: the needed spans shorter than m are filled. The measure is the lengths left.
 -- Assumes nothing.
+use Prim.Native.Nat.{_+_, _-_, _≤_}
+use native.Mathlib.Omega.{arith}
+use denote.Ref.{now}
 use borrow.Author.Needs.{needs}
-use mathlib.Core.Path.{refl}
-use Rattle.charts.proofs.Lengths.{fills-short, fills-long, filled-all}
+use Rattle.charts.specs.Plan.{lengthIn}
+use Rattle.charts.proofs.Charting.{FillWalk, fill-start, fill-asks, fill-step, fill-end}
 use Rattle.charts.proofs.chart.fill.Statement.{statement}
 use Rattle.charts.proofs.chart.fill.Tie as tie
 
-fill-beside-requires : tie.Need-fill-beside-requires
-fill-beside-requires c κs = let l = c .before .before .before in fills-short (l .before .pre) (l .length .ensures) (c .before .before .if1 .taken) _ refl
+abbrev Inv-loop : tie.InvT-loop
+Inv-loop rules plan map sets₀ totals₀ n m₀ sets totals m = FillWalk rules plan map (lengthIn plan) m sets₀ totals₀ sets totals
 
-returns : tie.Need-returns
-returns c = let f = c .before .before in let l = f .before .before .before .before in filled-all (l .before .pre) (l .length .ensures) (f .fill-beside .ensures)
+abbrev μ-loop : tie.MeasureT-loop
+μ-loop rules plan map sets₀ totals₀ n m₀ sets totals m = n + 1 - m
 
-fill-beside-requires-2 : tie.Need-fill-beside-requires-2
-fill-beside-requires-2 c κs = let l = c .before .before .before in fills-long (l .before .pre) (l .length .ensures) _ refl
+abbrev sized : tie.At-loop Inv-loop μ-loop → tie.After-length Inv-loop μ-loop
+sized c = c .before
 
-returns-2 : tie.Need-returns-2
-returns-2 c = let f = c .before .before in let l = f .before .before .before .before in filled-all (l .before .pre) (l .length .ensures) (f .fill-beside2 .ensures)
+abbrev start : tie.At-loop Inv-loop μ-loop → tie.Start Inv-loop μ-loop
+start c = sized c .before .before
+
+-- the turn, from its end
+abbrev turn : tie.After-totals Inv-loop μ-loop → tie.In-loop Inv-loop μ-loop
+turn c = c .before .before .before .before .before .before
+
+within : (c : tie.In-loop Inv-loop μ-loop) → c .before .loop .m ≤ lengthIn (now (start (c .before) .args .plan))
+within c = omega (arith, c .loop-test .taken, sized (c .before) .length .ensures)
+
+loop-holds : tie.Need-loop-holds Inv-loop μ-loop
+loop-holds c = fill-start (c .before .before .pre)
+
+fill-length-requires : tie.Need-fill-length-requires Inv-loop μ-loop
+fill-length-requires c κs = let t = c .before .before in (_, fill-asks (t .before .loop .inv) (within t))
+
+loop-again : tie.Need-loop-again Inv-loop μ-loop
+loop-again c =
+    let t = turn c in
+    let w = t .before .loop .inv in
+    fill-step w (within t) (c .before .before .before .fill-length .ensures _ (fill-asks w (within t)))
+
+returns : tie.Need-returns Inv-loop μ-loop
+returns c = let l = c .before in fill-end (l .loop .inv) (omega (arith, c .loop-test .left, sized l .length .ensures))
 
 pub fill-spec : {M : Type 1} → statement M
 fill-spec =
     tie.close
     (tie.spec
+    Inv-loop
+    μ-loop
     (λ c κs. search needs)
-    (λ c. search needs)
-    fill-beside-requires
-    (λ c. search needs)
-    returns
-    (λ c. search needs)
-    fill-beside-requires-2
-    (λ c. search needs)
-    returns-2)
+    loop-holds
+    fill-length-requires
+    (λ c. let t = turn c in omega (arith, within t, start (t .before) .pre .blank .counted .short))
+    (λ c. omega (arith, turn c .loop-test .taken))
+    loop-again
+    (λ c. c .before .loop .inv .done .sets-long)
+    (λ c. c .before .loop .inv .done .long)
+    returns)

@@ -5,7 +5,7 @@ use native.Mathlib.Omega.{arith}
 use lib.ListN.{length}
 use Rattle.sets.specs.Sets.{members}
 use Rattle.sets.proofs.Loops.{turn-less}
-use Rattle.charts.proofs.Lengths.{LengthWalk, length-start, length-end, length-asks, length-step}
+use Rattle.charts.proofs.Charting.{LengthWalk, length-start, length-end, length-asks, length-step}
 use Rattle.charts.proofs.chart.fill_length.Statement.{statement}
 use Rattle.charts.proofs.chart.fill_length.Tie as tie
 

@@ -3,7 +3,7 @@
 use mathlib.Core.Path.{_∙_}
 use borrow.Author.Needs.{needs}
 use borrow.Author.Tests.{ne-eqb}
-use Rattle.sets.proofs.Changes.{some-member}
+use Rattle.sets.proofs.Loops.{some-member}
 use Rattle.charts.proofs.plan.meets.Statement.{statement}
 use Rattle.charts.proofs.plan.meets.Tie as tie
 

@@ -18,7 +18,7 @@ use Rattle.grammar.specs.Refusals.{badRule, nextAbove, metTwice}
 use Rattle.grammar.specs.Checks.{Sized, Readable}
 use Rattle.grammar.specs.Entering.{Kept}
 use Rattle.grammar.proofs.Acceptance.{Ranges, range-facts}
-use Rattle.grammar.proofs.Entering.{kept-none}
+use Rattle.lists.proofs.Tables.{kept-same}
 use Rattle.grammar.proofs.Holding.{sorted-holds}
 use Rattle.grammar.proofs.Outcome.{Passed, refused, accepted, short, long, size-wrong, size-right, link-head, link-next, links-right, missed, all-met}
 use Rattle.grammar.proofs.checks.read.Statement.{statement}
@@ -64,7 +64,7 @@ bytes6 c = bytes3 (e3 (e4 (e5 c)))
 
 -- the table is as it was
 unread : (c : tie.Else1) → Kept (now (c .before .before .args .rules)) (now (c .before .before .args .rules))
-unread c = kept-none (c .before .before .pre)
+unread c = kept-same (c .before .before .pre .wide)
 
 unread3 : (c : tie.Else3) → Kept (now (e1 (e2 c) .before .before .args .rules)) (now (e1 (e2 c) .before .before .args .rules))
 unread3 c = unread (e1 (e2 c))
@@ -135,7 +135,7 @@ past7 : (c : tie.Else8) → Passed (bytes6 (e6 (e7 c))) 7
 past7 c = past6 (e7 c) ∙ row-passed 7 _ (all-met _ (once (e7 c)) (omega (arith, entered (c .before), c .if8 .left, sized (e3 (e4 (e5 (e6 (e7 c))))) .bodies)))
 
 returns : tie.Need-returns
-returns c = refused (kept-none (c .before .before .pre)) _ (row-applies 1 _ (short _ (c .if1 .taken))) (lit< tt)
+returns c = refused (kept-same (c .before .before .pre .wide)) _ (row-applies 1 _ (short _ (c .if1 .taken))) (lit< tt)
 
 returns-2 : tie.Need-returns-2
 returns-2 c =

@@ -8,7 +8,8 @@ use borrow.Author.Needs.{needs}
 use denote.Ref.{now}
 use Rattle.grammar.specs.Layout.{nonterminals}
 use Rattle.grammar.specs.Entering.{Walked, Kept}
-use Rattle.grammar.proofs.Entering.{kept-none, kept-kept, build-start, build-again, build-end}
+use Rattle.lists.proofs.Tables.{kept-same, kept-then}
+use Rattle.grammar.proofs.Entering.{build-start, build-again, build-end}
 use Rattle.grammar.proofs.entries.build.Statement.{statement}
 use Rattle.grammar.proofs.entries.build.Tie as tie
 
@@ -30,7 +31,7 @@ abbrev head : tie.After-enter Inv-loop μ-loop → tie.At-loop Inv-loop μ-loop
 head c = c .before .before .before .before
 
 loop-holds : tie.Need-loop-holds Inv-loop μ-loop
-loop-holds c = let p = c .before .before .prepare .ensures in (omega arith, build-start p, kept-none (p .entered .roomy))
+loop-holds c = let p = c .before .before .prepare .ensures in (omega arith, build-start p, kept-same (p .entered .roomy .wide))
 
 enter-requires : tie.Need-enter-requires Inv-loop μ-loop
 enter-requires c κs =
@@ -47,18 +48,18 @@ returns : tie.Need-returns Inv-loop μ-loop
 returns c =
     let e = c .before .before in
     let l = head e in
-    build-again (kept-kept (begun l .prepare .ensures .kept) (l .loop .inv .2)) (rw (c .if1 .taken) at (e .enter .ensures))
+    build-again (kept-then (begun l .prepare .ensures .kept) (l .loop .inv .2)) (rw (c .if1 .taken) at (e .enter .ensures))
 
 loop-again : tie.Need-loop-again Inv-loop μ-loop
 loop-again c =
     let e = c .before .before in
-    (omega arith, e .enter .ensures .walked (c .if1 .left), kept-kept (head e .loop .inv .2) (e .enter .ensures .kept))
+    (omega arith, e .enter .ensures .walked (c .if1 .left), kept-then (head e .loop .inv .2) (e .enter .ensures .kept))
 
 returns-2 : tie.Need-returns-2 Inv-loop μ-loop
 returns-2 c =
     let l = c .before in
     let e : l .loop .a ≡ nonterminals (now (start l .args .g)) = omega arith in
-    build-end (start l .pre .0) (kept-kept (begun l .prepare .ensures .kept) (l .loop .inv .2)) (rw e at (l .loop .inv .1))
+    build-end (start l .pre .0) (kept-then (begun l .prepare .ensures .kept) (l .loop .inv .2)) (rw e at (l .loop .inv .1))
 
 pub build-spec : {M : Type 1} → statement M
 build-spec =

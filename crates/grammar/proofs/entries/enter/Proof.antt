@@ -11,7 +11,8 @@ use lib.ListN.{length, getD, length-set}
 use Rattle.grammar.specs.Layout as Layout
 use Rattle.grammar.proofs.Walks.{step-told}
 use Rattle.grammar.specs.Entering.{Kept}
-use Rattle.grammar.proofs.Entering.{Walking, enter-few, kept-none, kept-put, walk-start, walk-room, walk-again, walk-free, walk-word, walk-pair, walk-end}
+use Rattle.lists.proofs.Tables.{kept-same, kept-put}
+use Rattle.grammar.proofs.Entering.{Walking, enter-few, walk-start, walk-room, walk-again, walk-free, walk-word, walk-pair, walk-end}
 use Rattle.grammar.proofs.entries.enter.Statement.{statement}
 use Rattle.grammar.proofs.entries.enter.Tie as tie
 
@@ -78,7 +79,7 @@ loop-holds c =
     let w = p .before .before in
     let i = w .before .before in (
       walk-start (entry i .pre) (i .wide2 .ensures .0) (w .words-from .ensures .0) (p .pairs-from .ensures .0) (c .new .ensures),
-      kept-none (entry i .pre .walked .entered .roomy),
+      kept-same (entry i .pre .walked .entered .roomy .wide),
     )
 
 returns : tie.Need-returns Inv-loop μ-loop

@@ -10,18 +10,18 @@ use denote.Ref.{now}
 use lib.ListN.{length, replicate}
 use Rattle.walk.proofs.Joined.{left-length}
 use Rattle.ranking.specs.Inside.{readingsIn}
-use Rattle.ranking.proofs.Finding.{fill-asks, ready-after, count-asks, count-is, find-sought, found-number}
+use Rattle.ranking.proofs.Finding.{fill-asks, found-as, count-asks, count-is, find-sought, found-number}
 use Rattle.ranking.proofs.rank.find.Statement.{statement}
 use Rattle.ranking.proofs.rank.find.Tie as tie
 
 abbrev entry : tie.After-spell → tie.Start
-entry c = c .before .before .before
+entry c = c .before .before .before .before
 
 abbrev spelt : tie.After-fill → tie.After-spell
-spelt c = c .before .before .before
+spelt c = c .before .before .before .before
 
 abbrev filled : tie.After-start → tie.After-fill
-filled c = c .before .before
+filled c = c .before .before .before .before
 
 abbrev started : tie.After-total → tie.After-start
 started c = c .before .before .before
@@ -48,13 +48,13 @@ one-left c = one _ (counted (c .before .before)) (c .before .if1 .left) (c .if2 
     one (suc n) e h l = omega arith
 
 spell-requires : tie.Need-spell-requires
-spell-requires c κs = let p = c .before .before .pre .ready in (p .blank .counted .short, p .long, p .wide)
+spell-requires c κs = let p = c .before .before .before .pre .ready in (p .blank .counted .short, p .long, p .wide)
 
 fill-requires : tie.Need-fill-requires
-fill-requires c κs = let p = c .before .before in fill-asks (entry p .pre) (p .spell .ensures)
+fill-requires c κs = let p = c .before .before .before in fill-asks (entry p .pre) (p .spell .ensures)
 
 start-requires : tie.Need-start-requires
-start-requires c κs = entry (spelt (c .before)) .pre .ready .blank .counted .table .long
+start-requires c κs = entry (spelt (c .before .before .before)) .pre .ready .blank .counted .table .long
 
 total-requires : tie.Need-total-requires
 total-requires c κs =
@@ -66,22 +66,28 @@ total-requires c κs =
 same-length : tie.Need-same-length
 same-length c = search needs
 
+same-length-2 : tie.Need-same-length-2
+same-length-2 c = search needs
+
 returns : tie.Need-returns
 returns c =
     let a = c .before in
     let f = filled (started a) in
     let p = spelt f in
-    record { says = sym (counted a) ∙ c .if1 .taken; ready = ready-after (entry p .pre) (p .spell .ensures) (f .fill .ensures) }
+    found-as (entry p .pre) (p .spell .ensures) (f .fill .ensures) (sym (counted a) ∙ c .if1 .taken)
 
-same-length-2 : tie.Need-same-length-2
-same-length-2 c = search needs
+same-length-3 : tie.Need-same-length-3
+same-length-3 c = search needs
+
+same-length-4 : tie.Need-same-length-4
+same-length-4 c = search needs
 
 returns-2 : tie.Need-returns-2
 returns-2 c =
     let a = c .before .before in
     let f = filled (started a) in
     let p = spelt f in
-    record { says = omega (arith, counted a, c .if2 .taken); ready = ready-after (entry p .pre) (p .spell .ensures) (f .fill .ensures) }
+    found-as (entry p .pre) (p .spell .ensures) (f .fill .ensures) (omega (arith, counted a, c .if2 .taken))
 
 sub-choose : tie.Need-sub-choose
 sub-choose c = search needs
@@ -103,8 +109,11 @@ choose-requires c κs =
       left-length (length (words a)) (replicate 16 zero) (entry p .pre .ready .blank .counted .short),
     )
 
-same-length-3 : tie.Need-same-length-3
-same-length-3 c = search needs
+same-length-5 : tie.Need-same-length-5
+same-length-5 c = search needs
+
+same-length-6 : tie.Need-same-length-6
+same-length-6 c = search needs
 
 returns-3 : tie.Need-returns-3
 returns-3 c =
@@ -114,10 +123,8 @@ returns-3 c =
     let t = started a in
     let f = filled t in
     let p = spelt f in
-    record {
-      says = (one-left e, found-number (entry p .pre) (p .spell .ensures) (f .fill .ensures) _ (t .start .ensures .0) (k .choose .ensures));
-      ready = ready-after (entry p .pre) (p .spell .ensures) (f .fill .ensures);
-    }
+    found-as (entry p .pre) (p .spell .ensures) (f .fill .ensures)
+    (one-left e, found-number (entry p .pre) (p .spell .ensures) (f .fill .ensures) _ (t .start .ensures .0) (k .choose .ensures))
 
 pub find-spec : {M : Type 1} → statement M
 find-spec =
@@ -128,12 +135,15 @@ find-spec =
     start-requires
     total-requires
     same-length
-    returns
     same-length-2
+    returns
+    same-length-3
+    same-length-4
     returns-2
     sub-choose
     part-words-start
     part-words-end
     choose-requires
-    same-length-3
+    same-length-5
+    same-length-6
     returns-3)

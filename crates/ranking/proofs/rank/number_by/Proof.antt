@@ -4,7 +4,8 @@ use mathlib.Core.Path.{refl, _∙_}
 use denote.Ref.{now}
 use borrow.Author.Needs.{needs}
 use Rattle.lists.proofs.Tables.{wide-made}
-use Rattle.charts.proofs.Mapping.{plain-map}
+use Rattle.charts.proofs.Mapping.{plain-map, clean-start}
+use Rattle.charts.proofs.Placing.{room-low}
 use Rattle.ranking.proofs.Answering.{rank-none, rank-several, rank-found}
 use Rattle.ranking.proofs.Finding.{rank-kept, found-case}
 use Rattle.ranking.proofs.rank.number_by.Statement.{statement}
@@ -14,18 +15,28 @@ abbrev start : tie.After-ready → tie.Start
 start c = c .before .before .before .before .before .before
 
 abbrev readied : tie.After-find → tie.After-ready
-readied c = c .before .before .before .before .before .before .before
+readied c = c .before .before .before .before .before .before .before .before
 
 abbrev searched : tie.After-totals → tie.After-find
-searched c = c .before
+searched c = c .before .before
 
 ready-requires : tie.Need-ready-requires
 ready-requires c κs =
     let p = c .before .before .before .before .before .pre in
     record { blank = p .blank; unlinked = p .unlinked; plan-long = refl; map-long = refl; map-wide = wide-made 17 16 0 }
 
+slice-aggregate-find : tie.Need-slice-aggregate-find
+slice-aggregate-find c = search needs
+
 find-requires : tie.Need-find-requires
-find-requires c κs = record { ready = c .before .before .before .before .before .before .ready .ensures .ready; everywhere = plain-map }
+find-requires c κs =
+    let r = c .before .before .before .before .before .before .before in
+    let p = start r .pre in
+    record {
+      ready = r .ready .ensures .ready;
+      everywhere = plain-map;
+      clean = clean-start _ _ _ (room-low _ (p .blank .counted .short)) (p .zeros);
+    }
 
 enum-told : tie.Need-enum-told
 enum-told c = search needs
@@ -84,6 +95,7 @@ number-by-spec =
     tie.close
     (tie.spec
     ready-requires
+    slice-aggregate-find
     find-requires
     enum-told
     enum-told-2
