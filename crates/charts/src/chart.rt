@@ -1,8 +1,7 @@
 // The chart of a sentence or a pattern: for each span that is needed a row of totals, shorter spans first. Beside each row a set of
 // nonterminals outside which it is 0: by that set the row is cleared before it is made anew.
 ghost use mathlib.Core.Path.{_≡_};
-ghost use Prim.Native.Nat.{ℕ, _+_, _*_, _-_, _≤_, _<_};
-ghost use lib.ListN.{length};
+ghost use Prim.Native.Nat.{ℕ, _+_, _*_, _-_, _<_};
 ghost use Rattle.lists.specs.Tables.{entry};
 ghost use Rattle.grammar.specs.Rules.{countIn};
 ghost use Rattle.charts.specs.Maps.{rowAt};

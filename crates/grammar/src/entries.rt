@@ -1,6 +1,5 @@
 // The table of rules, filled by the walk of the chains that finds a rule met a second time.
-ghost use mathlib.Core.Path.{_≡_};
-ghost use Prim.Native.Nat.{_≤_, _<_};
+ghost use Prim.Native.Nat.{_<_};
 ghost use Rattle.grammar.specs.Rules.{Roomy};
 ghost use Rattle.grammar.specs.Checks.{Readable};
 ghost use Rattle.grammar.specs.Entering.{Prepares, Entering, Enters, Builds};

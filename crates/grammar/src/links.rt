@@ -1,6 +1,5 @@
 // The links of a table of rules: from the last rule with a word to the one before, and so on, and from the last pair rule with two
 // nonterminals.
-ghost use mathlib.Core.Path.{_≡_};
 ghost use Prim.Native.Nat.{_+_, _<_};
 ghost use Rattle.grammar.specs.Rules.{wordFrom, pairFrom};
 ghost use Rattle.grammar.specs.Links.{Unlinked, Links};

@@ -1,7 +1,7 @@
 -- What *Give* and *Number* answer once 1 to 10 are passed, line by line of what is left of their refusals; and that the table of a grammar's
 -- rules so answers for the grammar.
 -- Assumes nothing.
-use mathlib.Core.Path.{_≡_, refl, sym, ap, ap₂, _∙_}
+use mathlib.Core.Path.{_≡_, refl, sym, ap, _∙_}
 use mathlib.Core.List.{List, [], _∷_, _++_}
 use Prim.Native.Nat.{ℕ, _≤_, _<_}
 use native.Mathlib.Omega.{arith}
@@ -9,7 +9,7 @@ use native.Mathlib.Decide.{decLt}
 use lib.ListN.{length, drop}
 use lib.Dec.{ltb, leb, eqb, lit<}
 use borrow.Author.Tests.{le-leb, lt-leb, lt-ltb, le-ltb, eq-eqb, ne-eqb}
-use Rattle.answers.specs.Answer.{Row, Answer, firstThatApplies, answer}
+use Rattle.answers.specs.Answer.{Row, firstThatApplies}
 use Rattle.answers.proofs.Refusals.{row-applies, row-passed, rows-stop, rows-pass, answer-accepted, answer-refused}
 use Rattle.grammar.specs.Rules.{startIn, Holds}
 use Rattle.counting.specs.Tables.{most}
@@ -19,7 +19,7 @@ use Rattle.counting.specs.declared.prepare.Prepared.{Prepared}
 use Rattle.counting.specs.declared.prepare.Prepared.the-variants.{Ready, Refused}
 use Rattle.counting.specs.declared.prepare.CountRefusal.{CountRefusal}
 use Rattle.counting.proofs.Preparing.{count-number}
-use Rattle.ranking.specs.Answers.{totalOf, entryOf, unrankRows, unrankOf, readingsOf, numberOf, rankRows, rankOf}
+use Rattle.ranking.specs.Answers.{totalOf, entryOf, unrankOf, readingsOf, numberOf, rankOf}
 use Rattle.ranking.specs.Inside.{totalIn, entryIn, readingsIn, numberIn, unrankIn, rankIn}
 use Rattle.ranking.proofs.Inside.{total-is, entry-is, readings-are, number-is}
 

@@ -1,7 +1,7 @@
 -- What *Give* and *Number* ask of the chart and the walk, and what these then say: by the counts entry d itself, by a sentence's letters how
 -- many derivations it has and the place of the first.
 -- Assumes nothing.
-use mathlib.Core.Path.{_≡_, refl, sym, ap, _∙_}
+use mathlib.Core.Path.{_≡_, refl, ap, _∙_}
 use mathlib.Core.Bool.{true}
 use mathlib.Core.List.{List, []}
 use Prim.Native.Nat.{ℕ, zero, _+_, _-_, _/_, _%_, _≤_, _<_}
@@ -11,7 +11,7 @@ use lib.ListN.{length, getD, drop, replicate, length-replicate}
 use borrow.Rule.Slice.PartMut.{postOf}
 use Rattle.lists.specs.Tables.{entry}
 use Rattle.lists.proofs.Tables.{wide-made, made-entry}
-use Rattle.grammar.specs.Rules.{startIn, countIn, ruled}
+use Rattle.grammar.specs.Rules.{startIn, ruled}
 use Rattle.counting.specs.Owned.{OwnedAs}
 use Rattle.counting.specs.Counted.{countAt, Asked, Counted}
 use Rattle.grammar.proofs.Kept.{ruled-same}
@@ -20,10 +20,10 @@ use Rattle.counting.specs.declared.prepare.Prepared.{Prepared}
 use Rattle.counting.specs.declared.prepare.Prepared.the-variants.{Ready as Passed}
 use Rattle.counting.proofs.Asking.{counted-copied}
 use Rattle.charts.proofs.Placing.{room-short, room-low}
-use Rattle.charts.specs.Letters.{any, letterAt, weightBy}
+use Rattle.charts.specs.Letters.{letterAt, weightBy}
 use Rattle.charts.specs.Maps.{totalAt, Span, Mapped, Everywhere, Spelt}
-use Rattle.charts.specs.Plan.{lengthIn, chartRow, needed}
-use Rattle.charts.specs.Chart.{Blank, Clean, Fills, Filled, Charted}
+use Rattle.charts.specs.Plan.{lengthIn, needed}
+use Rattle.charts.specs.Chart.{Fills, Filled, Charted}
 use Rattle.charts.specs.Ready.{Ready}
 use Rattle.charts.proofs.Mapping.{everywhere-total, everywhere-mapped, all-closed, planned-closed, planned-same}
 use Rattle.walk.specs.Sought.{Hand, Sought}

@@ -1,12 +1,12 @@
 -- What the table of an accepted grammar's rules says is what document 01 says of the grammar: T, the sentence with a number, how many
 -- derivations a sentence has and where the first one stands.
 -- Assumes nothing.
-use mathlib.Core.Path.{_≡_, refl, sym, ap, _∙_}
+use mathlib.Core.Path.{_≡_, sym, ap, _∙_}
 use mathlib.Core.List.{List, [], map}
 use Prim.Native.Nat.{ℕ, _<_}
 use native.Mathlib.Omega.{arith}
 use lib.ListN.{length, getD}
-use Rattle.lists.specs.Searched.{bit, placeOf, same}
+use Rattle.lists.specs.Searched.{bit, same}
 use Rattle.lists.proofs.Sums.{sum-map}
 use Rattle.lists.proofs.Places.{getD-map}
 use Rattle.lists.proofs.Searches.{place-map}
@@ -17,7 +17,7 @@ use Rattle.grammar.specs.Rules.{startIn, ruled, Holds}
 use Rattle.counting.specs.Sentences.{sentences}
 use Rattle.counting.proofs.Counts.{T-sentences, T-length}
 use Rattle.counting.proofs.Tabled.{tabled-sentences}
-use Rattle.ranking.specs.Answers.{fullList, totalOf, entryOf, derives, readingsOf, numberOf}
+use Rattle.ranking.specs.Answers.{fullList, totalOf, entryOf, readingsOf, numberOf}
 use Rattle.ranking.specs.Inside.{fullIn, totalIn, entryIn, readingsIn, numberIn}
 
 -- the sentence of entry d

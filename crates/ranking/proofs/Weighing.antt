@@ -3,9 +3,8 @@
 -- the owner of ticket 0 is the first.
 -- Assumes nothing.
 use mathlib.Core.Path.{_≡_, refl, sym, ap, _∙_}
-use mathlib.Core.Bool.{_&&_}
 use mathlib.Core.List.{List, [], _∷_}
-use Prim.Native.Nat.{ℕ, zero, suc, _+_, _*_, _≤_, _<_}
+use Prim.Native.Nat.{ℕ, suc, _+_, _≤_, _<_}
 use native.Mathlib.Omega.{arith}
 use lib.ListN.{length, getD}
 use lib.Dec.{eqb}
@@ -19,7 +18,7 @@ use Rattle.lists.proofs.Owners.{owns-∈, by-counts, by-itself}
 use Rattle.lists.proofs.Searches.{by-index}
 use Rattle.grammar.specs.Rules.{startIn, ruled}
 use Rattle.counting.specs.Totals.{total}
-use Rattle.counting.specs.Sentences.{sentences, weight}
+use Rattle.counting.specs.Sentences.{weight}
 use Rattle.counting.specs.Owned.{OwnedAs}
 use Rattle.counting.proofs.Counts.{total-sum}
 use Rattle.counting.proofs.Sentences.{sentence-length}

@@ -13,7 +13,6 @@ use lib.ListN.{length, take, drop, replicate, length-take}
 use lib.Seq.{length-take-le, take-append-le}
 use lib.Dec.{ltb, leb, eqb, lit<}
 use Rattle.lists.specs.Joined.{_∈_, concatMap}
-use Rattle.lists.specs.Searched.{someOf}
 use Rattle.lists.specs.Ordered.{Pairwise}
 use Rattle.lists.specs.Struck.{keep, struck, skip}
 use Rattle.lists.proofs.Sums.{concat-ext}
@@ -23,16 +22,14 @@ use Rattle.lists.proofs.Struck.{struck-map}
 use Rattle.lists.proofs.Tables.{wide-made}
 use Rattle.lists.proofs.Strikes.{keep-length, keep-∈, ∈-keep, struck-rising, skip-lt}
 use Rattle.answers.specs.Answer.{Row, firstThatApplies, answerOf, answer}
-use Rattle.answers.proofs.Refusals.{row-applies, row-passed, rows-stop, rows-pass, rows-clear, answer-accepted, answer-refused}
+use Rattle.answers.proofs.Refusals.{row-applies, row-passed, rows-stop, rows-pass, answer-accepted, answer-refused}
 use Rattle.grammar.specs.Trees.{sentence}
 use Rattle.grammar.specs.Rules as grammar
-use Rattle.counting.specs.Counted.{Counted}
-use Rattle.counting.specs.Tables.{most}
 use Rattle.counting.specs.Prepared.{preparedRows, countNumber, Tabled}
 use Rattle.counting.specs.declared.prepare.CountRefusal.{CountRefusal}
 use Rattle.counting.proofs.Preparing.{count-number}
 use Rattle.counting.proofs.Counts.{T-sentences}
-use Rattle.ranking.specs.Answers.{fullList, totalOf, entryOf, readingsOf, numberOf}
+use Rattle.ranking.specs.Answers.{fullList, totalOf, readingsOf, numberOf}
 use Rattle.ranking.specs.Inside.{fullIn, totalIn, entryIn, readingsIn, WriteSought}
 use Rattle.ranking.proofs.Inside.{full-is, total-is, entry-is, readings-are, number-is}
 use Rattle.ranking.proofs.Answering.{left-of, refused-of, total-fits}

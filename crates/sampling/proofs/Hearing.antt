@@ -15,7 +15,6 @@ use Rattle.lists.specs.Joined.{concatMap}
 use Rattle.lists.specs.Searched.{someOf}
 use Rattle.lists.specs.Struck.{keep}
 use Rattle.charts.specs.Plan.{lengthIn}
-use Rattle.charts.specs.Ready.{Ready}
 use Rattle.ranking.specs.Inside.{readingsIn, numberIn}
 use Rattle.ranking.specs.Ranking.{FindSought, Says, FoundAs}
 use Rattle.ranking.specs.declared.rank.Found.{Found}
@@ -29,7 +28,7 @@ use Rattle.history.specs.Heard.{sentences}
 use Rattle.history.proofs.Acceptance.{known}
 use Rattle.history.proofs.Chain.{chained}
 use Rattle.history.proofs.Reading.{read-end, read-record}
-use Rattle.sampling.specs.Hearing.{numbersIn, manyIn, ambiguousIn, Tells, Adds, ToldAs, Collects, Holds, CollectedAs}
+use Rattle.sampling.specs.Hearing.{numbersIn, manyIn, ambiguousIn, Tells, Adds, ToldAs, Holds, CollectedAs}
 use Rattle.sampling.specs.declared.heard.Collected.{Collected}
 use Rattle.sampling.specs.declared.heard.Collected.the-variants.{Numbers, Ambiguous}
 

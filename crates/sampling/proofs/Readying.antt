@@ -1,7 +1,7 @@
 -- From the counts and an accepted history to the collecting of its numbers: the tables are copied to where there is room for links and charts,
 -- and what is collected by the copies is what the rules themselves say.
 -- Assumes nothing.
-use mathlib.Core.Path.{_≡_, refl, sym, ap, _∙_}
+use mathlib.Core.Path.{_≡_, sym, ap, _∙_}
 use mathlib.Core.List.{List, []}
 use Prim.Native.Nat.{ℕ, zero, _+_, _/_, _%_, _≤_, _<_}
 use native.Mathlib.Omega.{arith}
@@ -17,7 +17,7 @@ use Rattle.counting.specs.Counted.{Counted}
 use Rattle.counting.proofs.Asking.{counted-copied, counted-kept}
 use Rattle.charts.specs.Maps.{Everywhere}
 use Rattle.charts.specs.Plan.{lengthIn}
-use Rattle.charts.specs.Ready.{Ready, Readies, Readied}
+use Rattle.charts.specs.Ready.{Readies, Readied}
 use Rattle.ranking.specs.Inside.{readingsIn}
 use Rattle.ranking.specs.Ranking.{Roomy}
 use Rattle.history.specs.Heard.{sentences}

@@ -1,6 +1,5 @@
 // What *Left* and every *Draw* need: the tables of the grammar, then the heard derivation numbers, rising, each once.
 ghost use mathlib.Core.Path.{_≡_};
-ghost use Prim.Native.Nat.{_≤_};
 ghost use lib.ListN.{length};
 ghost use Rattle.sampling.specs.Answers.{sampleNumber};
 ghost use Rattle.sampling.specs.Question.{asked};

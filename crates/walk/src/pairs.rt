@@ -1,5 +1,4 @@
 // A longer span: which pair rule of a nonterminal, with which left length, holds a ticket.
-ghost use mathlib.Core.Path.{_≡_};
 ghost use Prim.Native.Nat.{ℕ, _-_, _≤_, _<_};
 ghost use Rattle.grammar.specs.Rules.{ruled};
 ghost use Rattle.counting.specs.Owned.{ChosenAs};

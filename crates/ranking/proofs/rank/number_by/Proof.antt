@@ -1,7 +1,6 @@
 -- `number_by` meets its contract, case by case of what is found; linking keeps what the rules answer.
 -- Assumes nothing.
 use mathlib.Core.Path.{refl, _∙_}
-use denote.Ref.{now}
 use borrow.Author.Needs.{needs}
 use Rattle.lists.proofs.Tables.{wide-made}
 use Rattle.charts.proofs.Mapping.{plain-map, clean-start}

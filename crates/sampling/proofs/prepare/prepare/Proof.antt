@@ -1,10 +1,7 @@
 -- `prepare` meets its contract: the grammar's refusals, then the history's, then 15; past them the tables and the heard numbers.
 -- Assumes nothing.
-use mathlib.Core.Path.{_≡_}
 use native.Mathlib.Omega.{arith}
 use borrow.Author.Needs.{needs}
-use denote.Ref.{now}
-use Rattle.counting.specs.Prepared.{Tabled}
 use Rattle.ranking.proofs.Answering.{prepared-none, prepared-refused}
 use Rattle.sampling.proofs.Answering.{unprepared, recorded-prepared}
 use Rattle.sampling.proofs.prepare.prepare.Statement.{statement}

@@ -1,6 +1,5 @@
 -- `remaining` meets its contract: where preparing is refused so is the call; else the figures are T, how many are heard, and the difference.
 -- Assumes nothing.
-use native.Mathlib.Omega.{arith}
 use borrow.Author.Needs.{needs}
 use denote.Ref.{now}
 use Rattle.sampling.specs.Question.{plainly}
