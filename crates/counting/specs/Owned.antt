@@ -44,13 +44,6 @@ module _ (rules : ℕ → List Rule) (v u : ℕ → ℕ → ℕ) where
     pub measure-is : measure ≡ weight u p words
     pub weighs-is : weighs ≡ weight v p words
 
-  -- The left length of a pair rule that holds the ticket t, what stands before it, and the ticket there; or, with 0 for it, that none does, and
-  -- what they hold together.
-  pub record SplitAs (B C p m t k before left : ℕ) : Type 0 where
-    pub short : k < m
-    pub found : 1 ≤ k → Part (weight v p) (weight u p) (ruleOf rules B C m) (halves rules B C k m) t before left
-    pub passed : k ≡ 0 → (before ≡ ruleSum rules u B C p m) × (left + ruleSum rules v B C p m ≡ t)
-
   -- the pair rule and the left length that hold the ticket t, what stands before them, and the ticket there
   pub record ChosenAs (A p m t B C k before left : ℕ) : Type 0 where
     pub rule : (B, C) ∈ pairsOf (rules A)

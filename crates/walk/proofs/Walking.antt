@@ -4,7 +4,7 @@
 -- Assumes nothing.
 use mathlib.Core.Path.{_≡_, sym, ap, _∙_}
 use mathlib.Core.Bool.{true}
-use mathlib.Core.List.{List, _++_}
+use mathlib.Core.List.{List, [], _++_}
 use Prim.Native.Nat.{ℕ, zero, suc, _+_, _*_, _-_, _/_, _%_, _≤_, _<_}
 use native.Mathlib.Omega.{arith}
 use native.Mathlib.Decide.{decLe}
@@ -18,6 +18,7 @@ use Rattle.grammar.specs.Rules.{leftAt, rightAt, pairFrom, countIn, wordsIn, pa
 use Rattle.grammar.proofs.Ruling.{words-ruled, pairs-ruled, pair-count, pair-here}
 use Rattle.counting.specs.Totals.{total, T}
 use Rattle.counting.specs.Tables.{most}
+use Rattle.counting.specs.Sentences.{sentences, splitList}
 use Rattle.counting.specs.Counted.{Asked, longestAt}
 use Rattle.counting.specs.Owned.{halvesTotal, OwnedAs, InHalves, HalvesAs, ChosenAs}
 use Rattle.counting.proofs.Totals.{total-one}
@@ -27,7 +28,7 @@ use Rattle.counting.proofs.Choosers as loops
 use Rattle.charts.specs.Letters.{letterAt, weightBy}
 use Rattle.charts.specs.Maps.{totalAt, Span, Mapped}
 use Rattle.walk.specs.Sought.{Sought}
-use Rattle.walk.specs.Steps.{Placed, Cut, WordSought, LeafAs, SplitSought, SplitFound, HalvesSought, HalvesFound}
+use Rattle.walk.specs.Steps.{Placed, Cut, WordSought, LeafAs, HalvesSought, HalvesFound}
 
 -- ---- a cut of a known span
 
@@ -107,130 +108,118 @@ module _ {rules totals choice measure : List (List ℕ)} {a p m t : ℕ} (s : So
         fits = omega (arith, table-halves, loops.halves-within (ruled rules) (weightBy rules map) a b c p m k h l in-ruled, q .fits p a m (s .asked) (s .span));
       }
 
--- ---- a left length of a pair rule
+-- ---- a pair rule and a left length
 
-module _ {rules totals choice measure : List (List ℕ)} {a p m i : ℕ} (s : SplitSought rules totals choice measure a p m i) where
-  pub split-long : 4 ≤ length rules
-  split-long = s .sought .hand .counted .table .long
-
-  pub split-low : i < 255
-  split-low = omega (arith, s .to, s .sought .hand .counted .table .pair-low (a + 1) (omega (arith, s .sought .asked .inside)))
-
-  module _ {b c : ℕ} (eb : b ≡ leftAt rules i) (ec : c ≡ rightAt rules i) where
-    split-rule : (b, c) ∈ pairsIn rules a
-    split-rule =
-        let j = i - pairFrom rules a in
-        let back : pairFrom rules a + j ≡ i = omega (arith, s .from) in
-        let e : getD (pairsIn rules a) j (0, 0) ≡ (b, c) = rw (back, ← eb, ← ec) at (pair-here rules a j (omega (arith, s .from, s .to))) in
-        rw e at (getD-∈ (pairsIn rules a) j (0, 0) (omega (arith, pair-count rules a, s .from, s .to)))
-
-    pub left-few : b < 32
-    left-few = left-placed (s .sought) split-rule {k = 1} (omega arith) (omega (arith, s .more)) (s .sought .hand .by) .inside
-
-    pub right-few : c < 32
-    right-few = right-placed (s .sought) split-rule {k = 1} (omega arith) (omega (arith, s .more)) (s .sought .hand .by) .inside
-
-    module _ (t : ℕ) where
-      -- the left lengths at which the right half is longer than its longest derivation hold nothing
-      pub split-start : {k l : ℕ} → l ≡ longestAt totals c → (1 ≤ k) × (k ≤ m) × ((j : ℕ) → 1 ≤ j → j < k → l < m - j)
-          → loops.Splitting (ruled rules) (weightBy rules choice) (weightBy rules measure) b c p m t 0 t k
-      split-start {k} e f =
-          let z : k - 1 + 1 ≡ k = omega arith in
-          let skip = loops.list-skip (ruled rules) b c m (k - 1) (omega arith)
-          (λ j o u. s .sought .hand .counted .longest c (m - j) (right-asked (s .sought) split-rule {k = j} o (omega arith)) (omega (arith, f .2 j o (omega arith)))) in
-          loops.splitting-from (ruled rules) (weightBy rules choice) (weightBy rules measure) b c p m t k (f .0) (f .1) (rw z at skip)
-
-      module _ {before left k : ℕ} (w : loops.Splitting (ruled rules) (weightBy rules choice) (weightBy rules measure) b c p m t before left k) where
-        -- and so do those at which the left half is
-        pub split-end : {end l : ℕ} → l ≡ longestAt totals b → (end ≤ m) × ((j : ℕ) → end ≤ j → j < m → l < j) → end ≤ k
-            → SplitFound rules choice measure p m i t b c 0 before left
-        split-end e f h =
-            record {
-              left-is = eb;
-              right-is = ec;
-              split = loops.splitting-end w (omega (arith, s .more))
-                  (loops.list-dead (ruled rules) b c k m
-                  (λ j o u. s .sought .hand .counted .longest b j (left-asked (s .sought) split-rule {k = j} (omega (arith, w .low)) u) (omega (arith, f .1 j (omega arith) u))));
-            }
-
-        module _ (h : k < m) where
-          pub split-cut-by : Cut totals choice b p k c (p + k) (m - k)
-          split-cut-by = cut (s .sought) split-rule (w .low) h (s .sought .hand .by)
-
-          pub split-cut-to : Cut totals measure b p k c (p + k) (m - k)
-          split-cut-to = cut (s .sought) split-rule (w .low) h (s .sought .hand .to)
-
-          module _ {x : ℕ} (ex : x ≡ totalAt totals choice p b k * totalAt totals choice (p + k) c (m - k)) where
-            x-is : x ≡ halvesTotal (ruled rules) (weightBy rules choice) b c p m k
-            x-is = ex ∙ table-halves (s .sought) split-rule (w .low) h (s .sought .hand .by)
-
-            pub split-found : left < x → SplitFound rules choice measure p m i t b c k before left
-            split-found l = record { left-is = eb; right-is = ec; split = loops.splitting-found w h (omega (arith, x-is)) }
-
-            module _ {y : ℕ} (ey : y ≡ totalAt totals measure p b k * totalAt totals measure (p + k) c (m - k)) where
-              y-is : y ≡ halvesTotal (ruled rules) (weightBy rules measure) b c p m k
-              y-is = ey ∙ table-halves (s .sought) split-rule (w .low) h (s .sought .hand .to)
-
-              pub split-room : before + y ≤ most
-              split-room =
-                  let q = s .sought in
-                  omega (
-                    arith,
-                    y-is,
-                    loops.splitting-room w h (omega (arith, s .more)),
-                    loops.rule-le (ruled rules) (weightBy rules measure) a b c p m (s .more) (in-ruled q split-rule (w .low) h),
-                    q .hand .to .fits p a m (q .asked) (q .span),
-                  )
-
-              pub split-next : x ≤ left → loops.Splitting (ruled rules) (weightBy rules choice) (weightBy rules measure) b c p m t (before + y) (left - x) (k + 1)
-              split-next l = rw (x-is, y-is) (loops.splitting-next w h (omega (arith, x-is)))
-
--- ---- a pair rule
-
--- the pair rules of a before the place i are gone through
-pub record Going (rules choice measure : List (List ℕ)) (a p m t i before left : ℕ) : Type 0 where
+-- of the pair rules of a those before the place i are taken, of the last one the left lengths from k on are to come; from `end` on they hold
+-- nothing
+pub record Going (rules choice measure : List (List ℕ)) (a p m t i b c k end before left : ℕ) : Type 0 where
   pub from : pairFrom rules a ≤ i
-  pub ruling : loops.Ruling (ruled rules) (weightBy rules choice) (weightBy rules measure) a p m t (i - pairFrom rules a) before left
+  pub some : 1 ≤ k
+  pub rule : k < end → (b, c) ∈ pairsIn rules a
+  pub high : end ≤ m
+  pub none : (j : ℕ) → 1 ≤ j → end ≤ j → j < m → T (ruled rules) b j ≡ 0
+  pub choosing : loops.Choosing (ruled rules) (weightBy rules choice) (weightBy rules measure) a p m t (i - pairFrom rules a) b c k before left
 
 module _ {rules totals choice measure : List (List ℕ)} {a p m t : ℕ} (s : Sought rules totals choice measure a p m t) (h : 2 ≤ m) where
-  pub going-start : {i : ℕ} → i ≡ pairFrom rules a → Going rules choice measure a p m t i 0 t
+  -- at first no rule is taken
+  pub going-start : {i : ℕ} → i ≡ pairFrom rules a → Going rules choice measure a p m t i 0 0 m m 0 t
   going-start {i} e =
       let z : i - pairFrom rules a ≡ 0 = omega arith in
-      record { from = omega arith; ruling = rw z (loops.ruling-start (ruled rules) (weightBy rules choice) (weightBy rules measure) a p m t h) }
+      record {
+        from = omega arith;
+        some = omega arith;
+        rule = λ l. absurd (omega arith);
+        high = omega arith;
+        none = λ j o l u. absurd (omega arith);
+        choosing = rw z (loops.choosing-start (ruled rules) (weightBy rules choice) (weightBy rules measure) a p m t 0 0 h);
+      }
 
-  module _ {i before left : ℕ} (w : Going rules choice measure a p m t i before left) where
-    more : i - pairFrom rules a < length (pairsOf (ruled rules a))
-    more = loops.ruling-more (w .ruling) (s .inside)
+  module _ {i b c k end before left : ℕ} (w : Going rules choice measure a p m t i b c k end before left) where
+    -- ---- no left length is to come: the next rule
 
-    more-in : i - pairFrom rules a < pairFrom rules (a + 1) - pairFrom rules a
-    more-in = omega (arith, more, ap length (pairs-ruled rules a), pair-count rules a)
+    module _ (l : end ≤ k) where
+      none-left : splitList (sentences (ruled rules)) b c k (m - k) ≡ []
+      none-left = loops.list-dead (ruled rules) b c k m (λ j n u. w .none j (omega (arith, w .some)) (omega arith) u)
 
-    -- while t is a ticket a rule is left
-    pub going-asks : SplitSought rules totals choice measure a p m i
-    going-asks = record { whole = t; sought = s; more = h; from = w .from; to = omega (arith, more-in, w .from) }
+      -- while t is a ticket there is one
+      more : i - pairFrom rules a < length (pairsOf (ruled rules a))
+      more = loops.choosing-more (w .choosing) none-left (s .inside)
 
-    module _ {b c k before′ left′ : ℕ} (q : SplitFound rules choice measure p m i left b c k before′ left′) where
-      rule-is : (b, c) ≡ getD (pairsOf (ruled rules a)) (i - pairFrom rules a) (0, 0)
-      rule-is =
-          let back : pairFrom rules a + (i - pairFrom rules a) ≡ i = omega (arith, w .from) in
-          rw (pairs-ruled rules a) (sym (rw (back, ← q .left-is, ← q .right-is) at (pair-here rules a (i - pairFrom rules a) more-in)))
+      more-in : i - pairFrom rules a < pairFrom rules (a + 1) - pairFrom rules a
+      more-in = omega (arith, more, ap length (pairs-ruled rules a), pair-count rules a)
 
-      pub going-room : before + before′ ≤ most
-      going-room =
-          omega (
-            arith,
-            loops.ruling-room (w .ruling) more b c rule-is (omega arith),
-            loops.split-room (q .split),
-            s .hand .to .fits p a m (s .asked) (s .span),
-          )
+      pub rule-low : i < 255
+      rule-low = omega (arith, more-in, w .from, s .hand .counted .table .pair-low (a + 1) (omega (arith, s .asked .inside)))
 
-      pub going-found : 0 < k → ChosenAs (ruled rules) (weightBy rules choice) (weightBy rules measure) a p m t b c k (before + before′) left′
-      going-found l = loops.ruling-found (w .ruling) more b c rule-is (q .split) (omega arith)
+      module _ {b′ c′ : ℕ} (eb : b′ ≡ leftAt rules i) (ec : c′ ≡ rightAt rules i) where
+        next-is : (b′, c′) ≡ getD (pairsIn rules a) (i - pairFrom rules a) (0, 0)
+        next-is =
+            let back : pairFrom rules a + (i - pairFrom rules a) ≡ i = omega (arith, w .from) in
+            sym (rw (back, ← eb, ← ec) at (pair-here rules a (i - pairFrom rules a) more-in))
 
-      pub going-next : k ≡ 0 → Going rules choice measure a p m t (i + 1) (before + before′) left′
-      going-next e =
-          let z : i - pairFrom rules a + 1 ≡ i + 1 - pairFrom rules a = omega (arith, w .from) in
-          record { from = omega (arith, w .from); ruling = rw z at (loops.ruling-next (w .ruling) more b c rule-is (q .split) e) }
+        next-in : (b′, c′) ∈ pairsIn rules a
+        next-in = rw next-is (getD-∈ (pairsIn rules a) (i - pairFrom rules a) (0, 0) (omega (arith, pair-count rules a, more-in)))
+
+        pub left-few : b′ < 32
+        left-few = omega (arith, few s, left-asked s next-in {k = 1} (omega arith) (omega arith) .inside)
+
+        pub right-few : c′ < 32
+        right-few = omega (arith, few s, right-asked s next-in {k = 1} (omega arith) (omega arith) .inside)
+
+        -- The left lengths at which the right half is longer than its longest derivation hold nothing, nor do those at which the left half is.
+        pub going-rule : {k′ end′ lb lc : ℕ} → lc ≡ longestAt totals c′ → (1 ≤ k′) × (k′ ≤ m) × ((j : ℕ) → 1 ≤ j → j < k′ → lc < m - j)
+            → lb ≡ longestAt totals b′ → (end′ ≤ m) × ((j : ℕ) → end′ ≤ j → j < m → lb < j)
+            → Going rules choice measure a p m t (i + 1) b′ c′ k′ end′ before left
+        going-rule {k′} elc f elb g =
+            let z : k′ - 1 + 1 ≡ k′ = omega arith in
+            let y : i - pairFrom rules a + 1 ≡ i + 1 - pairFrom rules a = omega (arith, w .from) in
+            let skip = loops.list-skip (ruled rules) b′ c′ m (k′ - 1) (omega arith)
+            (λ j o u. s .hand .counted .longest c′ (m - j) (right-asked s next-in {k = j} o (omega arith)) (omega (arith, f .2 j o (omega arith)))) in
+            record {
+              from = omega (arith, w .from);
+              some = f .0;
+              rule = λ l. next-in;
+              high = g .0;
+              none = λ j o n u. s .hand .counted .longest b′ j (left-asked s next-in {k = j} o u) (omega (arith, g .1 j n u));
+              choosing = rw y at (loops.choosing-rule (w .choosing) none-left b′ c′ k′ more (rw (pairs-ruled rules a) next-is) (f .1) (rw z at skip));
+            }
+
+    -- ---- the left length k
+
+    module _ (l : k < end) where
+      pub low : k < m
+      low = omega (arith, w .high)
+
+      pub cut-by : Cut totals choice b p k c (p + k) (m - k)
+      cut-by = cut s (w .rule l) (w .some) low (s .hand .by)
+
+      pub cut-to : Cut totals measure b p k c (p + k) (m - k)
+      cut-to = cut s (w .rule l) (w .some) low (s .hand .to)
+
+      module _ {x : ℕ} (ex : x ≡ totalAt totals choice p b k * totalAt totals choice (p + k) c (m - k)) where
+        x-is : x ≡ halvesTotal (ruled rules) (weightBy rules choice) b c p m k
+        x-is = ex ∙ table-halves s (w .rule l) (w .some) low (s .hand .by)
+
+        pub going-found : left < x → ChosenAs (ruled rules) (weightBy rules choice) (weightBy rules measure) a p m t b c k before left
+        going-found n = loops.choosing-found (w .choosing) low (w .some) (in-ruled s (w .rule l) (w .some) low) (omega (arith, x-is))
+
+        module _ {y : ℕ} (ey : y ≡ totalAt totals measure p b k * totalAt totals measure (p + k) c (m - k)) where
+          y-is : y ≡ halvesTotal (ruled rules) (weightBy rules measure) b c p m k
+          y-is = ey ∙ table-halves s (w .rule l) (w .some) low (s .hand .to)
+
+          pub going-room : before + y ≤ most
+          going-room = omega (arith, y-is, loops.choosing-room (w .choosing) low, s .hand .to .fits p a m (s .asked) (s .span))
+
+          pub going-next : x ≤ left → Going rules choice measure a p m t i b c (k + 1) end (before + y) (left - x)
+          going-next n =
+              record {
+                from = w .from;
+                some = omega arith;
+                rule = λ u. w .rule l;
+                high = w .high;
+                none = w .none;
+                choosing = rw (x-is, y-is) (loops.choosing-next (w .choosing) low (omega (arith, x-is)));
+              }
 
 -- ---- a single word
 

@@ -1,4 +1,4 @@
--- What the steps of the walk ask and give back: a table's entry, a single word, a left length of a pair rule, two halves.
+-- What the steps of the walk ask and give back: a table's entry, a single word, two halves.
 -- Assumes nothing: these are definitions.
 use mathlib.Core.Path.{_≡_}
 use mathlib.Core.List.{List, [], _∷_}
@@ -7,10 +7,10 @@ use lib.ListN.{length}
 use Rattle.lists.specs.Joined.{_∈_, sumOver}
 use Rattle.lists.specs.Tables.{entry, Wide}
 use Rattle.lists.specs.Tickets.{Owns}
-use Rattle.grammar.specs.Rules.{wordAt, leftAt, rightAt, wordFrom, pairFrom, countIn, wordsIn, ruled, Ruled}
+use Rattle.grammar.specs.Rules.{wordAt, wordFrom, countIn, wordsIn, ruled, Ruled}
 use Rattle.grammar.specs.Links.{Linked}
 use Rattle.counting.specs.Tables.{most}
-use Rattle.counting.specs.Owned.{HalvesAs, SplitAs, ChosenAs}
+use Rattle.counting.specs.Owned.{HalvesAs, ChosenAs}
 use Rattle.charts.specs.Letters.{any, weighed, letterWeight, weightBy}
 use Rattle.charts.specs.Maps.{rowAt, totalAt}
 use Rattle.walk.specs.Sought.{Sought}
@@ -73,23 +73,7 @@ pub record LeafAs (rules : List (List ℕ)) (by to a t : ℕ) (words : List ℕ)
   pub written : words ≡ word ∷ []
   pub picked : PickedAs rules by to a t word place measured weight offset
 
--- ---- a pair rule and a left length
-
--- the pair rule at i is one of a's, over a span in which a ticket is sought
-pub record SplitSought (rules totals choice measure : List (List ℕ)) (a p m i : ℕ) : Type 0 where
-  pub whole : ℕ
-  pub sought : Sought rules totals choice measure a p m whole
-  pub more : 2 ≤ m
-  pub from : pairFrom rules a ≤ i
-  pub to : i < pairFrom rules (a + 1)
-
--- its nonterminals b and c, and the left length that holds the ticket t
-pub record SplitFound (rules choice measure : List (List ℕ)) (p m i t b c k before left : ℕ) : Type 0 where
-  pub left-is : b ≡ leftAt rules i
-  pub right-is : c ≡ rightAt rules i
-  pub split : SplitAs (ruled rules) (weightBy rules choice) (weightBy rules measure) b c p m t k before left
-
--- ---- its halves
+-- ---- the halves of a pair rule
 
 pub record HalvesSought (rules totals choice measure : List (List ℕ)) (a p m b c k before left : ℕ) : Type 0 where
   pub whole : ℕ

@@ -4,13 +4,12 @@ ghost use Rattle.grammar.specs.Rules.{ruled};
 ghost use Rattle.counting.specs.Owned.{ChosenAs};
 ghost use Rattle.charts.specs.Letters.{weightBy};
 ghost use Rattle.walk.specs.Sought.{Sought};
-ghost use Rattle.walk.specs.Steps.{SplitSought, SplitFound};
 use crate::nodes::Node;
 use crate::nodes::product;
 use counting::tallies::LONGEST;
 use grammar::rules;
 
-// A pair rule's nonterminals and a left length, 0 for none, with what stands before and what is left of the ticket.
+// A pair rule's nonterminals and a left length, with what stands before and what is left of the ticket.
 pub struct Pick {
     pub b: usize,
     pub c: usize,
@@ -37,59 +36,8 @@ fn past(m: usize, l: u64) -> usize
     if longest < m - 1 { longest + 1 } else { m }
 }
 
-// Of the left lengths of the pair rule at i the one that holds the ticket. Only those are looked at at which neither half is longer than
-// its longest derivation.
-fn choose_split(
-    rules: &[[u8; 256]],
-    totals: &[[u64; 32]],
-    choice: &[[u16; 16]; 17],
-    measure: &[[u16; 16]; 17],
-    node: Node,
-    i: usize,
-    ticket: u64,
-) -> Pick
-    requires { ⌜ SplitSought (now rules) (now totals) (now choice) (now measure) (node .a) (node .p) (node .m) i ⌝ }
-    ensures { λ r. ⌜ SplitFound (now (rules .entry)) (now (choice .entry)) (now (measure .entry)) (node .p) (node .m) i ticket (r .b) (r .c) (r .k) (r .before) (r .left) ⌝ }
-{
-    let p = node.p;
-    let m = node.m;
-    let b = rules::left_at(rules, i);
-    let c = rules::right_at(rules, i);
-    let end = past(m, totals[LONGEST][b]);
-    let mut before: u64 = 0;
-    let mut left = ticket;
-    let mut k = first(m, totals[LONGEST][c]);
-    while k < end {
-        let l = Node { a: b, p, m: k };
-        let r = Node {
-            a: c,
-            p: p + k,
-            m: m - k,
-        };
-        let x = product(totals, choice, l, r);
-        if left < x {
-            return Pick {
-                b,
-                c,
-                k,
-                before,
-                left,
-            };
-        }
-        left -= x;
-        before += product(totals, measure, l, r);
-        k += 1;
-    }
-    Pick {
-        b,
-        c,
-        k: 0,
-        before,
-        left,
-    }
-}
-
-// Of the pair rules of a node and their left lengths the one that holds the ticket.
+// Of the pair rules of a node and their left lengths the one that holds the ticket: each turn looks at a left length, or takes the next rule
+// where none is left. Only those are looked at at which neither half is longer than its longest derivation.
 pub fn choose_rule(
     rules: &[[u8; 256]],
     totals: &[[u64; 32]],
@@ -101,23 +49,45 @@ pub fn choose_rule(
     requires { ⌜ Sought (now rules) (now totals) (now choice) (now measure) (node .a) (node .p) (node .m) ticket × (2 ≤ node .m) ⌝ }
     ensures { λ r. ⌜ ChosenAs (ruled (now (rules .entry))) (weightBy (now (rules .entry)) (now (choice .entry))) (weightBy (now (rules .entry)) (now (measure .entry))) (node .a) (node .p) (node .m) ticket (r .b) (r .c) (r .k) (r .before) (r .left) ⌝ }
 {
+    let m = node.m;
     let mut i = rules::pairs_from(rules, node.a);
+    let mut b = 0;
+    let mut c = 0;
+    let mut k = m;
+    let mut end = m;
     let mut before: u64 = 0;
     let mut left = ticket;
     loop {
-        let s = choose_split(rules, totals, choice, measure, node, i, left);
-        before += s.before;
-        left = s.left;
-        let k = s.k;
-        if 0 < k {
-            return Pick {
-                b: s.b,
-                c: s.c,
-                k,
-                before,
-                left,
+        if k < end {
+            let l = Node {
+                a: b,
+                p: node.p,
+                m: k,
             };
+            let r = Node {
+                a: c,
+                p: node.p + k,
+                m: m - k,
+            };
+            let x = product(totals, choice, l, r);
+            if left < x {
+                return Pick {
+                    b,
+                    c,
+                    k,
+                    before,
+                    left,
+                };
+            }
+            left -= x;
+            before += product(totals, measure, l, r);
+            k += 1;
+        } else {
+            b = rules::left_at(rules, i);
+            c = rules::right_at(rules, i);
+            k = first(m, totals[LONGEST][c]);
+            end = past(m, totals[LONGEST][b]);
+            i += 1;
         }
-        i += 1;
     }
 }
