@@ -141,6 +141,36 @@ pub fn ladder(seed: u64) -> Vec<u8> {
     shuffled(16, 0, &mut chains, &mut rng)
 }
 
+/// Four states, four classes of one word and four pair rules a state, as in `right_linear`; and beside them 23 nonterminals with two words and
+/// three pair rules each, so that every run of words has very many derivations from them. The start uses them only beside a nonterminal that
+/// derives nothing, so they are in no sentence, and no sentence has two derivations.
+pub fn dense(seed: u64) -> Vec<u8> {
+    const STATES: usize = 4;
+    const CLASSES: usize = 4;
+    const DEAD: usize = STATES + CLASSES;
+    const FIRST: usize = DEAD + 1;
+    const OTHERS: usize = 32 - FIRST;
+    let mut rng = Rng::new(seed);
+    let mut chains = vec![Vec::new(); 32];
+    for a in 0..STATES {
+        for c in 0..CLASSES {
+            chains[a].push(Rule::Pair((STATES + c) as u8, rng.index(STATES) as u8));
+        }
+        chains[a].extend(rng.some_of(CLASSES, 2).into_iter().map(|w| Rule::Word(w as u8)));
+    }
+    for c in 0..CLASSES {
+        chains[STATES + c].push(Rule::Word(c as u8));
+    }
+    for a in FIRST..32 {
+        chains[0].push(Rule::Pair(a as u8, DEAD as u8));
+        chains[a].extend(rng.some_of(CLASSES, 2).into_iter().map(|w| Rule::Word(w as u8)));
+        for pair in rng.some_of(OTHERS * OTHERS, 3) {
+            chains[a].push(Rule::Pair((FIRST + pair / OTHERS) as u8, (FIRST + pair % OTHERS) as u8));
+        }
+    }
+    shuffled(CLASSES as u8, 0, &mut chains, &mut rng)
+}
+
 /// A history of these sentences, chained in an order of its own.
 pub fn history(sentences: &[Vec<u8>], rng: &mut Rng) -> Vec<u8> {
     let k = sentences.len();

@@ -295,6 +295,7 @@ fn cases() -> Vec<Case> {
         case("matrix", vec![banks::matrix()], 5, true),
         case("right-linear", (0..16).map(|s| banks::right_linear(255, s)).collect(), 16, false),
         case("ladder", (0..16).map(banks::ladder).collect(), 16, false),
+        case("dense", (0..16).map(banks::dense).collect(), 8, false),
     ]
 }
 
@@ -389,7 +390,7 @@ fn calls_table(report: &mut Report, c: &Case) {
 }
 
 fn growth_tables(report: &mut Report, cases: &[Case]) {
-    for c in &cases[1..] {
+    for c in &cases[1..3] {
         report.table(format!("*count* on the {} bank, by length", c.name), "length");
         for m in 1..=16 {
             let row = measure(16, |i| ours::count(&c.banks[i], m), |i| plain::count(&c.banks[i], m));

@@ -17,21 +17,19 @@ use Rattle.counting.proofs.Totals.{pairTotal, split-part, total-more}
 use Rattle.counting.proofs.Sentences.{sentences-more}
 use Rattle.counting.proofs.Counts.{total-sum, T-sentences}
 use Rattle.lists.specs.Parts.{Passed}
-use Rattle.counting.specs.Owned.{halves, halvesTotal, ruleOf, ruleSum, ChosenAs}
+use Rattle.counting.specs.Owned.{halves, halvesTotal, ruleOf, ChosenAs}
 use Rattle.lists.proofs.Parts.{passed-none, passed-size, passed-many, passed-more, passed-part}
 use Rattle.counting.proofs.Walks.{halves-total}
 
 -- ---- a left length
 
 module _ (rules : ℕ → List Rule) where
-  -- what two halves hold is no more than the rule holds, nor that more than the nonterminal
-  pub rule-le : (v : ℕ → ℕ → ℕ) (A B C p m : ℕ) → 2 ≤ m → (B, C) ∈ pairsOf (rules A) → ruleSum rules v B C p m ≤ total rules v p A m
-  rule-le v A B C p m h i = rw (total-more rules v p A m h) (sum-part (pairTotal (total rules v) p m) (pairsOf (rules A)) i)
-
+  -- what two halves hold is no more than the nonterminal holds
   pub halves-within : (v : ℕ → ℕ → ℕ) (A B C p m k : ℕ) → 1 ≤ k → k < m → (B, C) ∈ pairsOf (rules A) → halvesTotal rules v B C p m k ≤ total rules v p A m
   halves-within v A B C p m k h l i =
       let e : 1 + (m - 1) - k ≡ m - k = omega arith in
-      omega (arith, rw e at (split-part (total rules v) B C p 1 (m - 1) k h (omega arith)), rule-le v A B C p m (omega arith) i)
+      rw (total-more rules v p A m (omega arith))
+      (omega (arith, rw e at (split-part (total rules v) B C p 1 (m - 1) k h (omega arith)), sum-part (pairTotal (total rules v) p m) (pairsOf (rules A)) i))
 
   -- one left length more, as a loop that counts up to m meets it
   list-step : (B C k m : ℕ) → k < m

@@ -60,10 +60,7 @@ module _ (chain : ℕ → List Rule) (v : ℕ → ℕ → ℕ) where
   -- a total is what the sentences weigh together
   pub total-sum : (p A m : ℕ) → total chain v p A m ≡ sumOver (weight v p) (sentences chain A m)
   total-sum p A m = sum-below (suc m) p A m (omega arith)
-
   -- and so is what a pair rule adds from a left length on
-  pub split-total : (B C p k j : ℕ) → 1 ≤ k → sumOver (weight v p) (splitList (sentences chain) B C k j) ≡ splitSum (total chain v) B C p k j
-  split-total B C p k j h = split-sum B C p k j h ∙ split-ext sum (total chain v) B C p k j h (λ q A i l u. sym (total-sum q A i))
 
 weight-one : (p : ℕ) (s : List ℕ) → weight (λ q w. 1) p s ≡ 1
 weight-one p [] = refl

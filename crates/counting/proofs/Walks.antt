@@ -9,10 +9,9 @@ use Rattle.lists.specs.Joined.{sumOver, combine}
 use Rattle.lists.proofs.Sums.{sum-combine}
 use Rattle.grammar.specs.Chains.{Rule, wordsOf}
 use Rattle.counting.specs.Totals.{total}
-use Rattle.counting.specs.Sentences.{sentences, weight, splitList}
-use Rattle.counting.proofs.Totals.{pairTotal}
+use Rattle.counting.specs.Sentences.{sentences, weight}
 use Rattle.counting.proofs.Sentences.{sentences-one, sentence-length}
-use Rattle.counting.proofs.Counts.{weight-append, total-sum, split-total}
+use Rattle.counting.proofs.Counts.{weight-append, total-sum}
 use Rattle.lists.specs.Tickets.{Owns, Product}
 use Rattle.counting.specs.Owned.{OwnedAs, halvesTotal, InHalves, HalvesAs, ChosenAs}
 use Rattle.lists.proofs.Owners.{owns-inside, owns-map, owns-ext}
@@ -32,12 +31,6 @@ module _ (rules : ℕ → List Rule) where
   halves-total v B C p m k =
       sum-combine _++_ (weight v p) (weight v p) (weight v (p + k)) (sentences rules B k) (sentences rules C (m - k)) (halves-product v B C p m k .each)
       ∙ rw (total-sum rules v p B k, total-sum rules v (p + k) C (m - k))
-
-  -- ---- the left lengths of a pair rule
-
-  pub rule-total : (v : ℕ → ℕ → ℕ) (p m : ℕ) (x : ℕ × ℕ) → 1 ≤ m
-      → sumOver (weight v p) (splitList (sentences rules) (x .0) (x .1) 1 (m - 1)) ≡ pairTotal (total rules v) p m x
-  rule-total v p m x h = split-total rules v (x .0) (x .1) p 1 (m - 1) (omega arith)
 
 module _ {rules : ℕ → List Rule} {v u : ℕ → ℕ → ℕ} where
   -- ---- a single word

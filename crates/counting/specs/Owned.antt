@@ -6,7 +6,7 @@ use mathlib.Core.List.{List, _++_}
 use Prim.Native.Nat.{ℕ, _+_, _*_, _-_, _≤_, _<_}
 use Rattle.lists.specs.Joined.{_∈_, combine}
 use Rattle.grammar.specs.Chains.{Rule, pairsOf}
-use Rattle.counting.specs.Totals.{splitSum, total}
+use Rattle.counting.specs.Totals.{total}
 use Rattle.counting.specs.Sentences.{sentences, weight, splitList}
 use Rattle.lists.specs.Tickets.{Owns}
 use Rattle.lists.specs.Parts.{Part}
@@ -23,9 +23,6 @@ module _ (rules : ℕ → List Rule) where
   -- those of all left lengths
   abbrev pub ruleOf : (B C m : ℕ) → List (List ℕ)
   ruleOf B C m = splitList (sentences rules) B C 1 (m - 1)
-
-  abbrev pub ruleSum : (v : ℕ → ℕ → ℕ) (B C p m : ℕ) → ℕ
-  ruleSum v B C p m = splitSum (total rules v) B C p 1 (m - 1)
 
 -- `left` is a ticket of two halves
 pub record InHalves (rules : ℕ → List Rule) (v : ℕ → ℕ → ℕ) (B C p m k left : ℕ) : Type 0 where

@@ -62,27 +62,6 @@ module _ {X : Type 0} {v u : X → ℕ} {whole part : List X} {t before left : �
   pub part-total : sumOver v part ≤ sumOver v whole
   part-total = omega (arith, passed-many (p .passed), sum-append v part (p .rest), p .passed .left-is)
 
-  pub part-some : t < sumOver v whole
-  part-some = omega (arith, passed-many (p .passed), sum-append v part (p .rest), p .inside)
-
   -- what owns it in the part owns it in the whole
   pub part-owns : {x : X} {n o : ℕ} → Owns v u part left x n o → Owns v u whole t x (before + n) o
   part-owns r = passed-owns (p .passed) (owns-left part (p .rest) r)
-
-  -- a part of a part
-  pub part-within : {inner : List X} {before′ left′ : ℕ} → Part v u part inner left before′ left′ → (x : ℕ) → x ≡ before + before′ → Part v u whole inner t x left′
-  part-within {inner} q x e =
-      record {
-        rest = q .rest ++ p .rest;
-        passed = record {
-          done = p .passed .done ++ q .passed .done;
-          whole-is =
-              p .passed .whole-is
-              ∙ ap (λ (l : List X). p .passed .done ++ (l ++ p .rest)) (q .passed .whole-is)
-              ∙ ap (λ (l : List X). p .passed .done ++ l) (append-assoc (q .passed .done) (inner ++ q .rest) (p .rest) ∙ ap (λ (l : List X). q .passed .done ++ l) (append-assoc inner (q .rest) (p .rest)))
-              ∙ sym (append-assoc (p .passed .done) (q .passed .done) (inner ++ (q .rest ++ p .rest)));
-          before-is = omega (arith, p .passed .before-is, q .passed .before-is, sum-append u (p .passed .done) (q .passed .done));
-          left-is = omega (arith, p .passed .left-is, q .passed .left-is, sum-append v (p .passed .done) (q .passed .done));
-        };
-        inside = q .inside;
-      }

@@ -56,13 +56,6 @@ module _ (rules : List (List ℕ)) (n : ℕ) (s : List ℕ) where
     read-many : 2 ≤ readingsIn rules s → manyIn rules n s ≡ true
     read-many h = rw (eq-eqb (length s) n e, le-leb 2 (readingsIn rules s) h)
 
-  few-in : length (numbersIn rules n s) ≤ 1
-  few-in = go (eqb (length s) n && eqb (readingsIn rules s) 1)
-    where
-      go : (b : Bool) → length (cond b (numberIn rules s ∷ []) []) ≤ 1
-      go true = omega arith
-      go false = omega arith
-
 -- ---- one sentence
 
 module _ {rules plan map counts : List (List ℕ)} {sets : List ℕ} {totals : List (List ℕ)} (w : Tells rules plan map counts sets totals) {s : List ℕ} where

@@ -2,16 +2,18 @@
 -- have derivations they are known; else a factor is 0, and the table is nowhere above the total. What is chosen has tickets, so its halves are
 -- known, for choice and measure alike.
 -- Assumes nothing.
-use mathlib.Core.Path.{_≡_, sym, ap, _∙_}
+use mathlib.Core.Path.{_≡_, refl, sym, ap, _∙_}
 use mathlib.Core.Bool.{true}
-use mathlib.Core.List.{List, [], _++_}
+use mathlib.Core.List.{List, [], _++_, append-assoc}
 use Prim.Native.Nat.{ℕ, zero, suc, _+_, _*_, _-_, _/_, _%_, _≤_, _<_}
 use native.Mathlib.Omega.{arith}
+use native.Mathlib.Nat.{mod-lt, mod-eq-of-lt, mul-le-mul-left, mul-le-mul-right}
 use native.Mathlib.Decide.{decLe}
+use lib.Dec.{eqb·suc-zero}
 use lib.ListN.{length, getD}
 use Rattle.lists.specs.Joined.{_∈_, sumOver}
 use Rattle.lists.proofs.Members.{getD-∈}
-use Rattle.lists.proofs.Owners.{owns-inside, place-inside}
+use Rattle.lists.proofs.Owners.{place-inside}
 use Rattle.lists.specs.Tickets.{Owns}
 use Rattle.grammar.specs.Chains.{wordsOf, pairsOf}
 use Rattle.grammar.specs.Rules.{leftAt, rightAt, pairFrom, countIn, wordsIn, pairsIn, ruled}
@@ -22,13 +24,14 @@ use Rattle.counting.specs.Sentences.{sentences, splitList}
 use Rattle.counting.specs.Counted.{Asked, longestAt}
 use Rattle.counting.specs.Owned.{halvesTotal, OwnedAs, InHalves, HalvesAs, ChosenAs}
 use Rattle.counting.proofs.Totals.{total-one}
+use Rattle.counting.proofs.Counts.{total-sum}
 use Rattle.counting.proofs.Asking.{asked-left, asked-right, total-dead}
 use Rattle.counting.proofs.Walks as walks
 use Rattle.counting.proofs.Choosers as loops
 use Rattle.charts.specs.Letters.{letterAt, weightBy}
 use Rattle.charts.specs.Maps.{totalAt, Span, Mapped}
 use Rattle.walk.specs.Sought.{Sought}
-use Rattle.walk.specs.Steps.{Placed, Cut, WordSought, LeafAs, HalvesSought, HalvesFound}
+use Rattle.walk.specs.Steps.{Placed, Cut, WordSought, LeafAs, HalvesSought, HalvesFound, scaled, Extends, ExtendedTo}
 
 -- ---- a cut of a known span
 
@@ -307,6 +310,11 @@ module _ {rules totals choice measure : List (List ℕ)} {a p m b c k before lef
   pub placed-to : Placed totals measure c (p + k) (m - k)
   placed-to = right-placed (s .sought) rule-in k-some k-short (s .sought .hand .to)
 
+  to-is : {z : ℕ} → z ≡ totalAt totals measure (p + k) c (m - k) → z ≡ total (ruled rules) to (p + k) c (m - k)
+  to-is e =
+      let q = s .sought in
+      e ∙ q .hand .to .right (p + k) c (m - k) (right-asked q rule-in k-some k-short) (right-span q rule-in k-some k-short) (both-known .1)
+
   module _ {y : ℕ} (e : y ≡ totalAt totals choice (p + k) c (m - k)) where
     by-is : y ≡ total (ruled rules) by (p + k) c (m - k)
     by-is =
@@ -360,50 +368,184 @@ module _ {rules totals choice measure : List (List ℕ)} {a p m b c k before lef
           both-owned : HalvesAs (ruled rules) by to b c p m k left (words ++ words′) (n * total (ruled rules) to (p + k) c (m - k) + measured * n′) (measured * measured′) (w * w′) (o′ * w + x % w)
           both-owned = rw rest-is (walks.halves-owned inside left-owned (rw (f′, rest-is) at r))
 
-          pub weight-fits : w * w′ ≤ most
-          weight-fits =
-              let q = s .sought in
-              let h = both-owned in
-              omega (
-                arith,
-                h .weighs-is,
-                owns-inside (h .owns),
-                h .owns .own,
-                h .owns .ticket,
-                walks.halves-total (ruled rules) by b c p m k,
-                walks.chosen-tickets (s .chosen),
-                q .hand .by .fits p a m (q .asked) (q .span),
-              )
+          pub halves-found : {z : ℕ} → z ≡ totalAt totals measure (p + k) c (m - k)
+              → HalvesFound rules choice measure p m b c k before left (words ++ words′) (before + n * z + measured * n′) (measured * measured′) (w * w′) (o′ * w + x % w)
+          halves-found e′ =
+              record {
+                inner = n * total (ruled rules) to (p + k) c (m - k) + measured * n′;
+                place-is = rw (to-is e′) (omega arith);
+                owned = both-owned;
+              }
 
-          pub offset-fits : o′ * w + x % w ≤ most
-          offset-fits = omega (arith, both-owned .owns .own, both-owned .weighs-is, weight-fits)
+-- ---- part after part: the place, what is measured and weighed, and the offset of what is found behind others
 
-          module _ {z : ℕ} (e′ : z ≡ totalAt totals measure (p + k) c (m - k)) where
-            to-is : z ≡ total (ruled rules) to (p + k) c (m - k)
-            to-is =
-                let q = s .sought in
-                e′ ∙ q .hand .to .right (p + k) c (m - k) (right-asked q rule-in k-some k-short) (right-span q rule-in k-some k-short) (both-known .1)
+scaled-times : (a b after q : ℕ) → q ≤ after → scaled a b after * q ≡ a * b * q
+scaled-times a b zero q h = let z : q ≡ 0 = omega arith in rw z (omega arith)
+scaled-times a b (suc n) q h = rw (eqb·suc-zero n) refl
 
-            pub place-fits : before + (n * z + measured * n′) + measured * measured′ ≤ most
-            place-fits =
-                let q = s .sought in
-                let h = both-owned in
-                rw to-is
-                (omega (
-                  arith,
-                  h .measure-is,
-                  place-inside (h .owns),
-                  walks.halves-total (ruled rules) to b c p m k,
-                  walks.chosen-room (s .chosen),
-                  q .hand .to .fits p a m (q .asked) (q .span),
-                ))
+module _ (before n u Z L U : ℕ) (part : n + u ≤ L) (held : before + L * Z ≤ U) where
+  inner-low : before + (n + u) * Z ≤ U
+  inner-low = omega (arith, mul-le-mul-right Z part)
 
-            pub halves-found : {r′ : ℕ} → r′ ≡ x % w → {out : List ℕ} → out ≡ words ++ words′
-                → HalvesFound rules choice measure p m b c k before left out (before + n * z + measured * n′) (measured * measured′) (w * w′) (o′ * w + r′)
-            halves-found i j =
-                rw (i, j)
-                (record {
-                  inner = n * total (ruled rules) to (p + k) c (m - k) + measured * n′;
-                  place-is = rw to-is (omega arith);
-                  owned = both-owned;
-                })
+  place-low : (P M : ℕ) → P + M * U ≤ most → P + M * (before + n * Z) + M * u * Z ≤ most
+  place-low P M room = omega (arith, mul-le-mul-left M inner-low)
+
+weight-low : (W w L R U : ℕ) → w ≤ L → L * R ≤ U → W * U ≤ most → W * w * R ≤ most
+weight-low W w L R U part held room =
+    let h : w * R ≤ U = omega (arith, mul-le-mul-right R part) in omega (arith, mul-le-mul-left W h)
+
+offset-low : (O W r w : ℕ) → O < W → r < w → O + W * r < W * w
+offset-low O W r w low part = omega (arith, mul-le-mul-left W part)
+
+at-least : (a b : ℕ) → 0 < b → a ≤ a * b
+at-least a b h = omega (arith, mul-le-mul-left a h)
+
+-- room for all that the nonterminal a over the m positions from p on holds, behind what is found so far
+pub record Room (rules choice measure : List (List ℕ)) (a p m P M W O : ℕ) : Type 0 where
+  pub place : P + M * total (ruled rules) (weightBy rules measure) p a m ≤ most
+  pub weight : W * total (ruled rules) (weightBy rules choice) p a m ≤ most
+  pub offset : O < W
+
+module _ (rules totals choice measure : List (List ℕ)) (p m b c k before left : ℕ) where
+  -- `done` is written; what is found of the halves at hand, put behind it, is what is found of the first ones
+  pub record Along (done : List ℕ) (a p′ m′ b′ c′ k′ before′ left′ P M W O : ℕ) : Type 0 where
+    pub sought : HalvesSought rules totals choice measure a p′ m′ b′ c′ k′ before′ left′
+    pub room : Room rules choice measure a p′ m′ P M W O
+    pub found : {words : List ℕ} {n u w o : ℕ} → HalvesFound rules choice measure p′ m′ b′ c′ k′ before′ left′ words n u w o
+        → HalvesFound rules choice measure p m b c k before left (done ++ words) (P + M * n) (M * u) (W * w) (O + W * o)
+
+  -- the same of a right half and its ticket
+  pub record Behind (done : List ℕ) (a p′ m′ t P M W O : ℕ) : Type 0 where
+    pub sought : Sought rules totals choice measure a p′ m′ t
+    pub room : Room rules choice measure a p′ m′ P M W O
+    pub found : {words : List ℕ} {n u w o : ℕ} → OwnedAs (ruled rules) (weightBy rules choice) (weightBy rules measure) a p′ m′ t words n u w o
+        → HalvesFound rules choice measure p m b c k before left (done ++ words) (P + M * n) (M * u) (W * w) (O + W * o)
+
+pub along-start : {rules totals choice measure : List (List ℕ)} {a p m b c k before left : ℕ} → HalvesSought rules totals choice measure a p m b c k before left
+    → Along rules totals choice measure p m b c k before left [] a p m b c k before left 0 1 1 0
+along-start {rules} {totals} {choice} {measure} {a} {p} {m} s =
+    let q = s .sought in
+    record {
+      sought = s;
+      room = record {
+        place = omega (arith, q .hand .to .fits p a m (q .asked) (q .span));
+        weight = omega (arith, q .hand .by .fits p a m (q .asked) (q .span));
+        offset = omega arith;
+      };
+      found = λ {words} {n} {u} {w} {o} h.
+          let e : 0 + 1 * n ≡ n = omega arith in
+          let f : 1 * u ≡ u = omega arith in
+          let g : 1 * w ≡ w = omega arith in
+          let i : 0 + 1 * o ≡ o = omega arith in
+          rw (e, f, g, i) h;
+    }
+
+-- ---- the left half is found
+
+module _
+    {rules totals choice measure : List (List ℕ)} {p m b c k before left : ℕ} {done : List ℕ} {a p′ m′ b′ c′ k′ before′ left′ P M W O : ℕ}
+    (h : Along rules totals choice measure p m b c k before left done a p′ m′ b′ c′ k′ before′ left′ P M W O)
+    {y z d : ℕ} (ey : y ≡ totalAt totals choice (p′ + k′) c′ (m′ - k′)) (ez : z ≡ totalAt totals measure (p′ + k′) c′ (m′ - k′)) (ed : d ≡ left′ / y)
+    {words : List ℕ} {n u w o : ℕ} (l : OwnedAs (ruled rules) (weightBy rules choice) (weightBy rules measure) b′ p′ k′ d words n u w o)
+    {x : ℕ} (ex : x ≡ o * y + left′ % y) where
+  abbrev s : HalvesSought rules totals choice measure a p′ m′ b′ c′ k′ before′ left′
+  s = h .sought
+
+  abbrev byTotal : (p a m : ℕ) → ℕ
+  byTotal = total (ruled rules) (weightBy rules choice)
+
+  abbrev toTotal : (p a m : ℕ) → ℕ
+  toTotal = total (ruled rules) (weightBy rules measure)
+
+  left-part : n + u ≤ toTotal p′ b′ k′
+  left-part = omega (arith, place-inside (l .owns), l .measure-is, total-sum (ruled rules) (weightBy rules measure) p′ b′ k′)
+
+  -- what is measured: the left half, with the right one behind each of its parts
+  measured-room : P + M * (before′ + n * z) + M * u * z ≤ most
+  measured-room = rw (to-is s ez)
+      (place-low before′ n u (toTotal (p′ + k′) c′ (m′ - k′)) (toTotal p′ b′ k′) (toTotal p′ a m′) left-part (walks.chosen-room (s .chosen)) P M (h .room .place))
+
+  weighed-room : W * w * y ≤ most
+  weighed-room = rw (by-is s ey)
+      (weight-low W w (byTotal p′ b′ k′) (byTotal (p′ + k′) c′ (m′ - k′)) (byTotal p′ a m′) (walks.owned-weighs l) (walks.chosen-tickets (s .chosen)) (h .room .weight))
+
+  weight-room : W * w ≤ most
+  weight-room = omega (arith, weighed-room, at-least (W * w) y (some-right s ey))
+
+  offset-room : O + W * (x % w) < W * w
+  offset-room = offset-low O W (x % w) w (h .room .offset) (mod-lt x (some-left s ey ed l))
+
+  pub extends : Extends P M W O before′ n u w z x
+  extends =
+      let q = s .sought in
+      record {
+        inner = rw (to-is s ez)
+            (omega (
+              arith,
+              inner-low before′ n u (toTotal (p′ + k′) c′ (m′ - k′)) (toTotal p′ b′ k′) (toTotal p′ a m′) left-part (walks.chosen-room (s .chosen)),
+              q .hand .to .fits p′ a m′ (q .asked) (q .span),
+            ));
+        place-fits = omega (arith, measured-room);
+        measured-fits = λ i. omega (arith, measured-room, at-least (M * u) z i);
+        weight-fits = weight-room;
+        offset-fits = omega (arith, offset-room, weight-room);
+        some = some-left s ey ed l;
+      }
+
+  -- then the right half is sought
+  module _ {P′ M′ W′ O′ t : ℕ} (e : ExtendedTo P M W O before′ n u w z x P′ M′ W′ O′) (et : t ≡ x / w) where
+    right-room : Room rules choice measure c′ (p′ + k′) (m′ - k′) P′ M′ W′ O′
+    right-room =
+        record {
+          place = rw (e .place-is, e .measured-is, ← to-is s ez) (omega (arith, measured-room, scaled-times M u z z (omega arith)));
+          weight = rw (e .weight-is, ← by-is s ey) weighed-room;
+          offset = rw (e .offset-is, e .weight-is) offset-room;
+        }
+
+    right-found : {words′ : List ℕ} {n′ u′ w′ o′ : ℕ} → OwnedAs (ruled rules) (weightBy rules choice) (weightBy rules measure) c′ (p′ + k′) (m′ - k′) t words′ n′ u′ w′ o′
+        → HalvesFound rules choice measure p m b c k before left ((done ++ words) ++ words′) (P′ + M′ * n′) (M′ * u′) (W′ * w′) (O′ + W′ * o′)
+    right-found {words′} {n′} {u′} {w′} {o′} r =
+        let low : n′ + u′ ≤ z = rw (to-is s ez) (omega (arith, place-inside (r .owns), r .measure-is, total-sum (ruled rules) (weightBy rules measure) (p′ + k′) c′ (m′ - k′))) in
+        let ep : P′ + M′ * n′ ≡ P + M * (before′ + n * z + u * n′) = rw (e .place-is, e .measured-is) (omega (arith, scaled-times M u z n′ (omega arith))) in
+        let em : M′ * u′ ≡ M * (u * u′) = rw (e .measured-is) (omega (arith, scaled-times M u z u′ (omega arith))) in
+        let ew : W′ * w′ ≡ W * (w * w′) = rw (e .weight-is) (omega arith) in
+        let eo : O′ + W′ * o′ ≡ O + W * (o′ * w + x % w) = rw (e .offset-is, e .weight-is) (omega arith) in
+        rw (append-assoc done words words′, ep, em, ew, eo) (h .found (halves-found s ey ed l ex et r ez))
+
+    pub behind : Behind rules totals choice measure p m b c k before left (done ++ words) c′ (p′ + k′) (m′ - k′) t P′ M′ W′ O′
+    behind = record { sought = right-sought s ey ed l ex et; room = right-room; found = right-found }
+
+-- ---- the right half: a word ends the walk, halves of its own are the next
+
+module _
+    {rules totals choice measure : List (List ℕ)} {p m b c k before left : ℕ} {done : List ℕ} {a p′ m′ t P M W O : ℕ}
+    (h : Behind rules totals choice measure p m b c k before left done a p′ m′ t P M W O) where
+  pub along : {b′ c′ k′ before′ left′ : ℕ} → ChosenAs (ruled rules) (weightBy rules choice) (weightBy rules measure) a p′ m′ t b′ c′ k′ before′ left′
+      → Along rules totals choice measure p m b c k before left done a p′ m′ b′ c′ k′ before′ left′ P M W O
+  along q = record { sought = halves-sought (h .sought) q; room = h .room; found = λ f. h .found (halves-owned q f) }
+
+  module _ {words : List ℕ} {n u w o : ℕ} (r : OwnedAs (ruled rules) (weightBy rules choice) (weightBy rules measure) a p′ m′ t words n u w o) where
+    last-low : n + u ≤ total (ruled rules) (weightBy rules measure) p′ a m′
+    last-low = omega (arith, place-inside (r .owns), r .measure-is, total-sum (ruled rules) (weightBy rules measure) p′ a m′)
+
+    last-weight : W * w ≤ most
+    last-weight = omega (arith, mul-le-mul-left W (walks.owned-weighs r), h .room .weight)
+
+    pub extends-last : Extends P M W O 0 n u w 1 o
+    extends-last =
+        let q = h .sought in
+        let some : 0 < w = omega (arith, walks.owned-some r) in
+        record {
+          inner = omega (arith, last-low, q .hand .to .fits p′ a m′ (q .asked) (q .span));
+          place-fits = omega (arith, mul-le-mul-left M last-low, h .room .place);
+          measured-fits = λ i. omega (arith, mul-le-mul-left M last-low, h .room .place);
+          weight-fits = last-weight;
+          offset-fits = omega (arith, offset-low O W (o % w) w (h .room .offset) (mod-lt o some), last-weight);
+          some = some;
+        }
+
+    pub found-last : {P′ M′ W′ O′ : ℕ} → ExtendedTo P M W O 0 n u w 1 o P′ M′ W′ O′ → HalvesFound rules choice measure p m b c k before left (done ++ words) P′ M′ W′ O′
+    found-last {P′} {M′} {W′} {O′} e =
+        let ep : P′ ≡ P + M * n = omega (arith, e .place-is) in
+        let eo : O′ ≡ O + W * o = e .offset-is ∙ rw (mod-eq-of-lt (walks.owned-some r)) refl in
+        rw (ep, e .measured-is, e .weight-is, eo) (h .found r)

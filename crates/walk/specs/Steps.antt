@@ -1,8 +1,10 @@
--- What the steps of the walk ask and give back: a table's entry, a single word, two halves.
+-- What the steps of the walk ask and give back: a table's entry, a single word, two halves, part after part.
 -- Assumes nothing: these are definitions.
 use mathlib.Core.Path.{_≡_}
+use mathlib.Core.Bool.{cond}
 use mathlib.Core.List.{List, [], _∷_}
-use Prim.Native.Nat.{ℕ, _+_, _*_, _≤_, _<_}
+use Prim.Native.Nat.{ℕ, _+_, _*_, _%_, _≤_, _<_}
+use lib.Dec.{eqb}
 use lib.ListN.{length}
 use Rattle.lists.specs.Joined.{_∈_, sumOver}
 use Rattle.lists.specs.Tables.{entry, Wide}
@@ -84,3 +86,26 @@ pub record HalvesFound (rules choice measure : List (List ℕ)) (p m b c k befor
   pub inner : ℕ
   pub place-is : place ≡ before + inner
   pub owned : HalvesAs (ruled rules) (weightBy rules choice) (weightBy rules measure) b c p m k left words inner measured weight offset
+
+-- ---- part after part
+
+-- a times b, or 0 where nothing is measured after it
+abbrev pub scaled : (a b after : ℕ) → ℕ
+scaled a b after = cond (eqb after 0) 0 (a * b)
+
+-- One part more behind those found so far: `before` stands before it, `after` is what follows it in all by the measure, x is what is left of the
+-- ticket. All of it fits.
+pub record Extends (place measured weight offset before place′ measured′ weight′ after x : ℕ) : Type 0 where
+  pub inner : before + place′ * after ≤ most
+  pub place-fits : place + measured * (before + place′ * after) ≤ most
+  pub measured-fits : 0 < after → measured * measured′ ≤ most
+  pub weight-fits : weight * weight′ ≤ most
+  pub offset-fits : offset + weight * (x % weight′) ≤ most
+  pub some : 0 < weight′
+
+-- where what comes next stands, and what it is counted by
+pub record ExtendedTo (place measured weight offset before place′ measured′ weight′ after x place″ measured″ weight″ offset″ : ℕ) : Type 0 where
+  pub place-is : place″ ≡ place + measured * (before + place′ * after)
+  pub measured-is : measured″ ≡ scaled measured measured′ after
+  pub weight-is : weight″ ≡ weight * weight′
+  pub offset-is : offset″ ≡ offset + weight * (x % weight′)

@@ -2,13 +2,14 @@
 // a rule needs the two halves, and each half needs a rule chosen, on a smaller length"). Of the derivations in order, each with as many
 // consecutive tickets as it weighs by the choice, it finds the one that owns a ticket.
 ghost use mathlib.Core.Path.{_≡_};
-ghost use Prim.Native.Nat.{_/_, _%_, _<_};
+ghost use Prim.Native.Nat.{_*_, _/_, _%_, _≤_, _<_};
 ghost use lib.ListN.{length};
 ghost use Rattle.grammar.specs.Rules.{ruled};
+ghost use Rattle.counting.specs.Tables.{most};
 ghost use Rattle.counting.specs.Owned.{OwnedAs};
 ghost use Rattle.charts.specs.Letters.{weightBy};
 ghost use Rattle.walk.specs.Sought.{Sought};
-ghost use Rattle.walk.specs.Steps.{HalvesSought, HalvesFound};
+ghost use Rattle.walk.specs.Steps.{HalvesSought, HalvesFound, scaled, Extends, ExtendedTo};
 use crate::leaf::leaf;
 use crate::nodes::Node;
 use crate::nodes::total;
@@ -81,7 +82,30 @@ fn left_half(
     choose(rules, totals, choice, measure, node, ticket, out)
 }
 
-// The halves writer: the left half by the quotient, the right one by what is left of the ticket, over what the left one weighs.
+// a times b, or 0 where nothing is measured after it: such a product counts for nothing, and need not fit.
+fn times(a: u64, b: u64, after: u64) -> u64
+    requires { ⌜ (0 < after → a * b ≤ most) ⌝ }
+    ensures { λ r. ⌜ r ≡ scaled a b after ⌝ }
+{
+    if after == 0 { 0 } else { a * b }
+}
+
+// One part more behind those found so far: `before` stands before it, `after` is what follows it in all by the measure, x is what is left of the
+// ticket.
+fn extend(found: Found, before: u64, part: Found, after: u64, x: u64) -> Found
+    requires { ⌜ Extends (found .place) (found .measured) (found .weight) (found .offset) before (part .place) (part .measured) (part .weight) after x ⌝ }
+    ensures { λ r. ⌜ ExtendedTo (found .place) (found .measured) (found .weight) (found .offset) before (part .place) (part .measured) (part .weight) after x (r .place) (r .measured) (r .weight) (r .offset) ⌝ }
+{
+    Found {
+        place: found.place + found.measured * (before + part.place * after),
+        measured: times(found.measured, part.measured, after),
+        weight: found.weight * part.weight,
+        offset: found.offset + found.weight * remainder(x, part.weight),
+    }
+}
+
+// The halves writer: the left half by the quotient, the right one by what is left of the ticket, over what the left one weighs. A right half
+// of more than one word has halves in turn: they are written here too, so that a walk to the right is a loop.
 fn halves(
     rules: &[[u8; 256]],
     totals: &[[u64; 32]],
@@ -94,43 +118,56 @@ fn halves(
     requires { ⌜ HalvesSought (now rules) (now totals) (now choice) (now measure) (node .a) (node .p) (node .m) (pick .b) (pick .c) (pick .k) (pick .before) (pick .left) × (length (now out) ≡ node .m) ⌝ }
     ensures { λ r. ⌜ HalvesFound (now (rules .entry)) (now (choice .entry)) (now (measure .entry)) (node .p) (node .m) (pick .b) (pick .c) (pick .k) (pick .before) (pick .left) (now (out .exit)) (r .place) (r .measured) (r .weight) (r .offset) ⌝ }
 {
-    let k = pick.k;
-    let left = Node {
-        a: pick.b,
-        p: node.p,
-        m: k,
+    let mut here = node;
+    let mut chosen = pick;
+    let mut at = 0;
+    let mut found = Found {
+        place: 0,
+        measured: 1,
+        weight: 1,
+        offset: 0,
     };
-    let right = Node {
-        a: pick.c,
-        p: node.p + k,
-        m: node.m - k,
-    };
-    let v = total(totals, choice, right);
-    let u = total(totals, measure, right);
-    let l = left_half(
-        rules,
-        totals,
-        choice,
-        measure,
-        left,
-        quotient(pick.left, v),
-        &mut out[0..k],
-    );
-    let w = l.weight;
-    let x = l.offset * v + remainder(pick.left, v);
-    let f = choose(
-        rules,
-        totals,
-        choice,
-        measure,
-        right,
-        quotient(x, w),
-        &mut out[k..],
-    );
-    Found {
-        place: pick.before + l.place * u + l.measured * f.place,
-        measured: l.measured * f.measured,
-        weight: w * f.weight,
-        offset: f.offset * w + remainder(x, w),
+    loop {
+        let k = chosen.k;
+        let end = at + k;
+        let left = Node {
+            a: chosen.b,
+            p: here.p,
+            m: k,
+        };
+        let right = Node {
+            a: chosen.c,
+            p: here.p + k,
+            m: here.m - k,
+        };
+        let v = total(totals, choice, right);
+        let u = total(totals, measure, right);
+        let l = left_half(
+            rules,
+            totals,
+            choice,
+            measure,
+            left,
+            quotient(chosen.left, v),
+            &mut out[at..end],
+        );
+        let x = l.offset * v + remainder(chosen.left, v);
+        let ticket = quotient(x, l.weight);
+        found = extend(found, chosen.before, l, u, x);
+        here = right;
+        at = end;
+        if here.m == 1 {
+            let f = leaf(
+                rules,
+                choice,
+                measure,
+                here.a,
+                here.p,
+                ticket,
+                &mut out[at..],
+            );
+            return extend(found, 0, f, 1, f.offset);
+        }
+        chosen = choose_rule(rules, totals, choice, measure, here, ticket);
     }
 }

@@ -1,20 +1,26 @@
 -- The rule chooser and the halves writer meet their contracts. They call each other, and the length falls: the measure is three times the
 -- length, for the chooser one more and for a left half two more. A single word is found by the leaf; of a pair rule that is chosen both halves
--- are known and have tickets, and what they make together is found where the laws of proofs/Walking.antt say.
+-- are known and have tickets. The writer's loop goes along the right halves; its invariant: what is found of the halves at hand, put behind what
+-- is written, is what is found of the first ones (`Along` in proofs/Walking.antt).
 -- Assumes nothing.
 use mathlib.Core.Path.{_≡_, ap, _∙_}
 use mathlib.Core.List.{List, _++_}
 use Prim.Native.Nat.{ℕ, _+_, _*_, _-_, _%_, _≤_, _<_}
 use native.Mathlib.Omega.{arith}
-use lib.ListN.{length, take, drop, length-append}
+use lib.ListN.{length, take, length-append}
+use lib.Seq.{length-take-le}
 use denote.Ref.{now}
-use borrow.Rule.Slice.PartMut.{postOf}
+use borrow.Rule.Slice.PartMut.{putMid}
 use borrow.Fn.Kind.{PK}
 use borrow.Fn.Kinds.{In, Out}
 use borrow.Fn.PlainCycle.{Measures, is, falls, and}
+use Rattle.grammar.specs.Rules.{ruled}
 use Rattle.counting.specs.Tables.{most}
-use Rattle.walk.proofs.Joined.{left-length, right-length, two-halves}
-use Rattle.walk.proofs.Walking.{word-sought, leaf-owned, short, k-some, k-short, span-short, placed-by, placed-to, some-right, left-sought, some-left, rest-fits, right-sought, weight-fits, offset-fits, place-fits, halves-found, halves-sought, halves-owned}
+use Rattle.counting.specs.Owned.{OwnedAs}
+use Rattle.charts.specs.Letters.{weightBy}
+use Rattle.walk.specs.Steps.{HalvesSought, Extends}
+use Rattle.walk.proofs.Joined.{lent-length, put-length, put-front, rest-length, put-rest}
+use Rattle.walk.proofs.Walking.{word-sought, leaf-owned, short, k-some, k-short, span-short, placed-by, placed-to, some-right, left-sought, rest-fits, halves-sought, halves-owned, Along, Behind, along-start, extends, behind, along, extends-last, found-last}
 use Rattle.walk.proofs.choose.Reads as choose
 use Rattle.walk.proofs.choose.Kinds as choose-kinds
 use Rattle.walk.proofs.+choose+halves+left_half.Lts-choose as choose-lts
@@ -24,6 +30,7 @@ use Rattle.walk.proofs.+choose+halves+left_half.Lts-halves as halves-lt
 use Rattle.walk.proofs.left_half.Reads as left
 use Rattle.walk.proofs.left_half.Kinds as left-kinds
 use Rattle.walk.proofs.+choose+halves+left_half.Lts-left_half as left-lts
+use Rattle.walk.proofs.extend.Reads as extend-reads
 use Rattle.walk.proofs.leaf.leaf.Reads as leaf-reads
 use Rattle.walk.proofs.nodes.total.Reads as total-reads
 use Rattle.walk.proofs.pairs.choose_rule.Reads as choose-rule-reads
@@ -144,7 +151,7 @@ module _ (d : ℕ) where
       (λ c. omega (arith, c .before .before .choose .kept .1 .1 .1 .1 .1 .1 .0))
       left-returns-2
 
-  -- ---- `halves`: the right half is looked up, the left one written, then the right one
+  -- ---- `halves`: the right half is looked up, the left one written, then the right one or its own halves
 
   abbrev halves-calls : halves-lts.Claims
   halves-calls = (
@@ -156,204 +163,242 @@ module _ (d : ℕ) where
     left.Post,
     remainder-reads.Asked,
     remainder-reads.Learnt,
-    below choose-kinds.ps μ-choose choose.Pre,
-    choose.Post,
+    extend-reads.Asked,
+    extend-reads.Learnt,
+    leaf-reads.Asked,
+    leaf-reads.Learnt,
+    choose-rule-reads.Asked,
+    choose-rule-reads.Learnt,
   )
 
   abbrev halves-at : In 5 halves-kinds.ps
   halves-at = at halves-kinds.ps μ-halves halves.Pre
 
-  abbrev in-halves : (halves-lts.Claims → In 5 halves-kinds.ps → Out 5 halves-kinds.ps halves-kinds.r → Type 0) → Type 0
-  in-halves need = need halves-calls halves-at halves.Post
+  abbrev Inv-loop : halves-lts.InvT-loop
+  Inv-loop rules totals choice measure out₀ here₀ chosen₀ at₀ found₀ out here chosen at found =
+      Along rules totals choice measure (here₀ .p) (here₀ .m) (chosen₀ .b) (chosen₀ .c) (chosen₀ .k) (chosen₀ .before) (chosen₀ .left)
+      (take at out) (here .a) (here .p) (here .m) (chosen .b) (chosen .c) (chosen .k) (chosen .before) (chosen .left)
+      (found .place) (found .measured) (found .weight) (found .offset)
+      × (at + here .m ≡ here₀ .m)
+      × (length out ≡ here₀ .m)
 
-  -- from the place where both halves are written, back to where what is left of the ticket is known, to where the left one is written, to where
-  -- the right half's totals are known, and to the start
-  abbrev right-to-rest : in-halves halves-lts.After-choose → in-halves halves-lts.After-remainder
-  right-to-rest c = c .before .before .before
+  abbrev μ-loop : halves-lts.MeasureT-loop
+  μ-loop rules totals choice measure out₀ here₀ chosen₀ at₀ found₀ out here chosen at found = here .m
+
+  abbrev in-halves : (halves-lts.Claims → In 5 halves-kinds.ps → Out 5 halves-kinds.ps halves-kinds.r → halves-lts.InvT-loop → halves-lts.MeasureT-loop → Type 0) → Type 0
+  in-halves need = need halves-calls halves-at halves.Post Inv-loop μ-loop
+
+  -- from the loop's test back to the start; from where the left half is found to the loop; from where its part is put behind the others to where
+  -- it is found
+  abbrev from : in-halves halves-lts.At-loop → in-halves halves-lts.Start
+  from c = c .before .before
+
+  abbrev totalled : in-halves halves-lts.After-left-half → in-halves halves-lts.After-total2
+  totalled c = c .before .before .before
+
+  abbrev turn : in-halves halves-lts.After-total2 → in-halves halves-lts.At-loop
+  turn c = c .before .before .before .before
 
   abbrev rest-to-left : in-halves halves-lts.After-remainder → in-halves halves-lts.After-left-half
   rest-to-left c = c .before .before .before .before
 
-  abbrev left-to-totals : in-halves halves-lts.After-left-half → in-halves halves-lts.After-total2
-  left-to-totals c = c .before .before .before
+  -- ---- at each turn: the halves at hand
 
-  abbrev totals-from : in-halves halves-lts.After-total2 → in-halves halves-lts.Start
-  totals-from c = c .before .before .before .before .before
+  module _ (c : in-halves halves-lts.At-loop) where
+    abbrev sought : HalvesSought (now (from c .args .rules)) (now (from c .args .totals)) (now (from c .args .choice)) (now (from c .args .measure))
+        (c .loop .here .a) (c .loop .here .p) (c .loop .here .m) (c .loop .chosen .b) (c .loop .chosen .c) (c .loop .chosen .k) (c .loop .chosen .before) (c .loop .chosen .left)
+    sought = c .loop .inv .0 .sought
 
-  abbrev left-from : in-halves halves-lts.After-left-half → in-halves halves-lts.Start
-  left-from c = totals-from (left-to-totals c)
+    end-low : c .loop .at + c .loop .chosen .k < from c .args .node .m
+    end-low = omega (arith, k-short sought, c .loop .inv .1)
 
-  -- ---- after the left half: what it wrote has the left length, so the rest has the right one
+    node-short : from c .args .node .m ≤ 16
+    node-short = omega (arith, span-short (from c .pre .1 .0))
+
+  -- ---- after the left half
 
   module _ (c : in-halves halves-lts.After-left-half) where
-    abbrev k : ℕ
-    k = left-from c .args .pick .k
+    abbrev loop : in-halves halves-lts.At-loop
+    loop = turn (totalled c)
 
-    abbrev out : List ℕ
-    out = now (left-from c .args .out)
+    abbrev words : List ℕ
+    words = c .left-half .last .1 .1 .1 .1 .1 .1 .0
 
-    abbrev left-words : List ℕ
-    left-words = c .left-half .last .1 .1 .1 .1 .1 .1 .0
+    -- what `out` then holds
+    abbrev written : List ℕ
+    written = putMid (loop .loop .at) (loop .loop .at + loop .loop .chosen .k - loop .loop .at) (loop .loop .out) words
 
-    -- the whole of `out` then
-    abbrev half-done : List ℕ
-    half-done = left-words ++ postOf 0 (k - 0) out
+    out-high : loop .loop .at + loop .loop .chosen .k ≤ length (loop .loop .out)
+    out-high = omega (arith, end-low loop, loop .loop .inv .2)
 
-    k-inside : k ≤ length out
-    k-inside = omega (arith, k-short (left-from c .pre .1 .0), left-from c .pre .1 .1)
+    words-length : length words ≡ loop .loop .chosen .k
+    words-length = c .left-half .kept .1 .1 .1 .1 .1 .1 .0 ∙ lent-length (loop .loop .at) (loop .loop .chosen .k) (loop .loop .out) out-high
 
-    left-written : length left-words ≡ k
-    left-written = c .left-half .kept .1 .1 .1 .1 .1 .1 .0 ∙ left-length k out k-inside
+    written-length : length written ≡ from loop .args .node .m
+    written-length = put-length (loop .loop .at) (loop .loop .chosen .k) (loop .loop .out) out-high words words-length ∙ loop .loop .inv .2
 
-    k-done : k ≤ length half-done
-    k-done = omega (arith, left-written, length-append left-words (postOf 0 (k - 0) out))
-
-    lent-right : length (take (length half-done - k) (drop k half-done)) ≡ left-from c .args .node .m - k
-    lent-right = right-length k out left-words k-inside left-written ∙ ap (λ (n : ℕ). n - k) (left-from c .pre .1 .1)
-
-    left-some : 0 < c .left-half .result .weight
-    left-some =
-        let q = left-to-totals c in
-        some-left (totals-from q .pre .1 .0) (q .before .total .ensures) (c .before .before .quotient .ensures) (c .left-half .ensures)
+    written-front : take (loop .loop .at + loop .loop .chosen .k) written ≡ take (loop .loop .at) (loop .loop .out) ++ words
+    written-front = put-front (loop .loop .at) (loop .loop .chosen .k) (loop .loop .out) out-high words words-length
 
   -- ---- what is left of the ticket
 
   module _ (c : in-halves halves-lts.After-remainder) where
-    abbrev rest : ℕ
-    rest = rest-to-left c .left-half .result .offset * left-to-totals (rest-to-left c) .before .total .result + c .remainder .result
+    abbrev lefted : in-halves halves-lts.After-left-half
+    lefted = rest-to-left c
 
-    rest-is : rest ≡ rest-to-left c .left-half .result .offset * left-to-totals (rest-to-left c) .before .total .result + left-from (rest-to-left c) .args .pick .left % left-to-totals (rest-to-left c) .before .total .result
-    rest-is = ap (λ (n : ℕ). rest-to-left c .left-half .result .offset * left-to-totals (rest-to-left c) .before .total .result + n) (c .remainder .ensures)
+    abbrev rest : ℕ
+    rest = lefted .left-half .result .offset * totalled lefted .before .total .result + c .remainder .result
+
+    rest-is : rest ≡ lefted .left-half .result .offset * totalled lefted .before .total .result + loop lefted .loop .chosen .left % totalled lefted .before .total .result
+    rest-is = ap (λ (n : ℕ). lefted .left-half .result .offset * totalled lefted .before .total .result + n) (c .remainder .ensures)
 
     rest-room : rest ≤ most
     rest-room =
-        let l = rest-to-left c in
-        let q = left-to-totals l in
-        omega (arith, rest-is, rest-fits (totals-from q .pre .1 .0) (q .before .total .ensures) (l .before .before .quotient .ensures) (l .left-half .ensures))
+        omega (arith, rest-is, rest-fits (sought (loop lefted)) (totalled lefted .before .total .ensures) (lefted .before .before .quotient .ensures) (lefted .left-half .ensures))
 
-  -- ---- and after the right half: what both make together
+    rest-extends : Extends (loop lefted .loop .found .place) (loop lefted .loop .found .measured) (loop lefted .loop .found .weight) (loop lefted .loop .found .offset) (loop lefted .loop .chosen .before)
+        (lefted .left-half .result .place) (lefted .left-half .result .measured) (lefted .left-half .result .weight) (totalled lefted .total2 .result) rest
+    rest-extends =
+        extends (loop lefted .loop .inv .0) (totalled lefted .before .total .ensures) (totalled lefted .total2 .ensures) (lefted .before .before .quotient .ensures) (lefted .left-half .ensures) rest-is
 
-  module _ (c : in-halves halves-lts.After-choose) where
-    abbrev written : in-halves halves-lts.After-left-half
-    written = rest-to-left (right-to-rest c)
+  -- ---- the right half behind what is found so far
 
-    abbrev totalled : in-halves halves-lts.After-total2
-    totalled = left-to-totals written
+  module _ (c : in-halves halves-lts.After-extend) where
+    abbrev half : in-halves halves-lts.After-left-half
+    half = rest-to-left (c .before .before)
 
-    abbrev from : in-halves halves-lts.Start
-    from = totals-from totalled
+    abbrev here : in-halves halves-lts.At-loop
+    here = loop half
 
-    abbrev right-words : List ℕ
-    right-words = c .choose .last .1 .1 .1 .1 .1 .1 .0
+    abbrev asked : in-halves halves-lts.Start
+    asked = from here
 
-    joined-room : from .args .pick .before + (written .left-half .result .place * totalled .total2 .result + written .left-half .result .measured * c .choose .result .place)
-        + written .left-half .result .measured * c .choose .result .measured ≤ most
-    joined-room =
-        place-fits (from .pre .1 .0) (totalled .before .total .ensures) (written .before .before .quotient .ensures) (written .left-half .ensures)
-        (rest-is (right-to-rest c)) (c .before .before .quotient2 .ensures) (c .choose .ensures) (totalled .total2 .ensures)
+    abbrev end : ℕ
+    end = here .loop .at + here .loop .chosen .k
 
-    weight-room : written .left-half .result .weight * c .choose .result .weight ≤ most
-    weight-room =
-        weight-fits (from .pre .1 .0) (totalled .before .total .ensures) (written .before .before .quotient .ensures) (written .left-half .ensures)
-        (rest-is (right-to-rest c)) (c .before .before .quotient2 .ensures) (c .choose .ensures)
+    right : Behind (now (asked .args .rules)) (now (asked .args .totals)) (now (asked .args .choice)) (now (asked .args .measure)) (asked .args .node .p) (asked .args .node .m)
+        (asked .args .pick .b) (asked .args .pick .c) (asked .args .pick .k) (asked .args .pick .before) (asked .args .pick .left) (take end (written half))
+        (here .loop .chosen .c) (here .loop .here .p + here .loop .chosen .k) (here .loop .here .m - here .loop .chosen .k) (c .before .quotient2 .result)
+        (c .extend .result .place) (c .extend .result .measured) (c .extend .result .weight) (c .extend .result .offset)
+    right =
+        rw (written-front half)
+        (behind (here .loop .inv .0) (totalled half .before .total .ensures) (totalled half .total2 .ensures) (half .before .before .quotient .ensures) (half .left-half .ensures)
+        (rest-is (c .before .before)) (c .extend .ensures) (c .before .quotient2 .ensures))
 
-    offset-room : c .choose .result .offset * written .left-half .result .weight + rest (right-to-rest c) % written .left-half .result .weight ≤ most
-    offset-room =
-        offset-fits (from .pre .1 .0) (totalled .before .total .ensures) (written .before .before .quotient .ensures) (written .left-half .ensures)
-        (rest-is (right-to-rest c)) (c .before .before .quotient2 .ensures) (c .choose .ensures)
+    end-inside : end ≤ length (written half)
+    end-inside = omega (arith, written-length half, end-low here)
 
-  halves-total-requires : in-halves halves-lts.Need-total-requires
-  halves-total-requires c κs = placed-by (c .before .before .before .pre .1 .0)
+  -- ---- a last word
 
-  halves-total-requires-2 : in-halves halves-lts.Need-total-requires-2
-  halves-total-requires-2 c κs = placed-to (c .before .before .before .before .pre .1 .0)
+  module _ (c : in-halves halves-lts.After-leaf) where
+    abbrev last : in-halves halves-lts.Then1
+    last = c .before .before
 
-  halves-quotient-requires : in-halves halves-lts.Need-quotient-requires
-  halves-quotient-requires c κs = some-right (totals-from c .pre .1 .0) (c .before .total .ensures)
+    abbrev behind-last : in-halves halves-lts.After-extend
+    behind-last = last .before .before
 
-  halves-left-requires : in-halves halves-lts.Need-left-half-requires
-  halves-left-requires c κs =
+    abbrev word : List ℕ
+    word = c .leaf .last .1 .1 .1 .1 .1 .1 .0
+
+    -- what `out` then holds
+    filled : putMid (end behind-last) (length (written (half behind-last)) - end behind-last) (written (half behind-last)) word ≡ take (end behind-last) (written (half behind-last)) ++ word
+    filled = put-rest (end behind-last) (written (half behind-last)) word
+
+    filled-length : length (putMid (end behind-last) (length (written (half behind-last)) - end behind-last) (written (half behind-last)) word) ≡ asked behind-last .args .node .m
+    filled-length =
+        let out = written (half behind-last) in
+        ap length filled ∙ length-append (take (end behind-last) out) word
+        ∙ omega (
+          arith,
+          length-take-le (end behind-last) out (end-inside behind-last),
+          c .leaf .kept .1 .1 .1 .1 .1 .1 .0,
+          rest-length (end behind-last) out,
+          end-inside behind-last,
+          written-length (half behind-last),
+        )
+
+    word-owned : OwnedAs (ruled (now (asked behind-last .args .rules))) (weightBy (now (asked behind-last .args .rules)) (now (asked behind-last .args .choice)))
+        (weightBy (now (asked behind-last .args .rules)) (now (asked behind-last .args .measure)))
+        (here behind-last .loop .chosen .c) (here behind-last .loop .here .p + here behind-last .loop .chosen .k) (here behind-last .loop .here .m - here behind-last .loop .chosen .k)
+        (behind-last .before .quotient2 .result) word (c .leaf .result .place) (c .leaf .result .measured) (c .leaf .result .weight) (c .leaf .result .offset)
+    word-owned = leaf-owned (right behind-last .sought) (last .if1 .taken) (c .leaf .ensures)
+
+  halves-loop-holds : in-halves halves-lts.Need-loop-holds
+  halves-loop-holds c = (along-start (c .before .pre .1 .0), omega arith, c .before .pre .1 .1)
+
+  halves-left-half-requires : in-halves halves-lts.Need-left-half-requires
+  halves-left-half-requires c κs =
       let q = c .before in
-      let s = totals-from (q .before) in
-      let h = s .pre .1 .0 in
-      let e = left-length (s .args .pick .k) (now (s .args .out)) (omega (arith, k-short h, s .pre .1 .1)) in
-      (omega (arith, s .pre .0, k-short h), (left-sought h (q .before .before .total .ensures) (q .quotient .ensures), e))
+      let l = turn (q .before) in (
+        omega (arith, from l .pre .0, k-short (sought l), l .loop .inv .1),
+        (
+          left-sought (sought l) (q .before .before .total .ensures) (q .quotient .ensures),
+          lent-length (l .loop .at) (l .loop .chosen .k) (l .loop .out) (omega (arith, end-low l, l .loop .inv .2)),
+        ),
+      )
 
   halves-mul-x : in-halves halves-lts.Need-mul-x
   halves-mul-x c =
       let l = c .before .before .before in
-      let q = left-to-totals l in
-      omega (arith, rest-fits (totals-from q .pre .1 .0) (q .before .total .ensures) (l .before .before .quotient .ensures) (l .left-half .ensures))
+      omega (arith, rest-fits (sought (loop l)) (totalled l .before .total .ensures) (l .before .before .quotient .ensures) (l .left-half .ensures))
 
-  halves-remainder-requires : in-halves halves-lts.Need-remainder-requires
-  halves-remainder-requires c κs =
-      let q = left-to-totals (c .before .before .before) in
-      some-right (totals-from q .pre .1 .0) (q .before .total .ensures)
-
-  halves-choose-requires : in-halves halves-lts.Need-choose-requires
-  halves-choose-requires c κs =
-      let r = c .before .before in
-      let l = rest-to-left r in
-      let q = left-to-totals l in
-      let s = totals-from q in
-      let h = s .pre .1 .0 in (
-        omega (arith, s .pre .0, k-some h, k-short h),
-        (
-          right-sought h (q .before .total .ensures) (l .before .before .quotient .ensures) (l .left-half .ensures) (rest-is r) (c .before .quotient2 .ensures),
-          lent-right l,
-        ),
+  halves-leaf-requires : in-halves halves-lts.Need-leaf-requires
+  halves-leaf-requires c κs =
+      let e = c .before .before .before in
+      let s = right e .sought in
+      let m = c .before .if1 .taken in (
+        word-sought s m,
+        omega (arith, short s, m),
+        rest-length (end e) (written (half e)) ∙ omega (arith, written-length (half e), here e .loop .inv .1, m),
       )
-
-  -- from the place where every part is known back to where both halves are written
-  abbrev done : in-halves halves-lts.After-remainder2 → in-halves halves-lts.After-choose
-  done c = c .before .before .before .before .before .before .before .before .before .before .before
-
-  halves-same-length : in-halves halves-lts.Need-same-length
-  halves-same-length c =
-      let b = done c in
-      let l = written b in
-      ap length (two-halves (k l) (out l) (left-words l) (right-words b) (left-written l))
-      ∙ omega (arith, length-append (left-words l) (right-words b), left-written l, b .choose .kept .1 .1 .1 .1 .1 .1 .0, lent-right l, k-inside l, from b .pre .1 .1)
 
   halves-returns : in-halves halves-lts.Need-returns
   halves-returns c =
-      let b = done c in
-      let l = written b in
-      halves-found (from b .pre .1 .0) (totalled b .before .total .ensures) (l .before .before .quotient .ensures) (l .left-half .ensures)
-      (rest-is (right-to-rest b)) (b .before .before .quotient2 .ensures) (b .choose .ensures) (totalled b .total2 .ensures) (c .remainder2 .ensures)
-      (two-halves (k l) (out l) (left-words l) (right-words b) (left-written l))
+      let w = c .before .before .before in
+      rw (filled w) (found-last (right (behind-last w)) (word-owned w) (c .extend2 .ensures))
+
+  halves-choose-rule-requires : in-halves halves-lts.Need-choose-rule-requires
+  halves-choose-rule-requires c κs =
+      let e = c .before .before in
+      (right e .sought, omega (arith, k-short (sought (here e)), c .if1 .left))
+
+  halves-loop-again : in-halves halves-lts.Need-loop-again
+  halves-loop-again c =
+      let e = c .before .before .before in (
+        along (right e) (c .choose-rule .ensures),
+        omega (arith, here e .loop .inv .1, k-short (sought (here e))),
+        written-length (half e),
+      )
 
   halves-holds : {M : Type 1} → halves-lts.Closed halves-calls halves-at halves.Post M
   halves-holds =
-      halves-lts.spec halves-calls halves-at halves.Post
-      (λ c. let s = c .before .before .pre .1 .0 in omega (arith, k-short s, span-short s))
-      (λ c. let s = c .before .before .before .pre .1 .0 in omega (arith, k-short s))
-      halves-total-requires
-      halves-total-requires-2
-      halves-quotient-requires
+      halves-lts.spec halves-calls halves-at halves.Post Inv-loop μ-loop
+      halves-loop-holds
+      (λ c. omega (arith, end-low c, node-short c))
+      (λ c. let l = c .before in omega (arith, k-short (sought l), span-short (sought l)))
+      (λ c. omega (arith, k-short (sought (c .before .before))))
+      (λ c κs. placed-by (sought (c .before .before)))
+      (λ c κs. placed-to (sought (c .before .before .before)))
+      (λ c κs. some-right (sought (turn c)) (c .before .total .ensures))
       (λ c. omega arith)
       (λ c. omega arith)
-      (λ c. let s = totals-from (c .before) in omega (arith, k-short (s .pre .1 .0), s .pre .1 .1))
-      halves-left-requires
+      (λ c. let l = turn (c .before) in omega (arith, end-low l, l .loop .inv .2))
+      halves-left-half-requires
       halves-mul-x
-      halves-remainder-requires
+      (λ c κs. let l = c .before .before .before in some-right (sought (loop l)) (totalled l .before .total .ensures))
       (λ c. omega (arith, rest-room c))
-      (λ c κs. left-some (rest-to-left c))
-      (λ c. k-done (rest-to-left (c .before)))
-      (λ c. omega (arith, k-done (rest-to-left (c .before))))
+      (λ c κs. rest-extends c .some)
+      (λ c κs. rest-extends (c .before))
+      (λ c. end-inside (c .before .before))
+      (λ c. omega (arith, end-inside (c .before .before)))
       (λ c. omega arith)
-      halves-choose-requires
-      (λ c. omega (arith, joined-room (c .before .before .before)))
-      (λ c. omega (arith, joined-room (c .before .before .before .before)))
-      (λ c. omega (arith, joined-room (c .before .before .before .before .before .before)))
-      (λ c. omega (arith, joined-room (c .before .before .before .before .before .before)))
-      (λ c. omega (arith, joined-room (c .before .before .before .before .before .before .before .before)))
-      (λ c. omega (arith, weight-room (c .before .before .before .before .before .before .before .before .before)))
-      (λ c. omega (arith, offset-room (c .before .before .before .before .before .before .before .before .before .before)))
-      (λ c κs. left-some (written (c .before .before .before .before .before .before .before .before .before .before)))
-      (λ c. omega (arith, offset-room (done c), c .remainder2 .ensures))
-      halves-same-length
+      halves-leaf-requires
+      (λ c κs. let w = c .before .before in extends-last (right (behind-last w)) (word-owned w))
+      (λ c. let w = c .before .before .before in filled-length w ∙ omega (arith, asked (behind-last w) .pre .1 .1))
       halves-returns
+      halves-choose-rule-requires
+      (λ c. let l = here (c .before .before .before) in omega (arith, k-some (sought l), k-short (sought l)))
+      halves-loop-again
 
 pub +choose+halves+left-half-spec : {M : Type 1} → statement M
 +choose+halves+left-half-spec = close μ-choose μ-halves μ-left (λ d. choose-holds d) (λ d. halves-holds d) (λ d. left-holds d)

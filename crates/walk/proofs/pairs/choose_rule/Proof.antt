@@ -1,7 +1,7 @@
 -- `choose_rule` meets its contract. The loop goes through the pair rules of the node in order and through the left lengths of each; its
 -- invariant says what is to come. Where no left length is, a rule is left while the ticket is one of theirs. Assumes nothing.
 use mathlib.Core.Path.{refl}
-use Prim.Native.Nat.{_+_, _*_, _-_, _≤_, _<_}
+use Prim.Native.Nat.{_+_, _*_, _-_, _<_}
 use native.Mathlib.Omega.{arith}
 use borrow.Author.Needs.{needs}
 use Rattle.walk.proofs.Walking.{a-few, short, Going, going-start, rule-low, left-few, right-few, going-rule, low, cut-by, cut-to, going-found, going-room, going-next}
