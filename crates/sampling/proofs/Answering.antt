@@ -46,7 +46,7 @@ use Rattle.sampling.specs.Unheard.{Entry, outside, barred, ofLength, hea
 use Rattle.sampling.specs.Answers.{sampleNumber, remainingRows, remainingTo, drawn, drawTo}
 use Rattle.sampling.specs.Skipping.{Skips}
 use Rattle.sampling.specs.Hearing.{numbersIn, ambiguousIn, Holds}
-use Rattle.sampling.specs.Preparing.{Lent, Heard, Hold, HeardAs, Recorded, RecordedAs, Drawable, Prepared, PreparedAs}
+use Rattle.sampling.specs.Preparing.{Room, Lent, Heard, Hold, HeardAs, Recorded, RecordedAs, Drawable, Prepared, PreparedAs}
 use Rattle.sampling.specs.declared.heard.Collected.the-variants.{Numbers}
 use Rattle.sampling.specs.declared.prepare.SampleRefusal.{SampleRefusal}
 use Rattle.sampling.specs.declared.prepare.SampleRefusal.the-variants.{Count, History, Ambiguous as NotSingle}
@@ -57,17 +57,24 @@ use Rattle.sampling.proofs.Barred.{collected, heard-length, left-at, un
 
 -- ---- the tables that a call makes
 
-pub lent-made : Lent (replicate 4 (replicate 256 0)) (replicate 17 (replicate 32 0)) (replicate 1000 0)
-lent-made = record {
+pub lent-made : (h numbers : List ℕ) → Room h numbers → Lent h (replicate 4 (replicate 256 0)) (replicate 17 (replicate 32 0)) numbers
+lent-made h numbers room = record {
   tables = record { rules-room = record { long = omega arith; wide = wide-made 4 256 0 }; long = omega arith; wide = wide-made 17 32 0 };
-  room = omega arith;
+  room = room;
 }
+
+-- 1,000 numbers serve every history, and 100 those of at most 2,004 bytes
+pub room-all : (h : List ℕ) → Room h (replicate 1000 0)
+room-all h d = known h d .sized .few
+
+pub room-short : (h : List ℕ) → length h ≤ 2004 → Room h (replicate 100 0)
+room-short h l d = omega (arith, known h d .sized .size)
 
 -- ---- the heard numbers, sorted
 
 -- the part with the numbers is lent to be sorted
-pub part-few : (k : ℕ) (l : List ℕ) → k ≤ 1000 → length (take (k - 0) l) ≤ 1000
-part-few k l h = omega (arith, length-take (k - 0) l)
+pub part-few : (k n : ℕ) (l : List ℕ) → k ≤ n → length (take (k - 0) l) ≤ n
+part-few k n l h = omega (arith, length-take (k - 0) l)
 
 -- the numbers stand then at the front of the whole
 pub heard-sorted : (rules : List (List ℕ)) (h : List ℕ) (n : ℕ) (before part rest : List ℕ) (k m : ℕ) → Holds rules h n before (Numbers k)
@@ -76,7 +83,7 @@ heard-sorted rules h n before part rest k m c s =
     let z : k - 0 ≡ k = omega arith in
     let s′ = rw z at s in
     let e = take-append-le m part rest (omega (arith, s .few, s .long)) in (
-      omega (arith, s .few, part-few k before (c .1)),
+      omega (arith, s .few, part-few k (recordsOf h) before (c .1)),
       record { clear = c .0; rising = rw e (s .rising); just = λ d. rw (e, ← c .2) (s′ .same d) },
     )
 
@@ -145,17 +152,17 @@ module _ {g : List ℕ} {rules : List (List ℕ)} (t : grammar.Holds g rules) (h
 -- ---- 1 to 15
 
 module _ (g h : List ℕ) (n : ℕ) {rules totals : List (List ℕ)} where
-  pub unprepared : (r : CountRefusal) → countNumber r ≡ firstThatApplies (preparedRows g n) → {numbers : List ℕ} → 1000 ≤ length numbers
+  pub unprepared : (r : CountRefusal) → countNumber r ≡ firstThatApplies (preparedRows g n) → {numbers : List ℕ} → Room h numbers
       → PreparedAs g h (plainly n) rules totals numbers (NotReady (Count r))
-  unprepared r e long = record { prepared = sym (refused-of g n r (history.historyRows h ++ ((ambiguous g h (plainly n), 15) ∷ [])) e); long = long }
+  unprepared r e room = record { prepared = sym (refused-of g n r (history.historyRows h ++ ((ambiguous g h (plainly n), 15) ∷ [])) e); room = room }
 
   module _ (none : firstThatApplies (preparedRows g n) ≡ 0) (t : Tabled g n rules totals) where
     past-grammar : firstThatApplies (remainingRows g h (plainly n)) ≡ firstThatApplies (history.historyRows h ++ ((ambiguousIn rules h n, 15) ∷ []))
     past-grammar = rw (ambiguous-is (t .holds) h n) (left-of g n (history.historyRows h ++ ((ambiguous g h (plainly n), 15) ∷ [])) none)
 
-    pub recorded-prepared : {numbers : List ℕ} {s : Sampled} → 1000 ≤ length numbers → RecordedAs rules h n numbers s → PreparedAs g h (plainly n) rules totals numbers s
+    pub recorded-prepared : {numbers : List ℕ} {s : Sampled} → Room h numbers → RecordedAs rules h n numbers s → PreparedAs g h (plainly n) rules totals numbers s
     unfolding firstThatApplies
-    recorded-prepared {numbers} {s = Ready k} long q = record {
+    recorded-prepared {numbers} {s = Ready k} room q = record {
       prepared = record {
         tabled = t;
         passed = past-grammar ∙ rows-pass (history.historyRows h) ((ambiguousIn rules h n, 15) ∷ []) refl (q .recorded .0) ∙ row-passed 15 [] (q .recorded .2 .clear);
@@ -164,9 +171,9 @@ module _ (g h : List ℕ) (n : ℕ) {rules totals : List (List ℕ)} where
         few = q .recorded .1;
         heard = heard-barred (t .holds) h n (q .recorded .0) (take k numbers) (q .recorded .2);
       };
-      long = long;
+      room = room;
     }
-    recorded-prepared {s = NotReady r} long q = record { prepared = q .recorded ∙ sym past-grammar; long = long }
+    recorded-prepared {s = NotReady r} room q = record { prepared = q .recorded ∙ sym past-grammar; room = room }
 
 pub prepared-case : {g h : List ℕ} {a : Question} {rules totals : List (List ℕ)} {numbers : List ℕ} {s u : Sampled} → PreparedAs g h a rules totals numbers s → s ≡ u
     → Prepared g h a rules totals numbers u
@@ -186,10 +193,10 @@ module _ (g h : List ℕ) (n : ℕ) where
   unfolding remainingTo
   left-refused k e l = rw (← e) (sym (answer-refused k (totalOf g n ∷ heardOf g h (plainly n) ∷ leftOf g h (plainly n) ∷ []) [] [] l))
 
-  module _ {rules totals : List (List ℕ)} {numbers : List ℕ} {k : ℕ} (d : Drawable g h (plainly n) rules totals numbers k) (long : 1000 ≤ length numbers) where
+  module _ {rules totals : List (List ℕ)} {numbers : List ℕ} {k : ℕ} (d : Drawable g h (plainly n) rules totals numbers k) (room : Room h numbers) where
     heard-count : k ≡ heardOf g h (plainly n)
     heard-count =
-        sym (length-take-le k numbers (omega (arith, d .few))) ∙ ap length (d .heard) ∙ sym (heard-length g h n (d .diary) (d .clear))
+        sym (length-take-le k numbers (omega (arith, d .few, room (d .diary)))) ∙ ap length (d .heard) ∙ sym (heard-length g h n (d .diary) (d .clear))
 
     -- there are no more of them than derivations
     pub heard-few : (t : ℕ) → t ≡ totalIn rules n → k ≤ t
@@ -256,14 +263,14 @@ barred-in {g} t h n =
     rw (full-is t n) (ap (map (λ (e : ℕ × ℕ). e .0)) (sym (struck-map sentence (λ s. not (heard h s)) (λ s. 1) 0 (fullList g n))))
 
 -- the part with the numbers serves
-pub draw-sought : {g h : List ℕ} {rules totals : List (List ℕ)} {numbers : List ℕ} {n k : ℕ} → Drawable g h (plainly n) rules totals numbers k → 1000 ≤ length numbers
+pub draw-sought : {g h : List ℕ} {rules totals : List (List ℕ)} {numbers : List ℕ} {n k : ℕ} → Drawable g h (plainly n) rules totals numbers k → Room h numbers
     → DrawSought rules totals n (take (k - 0) numbers)
-draw-sought {h = h} {numbers = numbers} {n = n} {k = k} d long =
+draw-sought {h = h} {numbers = numbers} {n = n} {k = k} d room =
     let e : k - 0 ≡ k = omega arith in
     rw e
     (record {
       counted = d .tabled .counted;
-      few = omega (arith, length-take-le k numbers (omega (arith, d .few)), d .few);
+      few = omega (arith, length-take-le k numbers (omega (arith, d .few, room (d .diary))), d .few, known h (d .diary) .sized .few);
       left = λ s. not (heard h s);
       struck-are = d .heard ∙ barred-in (d .tabled .holds) h n;
     })

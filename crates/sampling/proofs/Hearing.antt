@@ -20,12 +20,11 @@ use Rattle.ranking.specs.Ranking.{FindSought, Says, FoundAs}
 use Rattle.ranking.specs.declared.rank.Found.{Found}
 use Rattle.ranking.specs.declared.rank.Found.the-variants.{None, One, Many}
 use Rattle.ranking.specs.declared.unrank.DerivationNumber.{DerivationNumber}
-use Rattle.history.specs.Layout.{headOf, wordsOf}
+use Rattle.history.specs.Layout.{recordsOf, headOf, wordsOf}
 use Rattle.history.specs.Chain.{numbersFrom}
 use Rattle.history.specs.Refusals.{Accepted}
 use Rattle.history.specs.Reading.{sentenceAt, nextAt}
 use Rattle.history.specs.Heard.{sentences}
-use Rattle.history.proofs.Acceptance.{known}
 use Rattle.history.proofs.Chain.{chained}
 use Rattle.history.proofs.Reading.{read-end, read-record}
 use Rattle.sampling.specs.Hearing.{numbersIn, manyIn, ambiguousIn, Tells, Adds, ToldAs, Holds, CollectedAs}
@@ -97,8 +96,8 @@ toCome h r = map (wordsOf h) (numbersFrom h r)
 pub record Collecting (rules : List (List ℕ)) (h : List ℕ) (n : ℕ) (numbers : List ℕ) (at count : ℕ) : Type 0 where
   pub due : take count numbers ++ concatMap (numbersIn rules n) (toCome h at) ≡ concatMap (numbersIn rules n) (sentences h)
   pub many : someOf (manyIn rules n) (toCome h at) ≡ ambiguousIn rules h n
-  pub room : count + length (numbersFrom h at) ≤ 1000
-  pub long : 1000 ≤ length numbers
+  pub room : count + length (numbersFrom h at) ≤ recordsOf h
+  pub long : recordsOf h ≤ length numbers
 
 -- s was read there, and it is not the end
 pub record Read (h : List ℕ) (at : ℕ) (s : List ℕ) : Type 0 where
@@ -106,16 +105,15 @@ pub record Read (h : List ℕ) (at : ℕ) (s : List ℕ) : Type 0 where
   pub same : s ≡ sentenceAt h at
   pub more : length s ≡ 0 → ⊥
 
-pub collect-start : (rules : List (List ℕ)) (h : List ℕ) (n : ℕ) (numbers : List ℕ) → Accepted h → 1000 ≤ length numbers → {at : ℕ} → at ≡ headOf h
+pub collect-start : (rules : List (List ℕ)) (h : List ℕ) (n : ℕ) (numbers : List ℕ) → Accepted h → recordsOf h ≤ length numbers → {at : ℕ} → at ≡ headOf h
     → Collecting rules h n numbers at 0
 collect-start rules h n numbers diary long e =
-    let few = known h diary .sized .few in
     let all = chained h diary .many in
     rw e
     (record {
       due = refl;
       many = many-ambiguous rules n (sentences h);
-      room = omega (arith, few, all);
+      room = omega (arith, all);
       long = long;
     })
 
@@ -149,7 +147,7 @@ module _ (plan : List (List ℕ)) {rules : List (List ℕ)} {h : List ℕ} {numb
     collect-less e = rw e (omega (arith, fewer))
 
     -- there is room for its number
-    pub collect-room : count < 1000
+    pub collect-room : count < recordsOf h
     collect-room = omega (arith, w .room, fewer)
 
     module _ {map : List (List ℕ)} {sets : List ℕ} {totals : List (List ℕ)} {f : Found} (told : ToldAs rules plan map s sets totals f) where

@@ -14,6 +14,7 @@ use Rattle.charts.specs.Chart.{Clean}
 use Rattle.charts.specs.Maps.{Everywhere}
 use Rattle.charts.specs.Ready.{Ready}
 use Rattle.ranking.specs.Inside.{readingsIn, numberIn}
+use Rattle.history.specs.Layout.{recordsOf}
 use Rattle.history.specs.Refusals.{Accepted}
 use Rattle.history.specs.Heard.{sentences}
 use Rattle.sampling.specs.Unheard.{ofLength}
@@ -60,11 +61,11 @@ pub record Collects (rules plan map counts : List (List ℕ)) (h : List ℕ) (to
   pub everywhere : Everywhere counts
   pub zeros : (r A : ℕ) → chartRow ≤ r → entry totals r A ≡ 0
   pub diary : Accepted h
-  pub room : 1000 ≤ length numbers
+  pub room : recordsOf h ≤ length numbers
 
 -- the numbers along the chain, or that a sentence has two or more derivations
 abbrev pub Holds : (rules : List (List ℕ)) (h : List ℕ) (n : ℕ) (numbers : List ℕ) → Collected → Type 0
-Holds rules h n numbers (Numbers k) = (ambiguousIn rules h n ≡ false) × (k ≤ 1000) × (take k numbers ≡ concatMap (numbersIn rules n) (sentences h))
+Holds rules h n numbers (Numbers k) = (ambiguousIn rules h n ≡ false) × (k ≤ recordsOf h) × (take k numbers ≡ concatMap (numbersIn rules n) (sentences h))
 Holds rules h n numbers Ambiguous = ambiguousIn rules h n ≡ true
 
 pub record CollectedAs (rules plan : List (List ℕ)) (h : List ℕ) (numbers : List ℕ) (c : Collected) : Type 0 where

@@ -13,6 +13,7 @@ use Rattle.answers.specs.Answer.{firstThatApplies}
 use Rattle.counting.specs.Counted.{Counted}
 use Rattle.counting.specs.Prepared as tables
 use Rattle.counting.specs.Prepared.{Tabled}
+use Rattle.history.specs.Layout.{recordsOf}
 use Rattle.history.specs.Refusals.{historyRows, Accepted}
 use Rattle.history.specs.Heard.{sentences}
 use Rattle.sampling.specs.Question.{Question}
@@ -24,16 +25,20 @@ use Rattle.sampling.specs.declared.prepare.Sampled.the-variants.{Ready, 
 
 -- ---- 11 to 15, by the tables
 
+-- room for a number of each record
+abbrev pub Room : (h numbers : List ℕ) → Type 0
+Room h numbers = Accepted h → recordsOf h ≤ length numbers
+
 -- the counts of the length n, and room for the numbers of a history
-pub record HearsAll (rules plain : List (List ℕ)) (n : ℕ) (numbers : List ℕ) : Type 0 where
+pub record HearsAll (rules plain : List (List ℕ)) (h : List ℕ) (n : ℕ) (numbers : List ℕ) : Type 0 where
   pub counted : Counted rules plain n
-  pub room : 1000 ≤ length numbers
+  pub room : Room h numbers
 
 -- and an accepted history
 pub record Hears (rules plain : List (List ℕ)) (h : List ℕ) (n : ℕ) (numbers : List ℕ) : Type 0 where
   pub counted : Counted rules plain n
   pub diary : Accepted h
-  pub room : 1000 ≤ length numbers
+  pub room : recordsOf h ≤ length numbers
 
 -- the numbers of a history's sentences, rising, each once
 pub record Heard (rules : List (List ℕ)) (h : List ℕ) (n : ℕ) (heard : List ℕ) : Type 0 where
@@ -43,7 +48,7 @@ pub record Heard (rules : List (List ℕ)) (h : List ℕ) (n : ℕ) (heard : Lis
 
 -- these; or that line 15 applies
 abbrev pub Hold : (rules : List (List ℕ)) (h : List ℕ) (n : ℕ) (numbers : List ℕ) → Sampled → Type 0
-Hold rules h n numbers (Ready k) = (k ≤ 1000) × Heard rules h n (take k numbers)
+Hold rules h n numbers (Ready k) = (k ≤ recordsOf h) × Heard rules h n (take k numbers)
 Hold rules h n numbers (Refused r) = (ambiguousIn rules h n ≡ true) × (sampleNumber r ≡ 15)
 
 pub record HeardAs (rules : List (List ℕ)) (h : List ℕ) (n : ℕ) (numbers : List ℕ) (s : Sampled) : Type 0 where
@@ -51,7 +56,7 @@ pub record HeardAs (rules : List (List ℕ)) (h : List ℕ) (n : ℕ) (numbers :
 
 -- these of an accepted history; or the first of 11 to 15 that applies
 abbrev pub Recorded : (rules : List (List ℕ)) (h : List ℕ) (n : ℕ) (numbers : List ℕ) → Sampled → Type 0
-Recorded rules h n numbers (Ready k) = Accepted h × (k ≤ 1000) × Heard rules h n (take k numbers)
+Recorded rules h n numbers (Ready k) = Accepted h × (k ≤ recordsOf h) × Heard rules h n (take k numbers)
 Recorded rules h n numbers (Refused r) = sampleNumber r ≡ firstThatApplies (historyRows h ++ ((ambiguousIn rules h n, 15) ∷ []))
 
 pub record RecordedAs (rules : List (List ℕ)) (h : List ℕ) (n : ℕ) (numbers : List ℕ) (s : Sampled) : Type 0 where
@@ -60,9 +65,9 @@ pub record RecordedAs (rules : List (List ℕ)) (h : List ℕ) (n : ℕ) (number
 -- ---- all, for the grammar
 
 -- what is lent for the tables and the numbers
-pub record Lent (rules totals : List (List ℕ)) (numbers : List ℕ) : Type 0 where
+pub record Lent (h : List ℕ) (rules totals : List (List ℕ)) (numbers : List ℕ) : Type 0 where
   pub tables : tables.Lent rules totals
-  pub room : 1000 ≤ length numbers
+  pub room : Room h numbers
 
 -- the tables and the k heard numbers are there
 pub record Drawable (g h : List ℕ) (a : Question) (rules totals : List (List ℕ)) (numbers : List ℕ) (k : ℕ) : Type 0 where
@@ -70,7 +75,7 @@ pub record Drawable (g h : List ℕ) (a : Question) (rules totals : List (List �
   pub passed : firstThatApplies (remainingRows g h a) ≡ 0
   pub diary : Accepted h
   pub clear : ambiguous g h a ≡ false
-  pub few : k ≤ 1000
+  pub few : k ≤ recordsOf h
   pub heard : take k numbers ≡ barred g h a
 
 -- what preparing answers: the refusal, or these
@@ -80,4 +85,4 @@ Prepared g h a rules totals numbers (Refused r) = sampleNumber r ≡ firstThatAp
 
 pub record PreparedAs (g h : List ℕ) (a : Question) (rules totals : List (List ℕ)) (numbers : List ℕ) (s : Sampled) : Type 0 where
   pub prepared : Prepared g h a rules totals numbers s
-  pub long : 1000 ≤ length numbers
+  pub room : Room h numbers

@@ -2,6 +2,7 @@
 ghost use mathlib.Core.Path.{_≡_};
 ghost use Rattle.sampling.specs.Answers.{drawSaid, drawOf};
 ghost use Rattle.sampling.specs.Drawing.{DrawSought, drawSkipping};
+ghost use Rattle.sampling.specs.Preparing.{Room};
 use crate::prepare;
 use crate::prepare::SampleRefusal;
 use crate::prepare::Sampled;
@@ -42,18 +43,38 @@ pub fn draw_prepared(
     DrawAnswer::Drawn(left, DerivationNumber(d))
 }
 
-pub fn draw(g: &[u8], h: &[u8], n: u64, q: DrawNumber, out: &mut [u8]) -> DrawAnswer
+// With room for the heard numbers.
+fn draw_in(
+    g: &[u8],
+    h: &[u8],
+    n: u64,
+    q: DrawNumber,
+    numbers: &mut [u64],
+    out: &mut [u8],
+) -> DrawAnswer
+    requires { ⌜ Room (now h) (now numbers) ⌝ }
     ensures { λ r. ⌜ drawSaid r (now (out .exit)) ≡ drawOf (now (g .entry)) (now (h .entry)) n (q .0) (now (out .entry)) ⌝ }
 {
     let byte_row = [0u8; 256];
     let mut rules = [byte_row; 4];
     let row = [0u64; 32];
     let mut totals = [row; 17];
-    let mut numbers = [0u64; 1000];
     let question = Question { length: n };
-    let p = prepare::prepare(g, h, question, &mut rules, &mut totals, &mut numbers);
+    let p = prepare::prepare(g, h, question, &mut rules, &mut totals, numbers);
     match p {
         Sampled::Refused(r) => DrawAnswer::NotDrawn(r),
         Sampled::Ready(k) => draw_prepared(&rules, &totals, n as usize, &numbers[0..k], q, out),
     }
+}
+
+// The room as for *Left*.
+pub fn draw(g: &[u8], h: &[u8], n: u64, q: DrawNumber, out: &mut [u8]) -> DrawAnswer
+    ensures { λ r. ⌜ drawSaid r (now (out .exit)) ≡ drawOf (now (g .entry)) (now (h .entry)) n (q .0) (now (out .entry)) ⌝ }
+{
+    if h.len() <= 2004 {
+        let mut numbers = [0u64; 100];
+        return draw_in(g, h, n, q, &mut numbers, out);
+    }
+    let mut numbers = [0u64; 1000];
+    draw_in(g, h, n, q, &mut numbers, out)
 }

@@ -1,6 +1,8 @@
 // What *Left* and every *Draw* need: the tables of the grammar, then the heard derivation numbers, rising, each once.
 ghost use mathlib.Core.Path.{_≡_};
+ghost use Prim.Native.Nat.{_≤_};
 ghost use lib.ListN.{length};
+ghost use Rattle.sorting.specs.Sorted.{Sorted};
 ghost use Rattle.sampling.specs.Answers.{sampleNumber};
 ghost use Rattle.sampling.specs.Question.{asked};
 ghost use Rattle.ranking.specs.Ranking.{Roomy};
@@ -42,6 +44,19 @@ pub fn refusal_number(r: SampleRefusal) -> u8
     }
 }
 
+// Numbers of up to 1,000 records into rising order, each once; how many they are. A short history is spared the clearing of much room.
+fn order(numbers: &mut [u64]) -> usize
+    requires { ⌜ length (now numbers) ≤ 1000 ⌝ }
+    ensures { λ c. ⌜ Sorted (now (numbers .entry)) (now (numbers .exit)) c ⌝ }
+{
+    if numbers.len() <= 100 {
+        let mut spare = [0u64; 100];
+        return sorting::sort(numbers, &mut spare);
+    }
+    let mut spare = [0u64; 1000];
+    sorting::sort(numbers, &mut spare)
+}
+
 // The heard numbers of a history, rising, each once, with room for the charts of its sentences.
 fn hear_in(
     rules: &[[u8; 256]],
@@ -68,8 +83,7 @@ fn hear_in(
     match c {
         Collected::Ambiguous => Sampled::Refused(SampleRefusal::Ambiguous),
         Collected::Numbers(k) => {
-            let mut spare = [0u64; 1000];
-            let m = sorting::sort(&mut numbers[0..k], &mut spare);
+            let m = order(&mut numbers[0..k]);
             Sampled::Ready(m)
         }
     }
@@ -103,7 +117,7 @@ fn records(
     n: usize,
     numbers: &mut [u64],
 ) -> Sampled
-    requires { ⌜ HearsAll (now rules) (now plain) n (now numbers) ⌝ }
+    requires { ⌜ HearsAll (now rules) (now plain) (now h) n (now numbers) ⌝ }
     ensures { λ s. ⌜ RecordedAs (now (rules .entry)) (now (h .entry)) n (now (numbers .exit)) s ⌝ }
 {
     let a = checks::check(h);
@@ -127,7 +141,7 @@ pub fn prepare(
     totals: &mut [[u64; 32]],
     numbers: &mut [u64],
 ) -> Sampled
-    requires { ⌜ Lent (now rules) (now totals) (now numbers) ⌝ }
+    requires { ⌜ Lent (now h) (now rules) (now totals) (now numbers) ⌝ }
     ensures { λ s. ⌜ PreparedAs (now (g .entry)) (now (h .entry)) (asked question) (now (rules .exit)) (now (totals .exit)) (now (numbers .exit)) s ⌝ }
 {
     let p = prepare::prepare(g, question.length, rules, totals);

@@ -1,6 +1,7 @@
 // *Left*: how many derivations there are, how many of them are heard, and how many are left.
 ghost use mathlib.Core.Path.{_≡_};
 ghost use Rattle.sampling.specs.Answers.{remainingSaid, remainingOf};
+ghost use Rattle.sampling.specs.Preparing.{Room};
 use crate::prepare;
 use crate::prepare::SampleRefusal;
 use crate::prepare::Sampled;
@@ -12,16 +13,17 @@ pub enum RemainingAnswer {
     NotRemaining(SampleRefusal),
 }
 
-pub fn remaining(g: &[u8], h: &[u8], n: u64) -> RemainingAnswer
+// With room for the heard numbers.
+fn remaining_in(g: &[u8], h: &[u8], n: u64, numbers: &mut [u64]) -> RemainingAnswer
+    requires { ⌜ Room (now h) (now numbers) ⌝ }
     ensures { λ r. ⌜ remainingSaid r ≡ remainingOf (now (g .entry)) (now (h .entry)) n ⌝ }
 {
     let byte_row = [0u8; 256];
     let mut rules = [byte_row; 4];
     let row = [0u64; 32];
     let mut totals = [row; 17];
-    let mut numbers = [0u64; 1000];
     let question = Question { length: n };
-    let p = prepare::prepare(g, h, question, &mut rules, &mut totals, &mut numbers);
+    let p = prepare::prepare(g, h, question, &mut rules, &mut totals, numbers);
     match p {
         Sampled::Refused(r) => RemainingAnswer::NotRemaining(r),
         Sampled::Ready(k) => {
@@ -30,4 +32,16 @@ pub fn remaining(g: &[u8], h: &[u8], n: u64) -> RemainingAnswer
             RemainingAnswer::Remaining(total, heard, total - heard)
         }
     }
+}
+
+// 2,004 bytes have 100 records at most: clearing room for 1,000 numbers is much of the time that a short history takes.
+pub fn remaining(g: &[u8], h: &[u8], n: u64) -> RemainingAnswer
+    ensures { λ r. ⌜ remainingSaid r ≡ remainingOf (now (g .entry)) (now (h .entry)) n ⌝ }
+{
+    if h.len() <= 2004 {
+        let mut numbers = [0u64; 100];
+        return remaining_in(g, h, n, &mut numbers);
+    }
+    let mut numbers = [0u64; 1000];
+    remaining_in(g, h, n, &mut numbers)
 }

@@ -2,7 +2,7 @@
 -- Assumes nothing.
 use native.Mathlib.Omega.{arith}
 use borrow.Author.Needs.{needs}
-use Rattle.sampling.proofs.Answering.{draw-sought, lent-made, prepared-case}
+use Rattle.sampling.proofs.Answering.{draw-sought, lent-made, prepared-case, room-all}
 use Rattle.listing.proofs.list.Statement.{statement}
 use Rattle.listing.proofs.list.Tie as tie
 
@@ -16,7 +16,7 @@ slice-aggregate-prepare-3 : tie.Need-slice-aggregate-prepare-3
 slice-aggregate-prepare-3 c = search needs
 
 prepare-requires : tie.Need-prepare-requires
-prepare-requires c κs = lent-made
+prepare-requires c κs = lent-made _ _ (room-all _)
 
 enum-known-p : tie.Need-enum-known-p
 enum-known-p c = search needs
@@ -46,13 +46,13 @@ part-print-list-end : tie.Need-part-print-list-end
 part-print-list-end c =
     let p = c .before .before .before .before in
     let q = p .before .before .before .before .before .prepare .ensures in
-    omega (arith, prepared-case q (p .p2 .given .1) .few, q .long)
+    let d = prepared-case q (p .p2 .given .1) in omega (arith, d .few, q .room (d .diary))
 
 print-list-requires : tie.Need-print-list-requires
 print-list-requires c κs =
     let p = c .before .before .before .before .before in
     let q = p .before .before .before .before .before .prepare .ensures in
-    draw-sought (prepared-case q (p .p2 .given .1)) (q .long)
+    draw-sought (prepared-case q (p .p2 .given .1)) (q .room)
 
 returns : tie.Need-returns
 returns c = search needs

@@ -13,6 +13,7 @@ use Rattle.charts.specs.Chart.{Clean}
 use Rattle.charts.specs.Ready.{Ready}
 use Rattle.charts.proofs.Mapping.{clean-start}
 use Rattle.charts.proofs.Placing.{room-low}
+use Rattle.history.proofs.Acceptance.{known}
 use Rattle.history.specs.Chain.{numbersFrom}
 use Rattle.sampling.proofs.Hearing.{Collecting, Read, collect-start, collect-end, collect-less, collect-room, collect-many, collect-none, collect-one}
 use Rattle.sampling.proofs.heard.collect.Statement.{statement}
@@ -51,8 +52,11 @@ abbrev plan : tie.Else1 Inv-loop μ-loop → List (List ℕ)
 plan c = now (start (at-loop c) .args .plan)
 
 -- there is room for its number
-room : (c : tie.Else1 Inv-loop μ-loop) → (at-loop c .loop .count < 1000) × (1000 ≤ length (at-loop c .loop .numbers))
-room c = let i = at-loop c .loop .inv .0 in (collect-room (plan c) i (read c), i .long)
+room : (c : tie.Else1 Inv-loop μ-loop) → (at-loop c .loop .count < 1000) × (at-loop c .loop .count < length (at-loop c .loop .numbers))
+room c =
+    let i = at-loop c .loop .inv .0 in
+    let few = collect-room (plan c) i (read c) in
+    (omega (arith, few, known _ (read c .diary) .sized .few), omega (arith, few, i .long))
 
 -- the rows stay as many
 rows : (c : tie.After-tell Inv-loop μ-loop) → length (c .tell .last .1 .1 .1 .1 .1 .1 .0) ≡ length (now (start (at-loop (heard c)) .args .totals))
@@ -143,7 +147,7 @@ mul-numbers : tie.Need-mul-numbers Inv-loop μ-loop
 mul-numbers c = omega (arith, room (heard (told (c .before .before .before))) .0)
 
 slice-write-numbers : tie.Need-slice-write-numbers Inv-loop μ-loop
-slice-write-numbers c = let r = room (heard (told (c .before .before .before))) in omega (arith, r .0, r .1)
+slice-write-numbers c = omega (arith, room (heard (told (c .before .before .before))) .1)
 
 add-count : tie.Need-add-count Inv-loop μ-loop
 add-count c = omega (arith, room (heard (told (c .before .before .before))) .0)

@@ -8,6 +8,8 @@ use borrow.Author.Needs.{needs}
 use denote.Ref.{now}
 use lib.ListN.{length}
 use Rattle.lists.proofs.Tables.{wide-made}
+use Rattle.history.specs.Layout.{recordsOf}
+use Rattle.history.proofs.Acceptance.{known}
 use Rattle.charts.proofs.Mapping.{plain-map}
 use Rattle.sampling.specs.Hearing.{Holds}
 use Rattle.sampling.specs.declared.heard.Collected.the-variants.{Numbers}
@@ -47,7 +49,7 @@ numbered c =
     let s = start a .pre in
     collected-is (s .0) (s .1) (a .copy .ensures) (p .copy2 .ensures) (r .ready .ensures) (k .collect .ensures) (c .before .c .given .1)
 
-lengthy : (c : tie.After-collect) → 1000 ≤ length (found c)
+lengthy : (c : tie.After-collect) → recordsOf (now (start (counts (copies (readied c))) .args .h)) ≤ length (found c)
 lengthy c = omega (arith, c .collect .kept .1 .1 .1 .1 .1 .1 .0, start (counts (copies (readied c))) .pre .0 .room)
 
 copy-requires : tie.Need-copy-requires
@@ -86,20 +88,20 @@ enum-told c = search needs
 enum-known-c : tie.Need-enum-known-c
 enum-known-c c = search needs
 
-sub-sort : tie.Need-sub-sort
-sub-sort c = search needs
+sub-order : tie.Need-sub-order
+sub-order c = search needs
 
-part-sort-start : tie.Need-part-sort-start
-part-sort-start c = search needs
+part-order-start : tie.Need-part-order-start
+part-order-start c = search needs
 
-part-sort-end : tie.Need-part-sort-end
-part-sort-end c = let n = numbered c in let l = lengthy (collected (c .before .before .before)) in omega (arith, n .1, l)
+part-order-end : tie.Need-part-order-end
+part-order-end c = let n = numbered c in let l = lengthy (collected (c .before .before .before)) in omega (arith, n .1, l)
 
-slice-aggregate-sort : tie.Need-slice-aggregate-sort
-slice-aggregate-sort c = search needs
-
-sort-requires : tie.Need-sort-requires
-sort-requires c κs = part-few _ _ (numbered (c .before .before) .1)
+order-requires : tie.Need-order-requires
+order-requires c κs =
+    let n = numbered (c .before) in
+    let d = start (counts (copies (readied (collected (c .before .before .before .before))))) .pre .0 .diary in
+    part-few (c .before .before .c .given .0 .0) 1000 (found (collected (c .before .before .before .before))) (omega (arith, n .1, known _ d .sized .few))
 
 same-length : tie.Need-same-length
 same-length c = search needs
@@ -121,14 +123,14 @@ same-length-3 c = search needs
 
 same-length-4 : tie.Need-same-length-4
 same-length-4 c =
-    let k = collected (c .before .before .before .before .before .before .before .before .before) in
+    let k = collected (c .before .before .before .before .before .before .before) in
     let a = counts (copies (readied k)) in
     omega (arith, k .collect .kept .1 .1 .1 .1 .1 .0, a .copy .ensures .long)
 
 returns-2 : tie.Need-returns-2
 returns-2 c =
-    let s = c .before .before .before in
-    record { hold = heard-sorted _ _ _ _ _ _ _ _ (numbered (s .before .before .before)) (s .sort .ensures .0) }
+    let s = c .before .before in
+    record { hold = heard-sorted _ _ _ _ _ _ _ _ (numbered (s .before .before)) (s .order .ensures) }
 
 pub hear-in-spec : {M : Type 1} → statement M
 hear-in-spec =
@@ -143,11 +145,10 @@ hear-in-spec =
     collect-requires
     enum-told
     enum-known-c
-    sub-sort
-    part-sort-start
-    part-sort-end
-    slice-aggregate-sort
-    sort-requires
+    sub-order
+    part-order-start
+    part-order-end
+    order-requires
     same-length
     same-length-2
     returns

@@ -56,7 +56,7 @@ returns-2 c =
     let p = prepared e in
     let q = p .prepare .ensures in
     let case = e .enum-told .given .1 in
-    recorded-prepared _ _ _ (prepared-none q case) (q .ready case) (omega (arith, k .records .kept .1 .1 .1 .1 .0, start p .pre .room)) (k .records .ensures)
+    recorded-prepared _ _ _ (prepared-none q case) (q .ready case) (λ d. omega (arith, k .records .kept .1 .1 .1 .1 .0, start p .pre .room d)) (k .records .ensures)
 
 pub prepare-spec : {M : Type 1} → statement M
 prepare-spec =

@@ -33,7 +33,7 @@ hear-requires : tie.Need-hear-requires
 hear-requires c κs =
     let a = c .before .before .before in
     let p = start (a .before .before) .pre in
-    record { counted = p .counted; diary = diary a .0; room = p .room }
+    record { counted = p .counted; diary = diary a .0; room = p .room (diary a .0) }
 
 returns-2 : tie.Need-returns-2
 returns-2 c =

@@ -1,80 +1,35 @@
--- `remaining` meets its contract: where preparing is refused so is the call; else the figures are T, how many are heard, and the difference.
+-- `remaining` meets its contract: either array has room for the numbers.
 -- Assumes nothing.
 use borrow.Author.Needs.{needs}
-use denote.Ref.{now}
-use Rattle.sampling.specs.Question.{plainly}
-use Rattle.sampling.specs.Preparing.{Drawable}
-use Rattle.sampling.proofs.Answering.{heard-few, left-counted, left-refused, lent-made, prepared-case, sample-some}
+use Rattle.sampling.proofs.Answering.{room-all, room-short}
 use Rattle.sampling.proofs.remaining.remaining.Statement.{statement}
 use Rattle.sampling.proofs.remaining.remaining.Tie as tie
 
-abbrev start : tie.After-prepare → tie.Start
-start c = c .before .before .before .before .before .before
+slice-aggregate-remaining-in : tie.Need-slice-aggregate-remaining-in
+slice-aggregate-remaining-in c = search needs
 
-abbrev called : tie.After-p2 → tie.After-prepare
-called c = c .before .before .before .before .before
-
-drawable : (c : tie.After-p2)
-    → let s = start (called c) .args in
-    let last = called c .prepare .last in
-    Drawable (now (s .g)) (now (s .h)) (plainly (s .n)) (last .1 .1 .1 .0) (last .1 .1 .1 .1 .0) (last .1 .1 .1 .1 .1 .0) (c .p2 .given .0 .0)
-drawable c = prepared-case (called c .prepare .ensures) (c .p2 .given .1)
-
-slice-aggregate-prepare : tie.Need-slice-aggregate-prepare
-slice-aggregate-prepare c = search needs
-
-slice-aggregate-prepare-2 : tie.Need-slice-aggregate-prepare-2
-slice-aggregate-prepare-2 c = search needs
-
-slice-aggregate-prepare-3 : tie.Need-slice-aggregate-prepare-3
-slice-aggregate-prepare-3 c = search needs
-
-prepare-requires : tie.Need-prepare-requires
-prepare-requires c κs = lent-made
-
-enum-known-p : tie.Need-enum-known-p
-enum-known-p c = search needs
-
-enum-known-p-2 : tie.Need-enum-known-p-2
-enum-known-p-2 c = search needs
-
-slice-aggregate-total : tie.Need-slice-aggregate-total
-slice-aggregate-total c = search needs
-
-slice-aggregate-total-2 : tie.Need-slice-aggregate-total-2
-slice-aggregate-total-2 c = search needs
-
-total-requires : tie.Need-total-requires
-total-requires c κs = drawable (c .before .before .before) .tabled .counted
-
-sub-t27 : tie.Need-sub-t27
-sub-t27 c =
-    let p = c .before .before .before .before in
-    heard-few _ _ _ (drawable p) (called p .prepare .ensures .long) _ (c .total .ensures)
+remaining-in-requires : tie.Need-remaining-in-requires
+remaining-in-requires c κs = room-short _ (c .before .if1 .taken)
 
 returns : tie.Need-returns
-returns c =
-    let p = c .before in
-    left-refused _ _ _ _ (prepared-case (p .before .before .before .before .before .prepare .ensures) (p .p .given .1)) (sample-some (p .p .given .0 .0))
+returns c = search needs
+
+slice-aggregate-remaining-in-2 : tie.Need-slice-aggregate-remaining-in-2
+slice-aggregate-remaining-in-2 c = search needs
+
+remaining-in-requires-2 : tie.Need-remaining-in-requires-2
+remaining-in-requires-2 c κs = room-all _
 
 returns-2 : tie.Need-returns-2
-returns-2 c =
-    let p = c .before .before .before .before in
-    left-counted _ _ _ (drawable p) (called p .prepare .ensures .long) _ (c .total .ensures)
+returns-2 c = search needs
 
 pub remaining-spec : {M : Type 1} → statement M
 remaining-spec =
     tie.close
     (tie.spec
-    slice-aggregate-prepare
-    slice-aggregate-prepare-2
-    slice-aggregate-prepare-3
-    prepare-requires
-    enum-known-p
-    enum-known-p-2
-    slice-aggregate-total
-    slice-aggregate-total-2
-    total-requires
-    sub-t27
+    slice-aggregate-remaining-in
+    remaining-in-requires
     returns
+    slice-aggregate-remaining-in-2
+    remaining-in-requires-2
     returns-2)
