@@ -49,6 +49,12 @@ rows-pass ((t, n) ∷ a) b h e =
     let q = row-clear n a t (ltb-true 0 n (and-left (ltb 0 n) (numbered a) h)) e in
     row-passed n (a ++ b) (q .0) ∙ rows-pass a b (and-right (ltb 0 n) (numbered a) h) (q .1)
 
+-- two lists of which the same applies still do so behind a third
+pub rows-tail : (a b c : List Row) → firstThatApplies b ≡ firstThatApplies c → firstThatApplies (a ++ b) ≡ firstThatApplies (a ++ c)
+unfolding firstThatApplies
+rows-tail [] b c e = e
+rows-tail ((t, n) ∷ a) b c e = rw (rows-tail a b c e)
+
 -- where nothing of two lists applies, nothing of either does
 pub rows-clear : (a b : List Row) → numbered a ≡ true → firstThatApplies (a ++ b) ≡ 0 → (firstThatApplies a ≡ 0) × (firstThatApplies b ≡ 0)
 unfolding firstThatApplies

@@ -5,23 +5,19 @@ use mathlib.Core.Path.{_≡_, refl, ap, _∙_}
 use mathlib.Core.List.{List, [], _∷_, _++_, map, Memᴰ·of-map}
 use Prim.Native.Nat.{ℕ, zero, suc, _-_, _≤_}
 use native.Mathlib.Omega.{arith}
-use lib.ListN.{length, length-append}
+use lib.ListN.{length}
 use Rattle.lists.specs.Joined.{_∈_, concatMap, combine}
 use Rattle.lists.proofs.Sums.{map-concat, map-combine, concat-append}
 use Rattle.grammar.specs.Chains.{Rule, word, pair, wordsOf, pairsOf}
-use Rattle.grammar.specs.Trees.{Tree, leaf, node, size, sentence}
+use Rattle.grammar.specs.Trees.{node, sentence}
 use Rattle.grammar.specs.FullList.{Choice, one, two, splits, choicesFrom, expand, choices, trees}
-use Rattle.grammar.proofs.Enumeration.{trees-eq, sound, derives-size}
+use Rattle.grammar.proofs.Enumeration.{trees-eq, sound, sentence-size, derives-size}
 use Rattle.counting.specs.Sentences.{sentences, splitList}
 
 -- what the derivations that begin with a choice say
 said : (list : ℕ → ℕ → List (List ℕ)) → Choice → List (List ℕ)
 said list (one i w) = (w ∷ []) ∷ []
 said list (two i B k C j) = combine _++_ (list B k) (list C j)
-
-sentence-size : (t : Tree) → length (sentence t) ≡ size t
-sentence-size (leaf i w) = refl
-sentence-size (node i l r) = omega (arith, length-append (sentence l) (sentence r), sentence-size l, sentence-size r)
 
 module _ (list : ℕ → ℕ → List (List ℕ)) where
   said-splits : (i B C k j : ℕ) → concatMap (said list) (splits i B C k j) ≡ splitList list B C k j

@@ -5,13 +5,18 @@ use mathlib.Core.Logic.{_↔_}
 use mathlib.Core.List.{List, List·Memᴰ·head, List·Memᴰ·eq-of-singleton}
 use Prim.Native.Nat.{ℕ, zero, suc, _+_, _≤_, _<_}
 use native.Mathlib.Omega.{arith}
+use lib.ListN.{length, length-append}
 use Rattle.lists.specs.Joined.{_∈_, concatMap}
 use Rattle.lists.proofs.Sums.{concat-ext}
 use Rattle.lists.proofs.Members.{∈-concat, concat-∈, ∈-combine, combine-∈}
 use Rattle.grammar.specs.Chains.{Rule}
-use Rattle.grammar.specs.Trees.{Tree, node, size, Derives, by-word, by-pair}
+use Rattle.grammar.specs.Trees.{Tree, leaf, node, size, sentence, Derives, by-word, by-pair}
 use Rattle.grammar.specs.FullList.{Choice, one, two, expand, choices, treesTo, trees}
 use Rattle.grammar.proofs.Choices.{Begins, choice-begins, choice-one, choice-two}
+
+pub sentence-size : (t : Tree) → length (sentence t) ≡ size t
+sentence-size (leaf i w) = refl
+sentence-size (node i l r) = omega (arith, length-append (sentence l) (sentence r), sentence-size l, sentence-size r)
 
 -- a choice asks only for shorter lists
 expand-ext : (rs : List Rule) (i m : ℕ) (f g : ℕ → ℕ → List Tree) (c : Choice) → Begins rs i m c

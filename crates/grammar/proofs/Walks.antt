@@ -11,15 +11,14 @@ use native.Mathlib.Omega.{arith}
 use lib.ListN.{length}
 use borrow.Author.Tests.{eq-eqb}
 use Rattle.lists.specs.Joined.{_∈_, upFrom}
-use Rattle.lists.specs.Ordered.{Distinct}
-use Rattle.lists.specs.Linked.{isNumber, Walk}
+use Rattle.lists.specs.Linked.{isNumber}
 use Rattle.lists.proofs.Members.{concat-∈, upFrom-∈, ∈-upFrom}
 use Rattle.lists.proofs.Searches.{times-few, ∈-times, times-distinct, times-concat}
 use Rattle.lists.proofs.Linked.{zero-none, above-none, inside-one, one-inside, met-none, met-inside, met-free, met-walk}
 use Rattle.grammar.specs.declared.cursor.Step.{Step}
 use Rattle.grammar.specs.declared.cursor.Step.the-variants.{Word, Pair, End}
 use Rattle.grammar.specs.Layout.{byteAt, nonterminals, words, rules, headOf, kindOf, aOf, bOf, nextOf}
-use Rattle.grammar.specs.Chains.{Rule, word, pair, ruleOf, numbersFrom, chainNumbers, met, rest, wordsOf, pairsOf}
+use Rattle.grammar.specs.Chains.{Rule, word, pair, ruleOf, numbersFrom, chainNumbers, met, rest, wordsOf, pairsOf, Chained}
 use Rattle.grammar.specs.Refusals.{Accepted}
 use Rattle.grammar.specs.Checks.{Readable}
 use Rattle.grammar.specs.Steps.{handed, stepAt, yielded}
@@ -48,12 +47,6 @@ module _ (g : List ℕ) (ok : Known g) where
       let q = concat-∈ (chainNumbers g) (upFrom 0 (nonterminals g)) m in
       let inside = upFrom-∈ 0 (nonterminals g) (q .1) in
       met-free (nextOf g) (rules g) (rules g + 1) (headOf g (q .0)) r (chain-over (q .0) (omega arith)) (q .2)
-
--- every chain's walk ends (`Walk` sets no bound on its length), no rule is met twice on them, and every rule is met
-pub record Chained (g : List ℕ) : Type 0 where
-  pub over : (A : ℕ) → A < nonterminals g → Walk (nextOf g) (rules g) (headOf g A) (chainNumbers g A)
-  pub once : Distinct (met g)
-  pub all : (r : ℕ) → 1 ≤ r → r ≤ rules g → r ∈ met g
 
 pub chained : (g : List ℕ) → Accepted g → Chained g
 chained g ok =

@@ -2,10 +2,11 @@
 -- Assumes nothing: these are definitions.
 use mathlib.Core.Bool.{cond}
 use mathlib.Core.List.{List, [], _∷_, map}
-use Prim.Native.Nat.{ℕ, _+_}
+use Prim.Native.Nat.{ℕ, _+_, _≤_, _<_}
 use lib.Dec.{eqb}
-use Rattle.lists.specs.Joined.{concatMap, upFrom}
-use Rattle.lists.specs.Linked.{metFrom}
+use Rattle.lists.specs.Joined.{_∈_, concatMap, upFrom}
+use Rattle.lists.specs.Ordered.{Distinct}
+use Rattle.lists.specs.Linked.{metFrom, Walk}
 use Rattle.grammar.specs.Layout.{nonterminals, rules, headOf, kindOf, aOf, bOf, nextOf}
 
 -- a word rule derives the word w; a pair rule derives the nonterminals B and C, one after the other
@@ -49,3 +50,10 @@ abbrev pub pairsOf : List Rule → List (ℕ × ℕ)
 pairsOf [] = []
 pairsOf (word w ∷ rs) = pairsOf rs
 pairsOf (pair B C ∷ rs) = (B, C) ∷ pairsOf rs
+
+-- What holds of the chains of an accepted grammar: every walk along one ends (`Walk` sets no bound on its length), and "every rule stands
+-- on just one chain", once.
+pub record Chained (g : List ℕ) : Type 0 where
+  pub over : (A : ℕ) → A < nonterminals g → Walk (nextOf g) (rules g) (headOf g A) (chainNumbers g A)
+  pub once : Distinct (met g)
+  pub all : (r : ℕ) → 1 ≤ r → r ≤ rules g → r ∈ met g

@@ -30,6 +30,11 @@ module _ {X : Type 0} where
   At-getD (y ∷ l) zero x d h = sym h
   At-getD (y ∷ l) (suc i) x d h = At-getD l i x d h
 
+  pub At-inside : (l : List X) (i : ℕ) (x : X) → At l i x → i < length l
+  At-inside [] i x h = absurd h
+  At-inside (y ∷ l) zero x h = omega arith
+  At-inside (y ∷ l) (suc i) x h = omega (arith, At-inside l i x h)
+
 module _ {X Y : Type 0} where
   pub ∈-concat : {y : Y} (f : X → List Y) (x : X) (l : List X) → x ∈ l → y ∈ f x → y ∈ concatMap f l
   ∈-concat f x (z ∷ l) (List·Memᴰ·head e) m = Memᴰ·append-left (concatMap f l) (rw e at m)

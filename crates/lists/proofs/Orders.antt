@@ -4,7 +4,7 @@
 use mathlib.Core.Path.{_≡_, refl, sym, _∙_}
 use mathlib.Core.Logic.{inl, inr, _≢_}
 use mathlib.Core.List.{List, [], _∷_, _++_, map, List·Memᴰ·head, List·Memᴰ·tail, List·Memᴰ·cases-cons, List·Memᴰ·append-cases, List·Memᴰ·eq-of-singleton, List·Memᴰ·not-nil, Memᴰ·of-map}
-use Prim.Native.Nat.{ℕ, zero, suc, _<_}
+use Prim.Native.Nat.{ℕ, zero, suc, _≤_, _<_}
 use native.Mathlib.Omega.{arith}
 use native.Mathlib.Decide.{decLt}
 use lib.ListN.{length, getD, take}
@@ -68,6 +68,37 @@ module _ {X : Type 0} where
   same-few [] d f = omega arith
   same-few (x ∷ []) d f = omega arith
   same-few (x ∷ y ∷ l) (more h d) f = absurd (h y (List·Memᴰ·head refl) (f x y (List·Memᴰ·head refl) (List·Memᴰ·tail (List·Memᴰ·head refl))))
+
+  -- ---- how many
+
+  -- a list without one of its elements still has every other
+  without : {x : X} (l : List X) → x ∈ l → (r : List X) × (length l ≡ suc (length r)) × ((y : X) → y ∈ l → y ≢ x → y ∈ r)
+  without {x} (z ∷ l) (List·Memᴰ·head e) = (l, refl, λ y m n. go y n m)
+    where
+      go : (y : X) → y ≢ x → y ∈ (z ∷ l) → y ∈ l
+      go y n (List·Memᴰ·head f) = absurd (n (f ∙ sym e))
+      go y n (List·Memᴰ·tail m) = m
+  without {x} (z ∷ l) (List·Memᴰ·tail k) = let q = without l k in (z ∷ q .0, omega (arith, q .1), λ y m n. go (q .0) y (λ m. q .2 y m n) m)
+    where
+      go : (r : List X) (y : X) → (y ∈ l → y ∈ r) → y ∈ (z ∷ l) → y ∈ (z ∷ r)
+      go r y f (List·Memᴰ·head e) = List·Memᴰ·head e
+      go r y f (List·Memᴰ·tail m) = List·Memᴰ·tail (f m)
+
+  pub distinct-le : (l r : List X) → Distinct l → ((x : X) → x ∈ l → x ∈ r) → length l ≤ length r
+  distinct-le [] r d f = omega arith
+  distinct-le (x ∷ l) r (more h d) f =
+      let q = without r (f x (List·Memᴰ·head refl)) in
+      omega (arith, q .1, distinct-le l (q .0) d (λ y m. q .2 y (f y (List·Memᴰ·tail m)) (λ e. h y m (sym e))))
+
+  pub exactly-unique : {P : X → Type 0} {m n : ℕ} → Exactly m P → Exactly n P → m ≡ n
+  exactly-unique a b =
+      omega (
+        arith,
+        a .many,
+        b .many,
+        distinct-le (a .listed) (b .listed) (a .once) (λ x i. b .all x .0 (a .all x .1 i)),
+        distinct-le (b .listed) (a .listed) (b .once) (λ x i. a .all x .0 (b .all x .1 i)),
+      )
 
 module _ {X Y : Type 0} where
   pub pairwise-concat : (S : X → X → Type 0) (R : Y → Y → Type 0) (f : X → List Y) (l : List X) → Pairwise S l

@@ -1,12 +1,12 @@
--- The entry at an index of `++`, replicate, set, map and a run of numbers.
+-- The entry at an index of `++`, replicate, set, map and a run of numbers; and where equal lists part.
 -- Assumes nothing.
-use mathlib.Core.Path.{_≡_, refl, ap, _∙_}
+use mathlib.Core.Path.{_≡_, refl, sym, ap, _∙_}
 use mathlib.Core.List.{List, [], _∷_, _++_, map}
 use Prim.Native.Nat.{ℕ, zero, suc, _+_, _-_, _≤_, _<_}
 use native.Mathlib.Omega.{arith}
 use native.Mathlib.Numerals.{add-one}
-use lib.Seq.{getD-append-add}
-use lib.ListN.{length, getD, set, replicate, length-map, List·getD-append}
+use lib.Seq.{getD-append-add, take-at, drop-at}
+use lib.ListN.{length, getD, set, take, drop, replicate, length-map, List·getD-append}
 use Rattle.lists.specs.Joined.{upFrom}
 use Rattle.lists.proofs.Sums.{length-upFrom}
 
@@ -81,3 +81,8 @@ set-le (x ∷ l) zero v b h k zero = h
 set-le (x ∷ l) zero v b h k (suc q) = k (suc q)
 set-le (x ∷ l) (suc i) v b h k zero = k 0
 set-le (x ∷ l) (suc i) v b h k (suc q) = set-le l i v b h (λ j. k (suc j)) q
+
+-- equal lists part at n into equal lists
+pub parted : {X : Type 0} (n : ℕ) (a b c d : List X) → length a ≡ n → length c ≡ n → a ++ b ≡ c ++ d → (a ≡ c) × (b ≡ d)
+parted n a b c d h k e =
+    (sym (take-at a b n h) ∙ ap (take n) e ∙ take-at c d n k, sym (drop-at a b n h) ∙ ap (drop n) e ∙ drop-at c d n k)

@@ -15,7 +15,7 @@ use Rattle.lists.specs.Joined.{_∈_, sumOver, concatMap, upFrom}
 use Rattle.lists.specs.Ordered.{Distinct, none, more}
 use Rattle.lists.specs.Tickets.{ahead, owner, Owns}
 use Rattle.lists.specs.Searched.{bit, howMany, placeOf, times}
-use Rattle.lists.proofs.Sums.{sum-append, sum-ext, sum-map, sum-plus, sum-const, sum-one, sum-le, sum-single, length-upFrom}
+use Rattle.lists.proofs.Sums.{sum-append, sum-map, sum-plus, sum-const, sum-one, sum-le, sum-single, length-upFrom}
 use Rattle.lists.proofs.Tests.{bit-le}
 use Rattle.lists.proofs.Owners.{owned, owns-place, place-inside, owns-only, owns-ext, ahead-map, owner-at}
 
@@ -159,25 +159,6 @@ distinct-times (x ∷ l) (more f s) r =
         elim (decLe 1 (times r l)) [
           | yes h ↦ absurd (n (∈-times r l h))
           | no k ↦ omega arith
-        ]
-
--- two lists of the same values, none of them twice in either, are equally long
-pub distinct-length : (n : ℕ) (a b : List ℕ) → Distinct a → Distinct b → ((x : ℕ) → x ∈ b → x < n)
-    → ((x : ℕ) → x ∈ a → x ∈ b) → ((x : ℕ) → x ∈ b → x ∈ a) → length a ≡ length b
-distinct-length n a b da db h f g =
-    sym (times-sum 0 n a (λ x m. omega (arith, h x (f x m))))
-    ∙ sum-ext (λ r. times r a) (λ r. times r b) (upFrom 0 n) (λ r m. once r)
-    ∙ times-sum 0 n b (λ x m. omega (arith, h x m))
-  where
-    once : (r : ℕ) → times r a ≡ times r b
-    once r =
-        elim (decLe 1 (times r a)) [
-          | yes l ↦ omega (arith, distinct-times a da r, distinct-times b db r, times-∈ r b (f r (∈-times r a l)))
-          | no l ↦
-              elim (decLe 1 (times r b)) [
-                | yes k ↦ absurd (l (times-∈ r a (g r (∈-times r b k))))
-                | no k ↦ omega arith
-              ]
         ]
 
 module _ {X : Type 0} where

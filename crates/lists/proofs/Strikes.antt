@@ -53,6 +53,15 @@ module _ {X : Type 0} where
       go true k = more (λ y m. f y (keep-∈ P l y m .0)) k
       go false k = k
 
+  pub keep-map : {Y : Type 0} (f : X → Y) (P : Y → Bool) (l : List X) → keep P (map f l) ≡ map f (keep (λ x. P (f x)) l)
+  keep-map f P [] = refl
+  keep-map f P (x ∷ l) = go (P (f x)) (keep-map f P l)
+    where
+      go : (b : Bool) → keep P (map f l) ≡ map f (keep (λ x. P (f x)) l)
+          → cond b (f x ∷ keep P (map f l)) (keep P (map f l)) ≡ map f (cond b (x ∷ keep (λ x. P (f x)) l) (keep (λ x. P (f x)) l))
+      go true e = rw e
+      go false e = e
+
   pub keep-ext : (P Q : X → Bool) (l : List X) → ((x : X) → x ∈ l → P x ≡ Q x) → keep P l ≡ keep Q l
   keep-ext P Q [] h = refl
   keep-ext P Q (x ∷ l) h = rw (h x (List·Memᴰ·head refl), keep-ext P Q l (λ y m. h y (List·Memᴰ·tail m)))

@@ -7,13 +7,13 @@ use mathlib.Core.Path.{_≡_, refl, sym, ap, _∙_}
 use mathlib.Core.Logic.{_↔_, inl, inr}
 use mathlib.Core.Bool.{Bool, true, false, cond}
 use mathlib.Core.List.{List, [], _∷_, _++_, map, List·Memᴰ·head, List·Memᴰ·tail, List·Memᴰ·not-nil, List·Memᴰ·cases-cons, Memᴰ·append-right}
-use Prim.Native.Nat.{ℕ, zero, suc, _+_, _≤_, _<_}
+use Prim.Native.Nat.{ℕ, zero, suc, _+_, _-_, _≤_, _<_}
 use native.Mathlib.Omega.{arith}
 use native.Mathlib.Decide.{decLt}
 use borrow.Author.Tests.{le-leb, lt-leb}
 use lib.Seq.{ext-getD}
 use lib.ListN.{length, getD, replicate, take, length-map, List·getD-eq-default}
-use Rattle.lists.specs.Joined.{_∈_, sumOver, upFrom}
+use Rattle.lists.specs.Joined.{_∈_, At, sumOver, upFrom}
 use Rattle.lists.specs.Ordered.{Pairwise, none, more}
 use Rattle.lists.specs.Tickets.{ahead, owner, place, tickets, Owns, unstruck, struckFrom, skipOver, StruckAs}
 use Rattle.lists.specs.Struck.{keep, numbered}
@@ -144,6 +144,20 @@ module _ {X Y : Type 0} (f : X → Y) (P : Y → Bool) (v : Y → ℕ) where
 -- ---- what the draws find
 
 module _ {X : Type 0} where
+  -- what stands at a place of a list stands in the list of its places, and nothing else does
+  pub numbered-∈ : (k : ℕ) (l : List X) {e : ℕ × X} → e ∈ numbered k l → (k ≤ e .0) × At l (e .0 - k) (e .1)
+  numbered-∈ k (x ∷ l) {e} (List·Memᴰ·head f) =
+      let z : k - k ≡ 0 = omega arith in rw f (omega arith, rw z refl)
+  numbered-∈ k (x ∷ l) {e} (List·Memᴰ·tail m) =
+      let q = numbered-∈ (suc k) l m in
+      let z : e .0 - k ≡ suc (e .0 - suc k) = omega (arith, q .0) in
+      (omega (arith, q .0), rw z (q .1))
+
+  pub ∈-numbered : (k : ℕ) (l : List X) (i : ℕ) (x : X) → At l i x → (k + i, x) ∈ numbered k l
+  ∈-numbered k [] i x h = absurd h
+  ∈-numbered k (y ∷ l) zero x h = let z : k + 0 ≡ k = omega arith in rw (z, h) (List·Memᴰ·head refl)
+  ∈-numbered k (y ∷ l) (suc i) x h = let z : k + suc i ≡ suc k + i = omega arith in rw z (List·Memᴰ·tail (∈-numbered (suc k) l i x h))
+
   numbered-at : (k : ℕ) (l : List X) (i : ℕ) (z : X) (e : ℕ × X) → i < length l → getD (numbered k l) i e ≡ (k + i, getD l i z)
   numbered-at k [] i z e h = absurd (omega arith)
   numbered-at k (x ∷ l) zero z e h = let q : k + 0 ≡ k = omega arith in rw q

@@ -4,16 +4,17 @@
 use mathlib.Core.Path.{_≡_, refl, sym, ap, _∙_}
 use mathlib.Core.Bool.{Bool, true, false, cond, not, _&&_, _||_, or-false, false≢true}
 use mathlib.Core.Logic.{_⊎_, inl, inr}
-use mathlib.Core.List.{List, [], _∷_, List·Memᴰ·head, List·Memᴰ·tail}
+use mathlib.Core.List.{List, [], _∷_, map, List·Memᴰ·head, List·Memᴰ·tail, Memᴰ·map}
 use Prim.Native.Nat.{ℕ, zero, suc, _-_, _*_, _≤_, _<_}
 use native.Mathlib.Omega.{arith}
 use native.Mathlib.Decide.{ℕ-discrete}
-use borrow.Author.Tests.{leb-true, le-leb, lt-leb, eqb-true, eq-eqb, ne-eqb, not-false}
+use borrow.Author.Tests.{leb-true, le-leb, lt-leb, eqb-true, eqb-false, eq-eqb, ne-eqb, not-false}
 use lib.Dec.{leb, eqb}
 use lib.ListN.{length, getD, set}
 use lib.Seq.{getD-set-same, getD-set-other}
-use Rattle.lists.specs.Joined.{_∈_}
-use Rattle.lists.specs.Searched.{within, bit, someOf, someBelow, someTo, same}
+use Rattle.lists.specs.Joined.{_∈_, At}
+use Rattle.lists.specs.Searched.{within, bit, someOf, repeats, someBelow, someTo, same}
+use Rattle.lists.proofs.Members.{At-∈}
 
 pub bit-le : (b : Bool) → bit b ≤ 1
 bit-le true = omega arith
@@ -64,6 +65,12 @@ pub both-ways : (a b : Bool) → (a ≡ true → b ≡ true) → (b ≡ true →
 both-ways true b f g = sym (f refl)
 both-ways false true f g = g refl
 both-ways false false f g = refl
+
+-- and so are two that fail together
+pub both-fail : (a b : Bool) → (a ≡ false → b ≡ false) → (b ≡ false → a ≡ false) → a ≡ b
+both-fail false b f g = sym (f refl)
+both-fail true false f g = g refl
+both-fail true true f g = refl
 
 -- ---- a number within bounds
 
@@ -137,6 +144,23 @@ module _ {X : Type 0} where
                 rw (e, getD-set-same stamps s stamp 0 h, eq-eqb stamp stamp refl, eq-eqb s s refl) (sym (or-true (eqb (getD stamps s 0) stamp) true refl))
             | no n ↦ rw (getD-set-other stamps s p stamp 0 n, ne-eqb s p (λ e. n (sym e))) (sym (or-false (eqb (getD stamps p 0) stamp)))
           ]
+
+-- ---- marks that don't repeat
+
+module _ {X : Type 0} where
+  not-there : (f : X → ℕ) (l : List X) (n i : ℕ) (x : X) → someOf (eqb n) (map f l) ≡ false → At l i x → f x ≡ n → ⊥
+  not-there f l n i x e a h = eqb-false n (f x) (none-∈ (eqb n) (map f l) e (f x) (Memᴰ·map f (At-∈ l i a))) (sym h)
+
+  -- where no two elements have one mark, elements with one mark stand at one place
+  pub one-place : (f : X → ℕ) (l : List X) (i j : ℕ) (x y : X) → repeats (map f l) ≡ false → At l i x → At l j y → f x ≡ f y → i ≡ j
+  one-place f [] i j x y e a b h = absurd a
+  one-place f (z ∷ l) zero zero x y e a b h = refl
+  one-place f (z ∷ l) zero (suc j) x y e a b h =
+      absurd (not-there f l (f z) j y (or-left (someOf (eqb (f z)) (map f l)) (repeats (map f l)) e) b (sym h ∙ ap f a))
+  one-place f (z ∷ l) (suc i) zero x y e a b h =
+      absurd (not-there f l (f z) i x (or-left (someOf (eqb (f z)) (map f l)) (repeats (map f l)) e) a (h ∙ ap f b))
+  one-place f (z ∷ l) (suc i) (suc j) x y e a b h =
+      ap suc (one-place f l i j x y (or-right (someOf (eqb (f z)) (map f l)) (repeats (map f l)) e) a b h)
 
 -- ---- some number below a bound
 

@@ -1,9 +1,10 @@
 -- The demands hold. Demand 1's part on refusals is how every answer is made; demands 2 and 3 and the examples stand in the crates `ranking`
 -- and `sampling`.
 -- Assumes nothing.
-use mathlib.Core.Path.{_≡_, refl, ap, _∙_}
+use mathlib.Core.Path.{_≡_, refl, sym, ap, _∙_}
 use mathlib.Core.List.{List, [], _∷_, _++_}
 use Prim.Native.Nat.{ℕ, suc}
+use native.Mathlib.Omega.{arith}
 use lib.ListN.{length, drop, replicate}
 use Rattle.answers.specs.Answer.{Row, Answer, firstThatApplies, zeros, answerOf}
 use Rattle.answers.proofs.Refusals.{answer-number, answer-refused}
@@ -14,16 +15,23 @@ use Rattle.grammar.specs.Answers.{checkGrammar}
 use Rattle.counting.specs.Prepared.{preparedRows}
 use Rattle.counting.specs.Answers.{countOf}
 use Rattle.history.specs.Layout.{recordsOf}
+use Rattle.history.specs.Refusals as history
 use Rattle.history.specs.Refusals.{historyRows}
 use Rattle.history.specs.Writing.{appended}
 use Rattle.history.specs.Answers.{checkHistory, appendRows, appendOf}
 use Rattle.ranking.specs.Answers.{totalOf, entryOf, numberOf, unrankRows, unrankOf, rankRows, rankOf}
 use Rattle.ranking.proofs.Demand2.{demand-2}
+use Rattle.sampling.specs.Question.{plainly}
+use Rattle.sampling.specs.Demand3.{Single, Premises}
 use Rattle.sampling.specs.Unheard.{heardOf, leftOf}
 use Rattle.sampling.specs.Answers.{drawn, remainingRows, remainingTo, drawRows, drawTo}
-use Rattle.sampling.proofs.Premises.{premises}
+use Rattle.sampling.proofs.Premises.{counts-small, premises}
 use Rattle.sampling.proofs.Demand3.{demand-3, once, alike}
-use Rattle.sampling.proofs.Examples.{examples, example-premises}
+use Rattle.sampling.proofs.Examples.{examples, example-premises, logged-twice}
+use Rattle.matrix.specs.Table.{table}
+use Rattle.matrix.proofs.Rules.{is-accepted}
+use Rattle.matrix.proofs.Counts.{sentences-of-five, no-others}
+use Rattle.matrix.proofs.Single.{no-two, counts-fit}
 use Rattle.pumpfennel.specs.Demands.{Refuses, Demand1, Demands}
 
 -- an answer by its list of refusals
@@ -47,8 +55,23 @@ demand-1 = record {
   give = λ g n d out. refuses (unrankRows g n d out) (totalOf g n ∷ []) out (entryOf g n d ++ drop n out) refl;
   number = λ g s. refuses (rankRows g s) (numberOf g s ∷ totalOf g (length s) ∷ []) [] [] refl;
   left = λ g h a. refuses (remainingRows g h a) (totalOf g (a .length) ∷ heardOf g h a ∷ leftOf g h a ∷ []) [] [] refl;
-  draw = λ g h a q out. refuses (drawRows g h a q out) (leftOf g h a ∷ drawn g h a q .0 ∷ []) out (sentence (drawn g h a q .1) ++ drop (a .length) out) refl;
+  draw = λ g h a q out. refuses (drawRows g h a q out) (leftOf g h a ∷ drawn g h a q .number ∷ []) out (sentence (drawn g h a q .tree) ++ drop (a .length) out) refl;
   log = λ h s. refuses (appendRows h s) (suc (recordsOf h) ∷ []) h (appended h s) refl;
+}
+
+-- ---- the house matrix bank
+
+house-single : (s : List ℕ) → Single table s
+house-single s t u dt du st su = no-two (length s) (length s) t u dt du (st ∙ sym su)
+
+house-premises : (h : List ℕ) → history.Accepted h → Premises table h (plainly 5)
+house-premises h diary = record {
+  bank = is-accepted;
+  some = omega arith;
+  short = omega arith;
+  counts = counts-small table 5 .0 counts-fit;
+  diary = diary;
+  single = λ s l e. house-single s;
 }
 
 pub demands : Demands
@@ -60,5 +83,8 @@ demands = record {
   alike = λ g h h′ a. alike g h h′ (a .length);
   premises = λ g h a. premises g h (a .length);
   instance = example-premises;
+  logged-twice = logged-twice;
+  house = record { accepted = is-accepted; five = sentences-of-five; others = no-others; single = house-single };
+  house-once = λ h diary. once table h 5 (house-premises h diary) (λ s l. house-single s);
   examples = examples;
 }

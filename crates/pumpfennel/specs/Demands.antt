@@ -2,23 +2,26 @@
 -- answers just what its definition says, and requires nothing; that no call faults or runs on is proved of the code itself.
 -- Assumes nothing: these are definitions.
 use mathlib.Core.Path.{_≡_}
-use mathlib.Core.Logic.{_↔_}
+use mathlib.Core.Logic.{_↔_, _≢_}
 use mathlib.Core.List.{List, []}
 use Prim.Native.Nat.{ℕ, _≤_, _<_}
 use lib.ListN.{length, replicate}
 use Rattle.answers.specs.Answer.{Row, Answer, firstThatApplies}
+use Rattle.grammar.specs.Refusals as grammar
 use Rattle.grammar.specs.Refusals.{grammarRows}
 use Rattle.grammar.specs.Answers.{checkGrammar}
 use Rattle.counting.specs.Prepared.{preparedRows}
 use Rattle.counting.specs.Answers.{countOf}
+use Rattle.history.specs.Refusals as history
 use Rattle.history.specs.Refusals.{historyRows}
 use Rattle.history.specs.Answers.{checkHistory, appendRows, appendOf}
-use Rattle.ranking.specs.Answers.{unrankRows, unrankOf, rankRows, rankOf}
+use Rattle.ranking.specs.Answers.{totalOf, unrankRows, unrankOf, rankRows, rankOf}
 use Rattle.ranking.specs.Demand2.{Demand2}
 use Rattle.sampling.specs.Question.{Question, plainly}
 use Rattle.sampling.specs.Answers.{remainingRows, remainingTo, drawRows, drawTo}
 use Rattle.sampling.specs.Demand3.{Single, Premises, Demand3, Once, SameBarred, Alike}
-use Rattle.sampling.specs.Examples.{Examples, F, heard01}
+use Rattle.sampling.specs.Examples.{Examples, F, heard01, heardTwice}
+use Rattle.matrix.specs.Table.{table}
 
 -- ---- demand 1: "The first fitting refusal of its list is returned, every figure zero, every lent buffer unchanged."
 
@@ -38,6 +41,15 @@ pub record Demand1 : Type 0 where
   pub draw : (g h : List ℕ) (a : Question) (q : ℕ) (out : List ℕ) → Refuses (drawRows g h a q out) 2 out (drawTo g h a q out)
   pub log : (h s : List ℕ) → Refuses (appendRows h s) 1 h (appendOf h s)
 
+-- ---- the house matrix bank: "It has 100,000 sentences of length 5 and none of another length."
+
+pub record House : Type 0 where
+  pub accepted : grammar.Accepted table
+  pub five : totalOf table 5 ≡ 100000
+  pub others : (m : ℕ) → m ≢ 5 → totalOf table m ≡ 0
+  -- no two derivations have one sentence: so these are sentences, and not only derivations
+  pub single : (s : List ℕ) → Single table s
+
 -- ---- all of them
 
 pub record Demands : Type 0 where
@@ -47,10 +59,16 @@ pub record Demands : Type 0 where
   -- where no sentence of the length has two derivations, each unheard derivable sentence comes exactly once
   pub once : (g h : List ℕ) (a : Question) → Premises g h a → ((s : List ℕ) → length s ≡ a .length → Single g s)
       → (out : ℕ → List ℕ) → ((q : ℕ) → a .length ≤ length (out q)) → Once g h a out
-  -- histories that bar the same sentences give the same answers
-  pub alike : (g h h′ : List ℕ) (a : Question) → Premises g h a → Premises g h′ a → SameBarred g h h′ a → Alike g h h′ a
-  -- the premises are no more than that *Left* isn't refused, and there is such a grammar, history and length
+  -- "Accepted diaries that bar the same sentences of that length give the same left and the same answer to every draw, refused ones included":
+  -- with every grammar and every length
+  pub alike : (g h h′ : List ℕ) (a : Question) → history.Accepted h → history.Accepted h′ → SameBarred g h h′ a → Alike g h h′ a
+  -- the premises are no more than that *Left* isn't refused
   pub premises : (g h : List ℕ) (a : Question) → (Premises g h a ↔ (remainingTo g h a .refusal ≡ 0))
+  -- there is such a grammar, history and length; there are two histories that bar the same; and the house bank is as document 01 says, so that
+  -- with every accepted history each of its unheard sentences comes exactly once
   pub instance : Premises F heard01 (plainly 2)
+  pub logged-twice : history.Accepted heard01 × history.Accepted heardTwice × SameBarred F heard01 heardTwice (plainly 2)
+  pub house : House
+  pub house-once : (h : List ℕ) → history.Accepted h → (out : ℕ → List ℕ) → ((q : ℕ) → 5 ≤ length (out q)) → Once table h (plainly 5) out
   -- P1 to P10
   pub examples : Examples

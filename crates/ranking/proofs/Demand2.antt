@@ -9,9 +9,10 @@ use lib.ListN.{length, getD, take, drop}
 use lib.Seq.{take-append-seam}
 use lib.Dec.{ltb, leb, eqb}
 use borrow.Author.Tests.{leb-false, eqb-false, le-leb, lt-leb, le-ltb, eq-eqb, ne-eqb}
+use Rattle.lists.specs.Joined.{At}
 use Rattle.lists.specs.Ordered.{Exactly}
 use Rattle.lists.specs.Searched.{same}
-use Rattle.lists.proofs.Members.{getD-∈, ∈-place, At-getD}
+use Rattle.lists.proofs.Members.{getD-∈, ∈-place, At-getD, At-inside}
 use Rattle.lists.proofs.Tests.{same-eq, same-refl}
 use Rattle.lists.proofs.Searches.{place-lt, place-hit, place-only}
 use Rattle.lists.proofs.Strikes.{exactly-many}
@@ -20,8 +21,9 @@ use Rattle.answers.proofs.Refusals.{row-applies, row-passed, row-clear, rows-pa
 use Rattle.grammar.specs.Layout.{start}
 use Rattle.grammar.specs.Chains.{chain}
 use Rattle.grammar.specs.Trees.{Tree, leaf, sentence}
-use Rattle.grammar.proofs.Enumeration.{sound, complete}
-use Rattle.grammar.proofs.Order.{distinct, entry-number}
+use Rattle.grammar.proofs.Walks.{chained}
+use Rattle.grammar.proofs.Enumeration.{sound, complete, listed}
+use Rattle.grammar.proofs.Order.{distinct, sorted, entry-number}
 use Rattle.counting.specs.Prepared.{preparedRows}
 use Rattle.counting.specs.Answers.{countOf}
 use Rattle.counting.specs.Sentences.{sentences}
@@ -49,6 +51,11 @@ module _ (g : List ℕ) where
         before = entry-number (chain g) (start g) n d (leaf 0 0) l;
       }
 
+  pub at-has : (n d : ℕ) (t : Tree) → At (fullList g n) d t → HasNumber g n t d
+  at-has n d t h =
+      let is = At-getD (fullList g n) d t (leaf 0 0) h in
+      rw is at (entry-has n d (omega (arith, At-inside (fullList g n) d t h, listed-total n)))
+
   module _ (s : List ℕ) (one : readingsOf g s ≡ 1) where
     some : 0 < readingsOf g s
     some = omega arith
@@ -64,7 +71,7 @@ module _ (g : List ℕ) where
         place-only (derives s) (fullList g (length s)) d (leaf 0 0) one (omega (arith, listed-total (length s)))
         (ap (λ (u : List ℕ). same u s) e ∙ same-refl s)
 
-    one-derivation : OneDerivation g s (entry (length s) (numberOf g s))
+    pub one-derivation : OneDerivation g s (entry (length s) (numberOf g s))
     one-derivation =
         record {
           derivation = entry-has (length s) (numberOf g s) number-inside .derivation;
@@ -176,7 +183,13 @@ module _ (g : List ℕ) where
   unfolding firstThatApplies
   demand-2 =
       record {
-        counted = λ n. T-counts (chain g) (start g) n;
+        chained = chained g;
+        listed = λ n. record {
+          all = listed (chain g) (start g) n;
+          ordered = sorted (chain g) (start g) n;
+          number = at-has n;
+        };
+        counted = T-counts (chain g);
         counts = count-answer;
         gives = λ n d out ok. (entry n d, entry-has n d (give-inside n d out ok), give-answer n d out ok);
         numbers = λ s ok. (

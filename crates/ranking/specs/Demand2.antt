@@ -2,16 +2,20 @@
 -- sentences and their order are those of the grammar's specs/Trees.antt. T is a sum of products; `counted` says what it counts.
 -- Assumes nothing: these are definitions.
 use mathlib.Core.Path.{_≡_}
+use mathlib.Core.Logic.{_↔_}
 use mathlib.Core.List.{List, [], _∷_, _++_}
 use Prim.Native.Nat.{ℕ, _≤_}
 use lib.ListN.{length, take, drop}
-use Rattle.lists.specs.Ordered.{Exactly}
+use Rattle.lists.specs.Joined.{_∈_, At}
+use Rattle.lists.specs.Ordered.{Pairwise, Exactly}
 use Rattle.answers.specs.Answer.{Answer}
 use Rattle.grammar.specs.Layout.{start}
-use Rattle.grammar.specs.Chains.{chain}
+use Rattle.grammar.specs.Chains.{chain, Chained}
+use Rattle.grammar.specs.Refusals.{Accepted}
 use Rattle.grammar.specs.Trees.{Tree, sentence, Derives, Before}
+use Rattle.counting.specs.Totals.{T}
 use Rattle.counting.specs.Answers.{countOf}
-use Rattle.ranking.specs.Answers.{totalOf, unrankOf, rankOf}
+use Rattle.ranking.specs.Answers.{fullList, totalOf, unrankOf, rankOf}
 
 -- t is a derivation of S with length n
 abbrev pub Derivation : (g : List ℕ) (n : ℕ) → Tree → Type 0
@@ -21,6 +25,13 @@ Derivation g n t = Derives (chain g) (start g) n t
 pub record HasNumber (g : List ℕ) (n : ℕ) (t : Tree) (d : ℕ) : Type 0 where
   pub derivation : Derivation g n t
   pub before : Exactly d (λ u. Derivation g n u × Before u t)
+
+-- "The full list holds every derivation of S with length n, each once, in the order above. Its entry d, counted from 0, so has derivation
+-- number d." These laws are what the list is; its text need not be read.
+pub record FullList (g : List ℕ) (n : ℕ) : Type 0 where
+  pub all : (t : Tree) → (t ∈ fullList g n) ↔ Derivation g n t
+  pub ordered : Pairwise Before (fullList g n)
+  pub number : (d : ℕ) (t : Tree) → At (fullList g n) d t → HasNumber g n t d
 
 -- t is a derivation of the sentence s, and there is no other
 pub record OneDerivation (g s : List ℕ) (t : Tree) : Type 0 where
@@ -36,8 +47,11 @@ abbrev pub written : List ℕ → List ℕ → Answer
 written figures buffer = record { refusal = 0; figures = figures; buffer = buffer }
 
 pub record Demand2 (g : List ℕ) : Type 0 where
-  -- T is how many derivations of S with length n there are, and *Count* gives it where it isn't refused
-  pub counted : (n : ℕ) → Exactly (totalOf g n) (Derivation g n)
+  -- the chains that derivations are made of, and the full list of them
+  pub chained : Accepted g → Chained g
+  pub listed : (n : ℕ) → FullList g n
+  -- "T(A, m) is how many derivations there are", of every nonterminal and length; *Count* gives that of S where it isn't refused
+  pub counted : (A m : ℕ) → Exactly (T (chain g) A m) (Derives (chain g) A m)
   pub counts : (n : ℕ) → countOf g n .refusal ≡ 0 → countOf g n ≡ told (totalOf g n ∷ [])
   -- *Give*, where it isn't refused, writes the sentence of the derivation that has the number d
   pub gives : (n d : ℕ) (out : List ℕ) → unrankOf g n d out .refusal ≡ 0

@@ -282,7 +282,7 @@ module _ (g h : List ℕ) (n q : ℕ) (out : List ℕ) where
   draw-refused k e l =
       let last : List Row = (leb (leftOf g h (plainly n)) q, 16) ∷ (ltb (length out) n, 20) ∷ [] in
       let f : firstThatApplies (remainingRows g h (plainly n) ++ last) ≡ k = rows-stop (remainingRows g h (plainly n)) last (omega arith) ∙ sym e in
-      rw f (sym (answer-refused k (leftOf g h (plainly n) ∷ drawn g h (plainly n) q .0 ∷ []) out (sentence (drawn g h (plainly n) q .1) ++ drop n out) l))
+      rw f (sym (answer-refused k (leftOf g h (plainly n) ∷ drawn g h (plainly n) q .number ∷ []) out (sentence (drawn g h (plainly n) q .tree) ++ drop n out) l))
 
   module _ {rules totals : List (List ℕ)} {numbers : List ℕ} {k : ℕ} (d : Drawable g h (plainly n) rules totals numbers k) where
     -- the lines 16 and 20
@@ -290,10 +290,10 @@ module _ (g h : List ℕ) (n q : ℕ) (out : List ℕ) where
     last = (leb (leftOf g h (plainly n)) q, 16) ∷ (ltb (length out) n, 20) ∷ []
 
     draw-is : drawTo g h (plainly n) q out
-        ≡ answer last (leftOf g h (plainly n) ∷ drawn g h (plainly n) q .0 ∷ []) out (sentence (drawn g h (plainly n) q .1) ++ drop n out)
+        ≡ answer last (leftOf g h (plainly n) ∷ drawn g h (plainly n) q .number ∷ []) out (sentence (drawn g h (plainly n) q .tree) ++ drop n out)
     unfolding drawTo
     draw-is =
-        ap (λ (r : ℕ). answerOf r (leftOf g h (plainly n) ∷ drawn g h (plainly n) q .0 ∷ []) out (sentence (drawn g h (plainly n) q .1) ++ drop n out))
+        ap (λ (r : ℕ). answerOf r (leftOf g h (plainly n) ∷ drawn g h (plainly n) q .number ∷ []) out (sentence (drawn g h (plainly n) q .tree) ++ drop n out))
         (rows-pass (remainingRows g h (plainly n)) last refl (d .passed))
 
     -- what the skip finds
@@ -321,17 +321,17 @@ module _ (g h : List ℕ) (n q : ℕ) (out : List ℕ) where
         ∙ sym draw-is
       where
         both : answer last (leftOf g h (plainly n) ∷ found ∷ []) out (entryIn rules n found ++ drop n out)
-            ≡ answer last (leftOf g h (plainly n) ∷ drawn g h (plainly n) q .0 ∷ []) out (sentence (drawn g h (plainly n) q .1) ++ drop n out)
+            ≡ answer last (leftOf g h (plainly n) ∷ drawn g h (plainly n) q .number ∷ []) out (sentence (drawn g h (plainly n) q .tree) ++ drop n out)
         both =
             elim (decLe (leftOf g h (plainly n)) q) [
               | yes b ↦
                   let e : firstThatApplies last ≡ 16 = row-applies 16 ((ltb (length out) n, 20) ∷ []) (le-leb (leftOf g h (plainly n)) q b) in
                   rw e
                   (answer-refused 16 (leftOf g h (plainly n) ∷ found ∷ []) out (entryIn rules n found ++ drop n out) (lit< tt)
-                  ∙ sym (answer-refused 16 (leftOf g h (plainly n) ∷ drawn g h (plainly n) q .0 ∷ []) out (sentence (drawn g h (plainly n) q .1) ++ drop n out) (lit< tt)))
+                  ∙ sym (answer-refused 16 (leftOf g h (plainly n) ∷ drawn g h (plainly n) q .number ∷ []) out (sentence (drawn g h (plainly n) q .tree) ++ drop n out) (lit< tt)))
               | no b ↦
                   ap (λ (w : List ℕ). answer last (leftOf g h (plainly n) ∷ found ∷ []) out (w ++ drop n out)) (entry-is (d .tabled .holds) n found (inside b))
-                  ∙ ap (λ (e : Entry). answer last (leftOf g h (plainly n) ∷ e .0 ∷ []) out (sentence (e .1) ++ drop n out)) (sym (left-at g h n (d .diary) (d .clear) q (omega arith)))
+                  ∙ ap (λ (e : Entry). answer last (leftOf g h (plainly n) ∷ e .number ∷ []) out (sentence (e .tree) ++ drop n out)) (sym (left-at g h n (d .diary) (d .clear) q (omega arith)))
             ]
           where
             inside : (leftOf g h (plainly n) ≤ q → ⊥) → found < totalOf g n

@@ -5,20 +5,20 @@
 use mathlib.Core.Path.{_≡_, refl, sym, ap, _∙_}
 use mathlib.Core.Bool.{Bool, true, false, cond, not, true≢false}
 use mathlib.Core.List.{List, [], _∷_, map, List·Memᴰ·head, List·Memᴰ·tail, Memᴰ·cast, Memᴰ·map, Memᴰ·of-map}
-use Prim.Native.Nat.{ℕ, _+_, _≤_, _<_}
+use Prim.Native.Nat.{ℕ, suc, _+_, _≤_, _<_}
 use native.Mathlib.Omega.{arith}
-use lib.ListN.{length, getD, length-map}
+use lib.ListN.{length, getD, length-map, List·getD-map}
 use lib.Dec.{leb, eqb}
 use borrow.Author.Tests.{leb-false, eqb-true, eq-eqb, not-false}
 use Rattle.lists.specs.Joined.{_∈_}
-use Rattle.lists.specs.Ordered.{Pairwise, none, more, Distinct}
+use Rattle.lists.specs.Ordered.{Pairwise, none, more, Distinct, Exactly}
 use Rattle.lists.specs.Searched.{someOf, same}
-use Rattle.lists.specs.Struck.{keep, skip}
+use Rattle.lists.specs.Struck.{keep, numbered, skip}
 use Rattle.lists.proofs.Members.{getD-∈}
-use Rattle.lists.proofs.Orders.{pairwise-distinct}
+use Rattle.lists.proofs.Orders.{pairwise-distinct, distinct-le}
 use Rattle.lists.proofs.Tests.{some-∈, ∈-some, none-∈, same-eq, same-refl}
-use Rattle.lists.proofs.Searches.{many-at, distinct-length}
-use Rattle.lists.proofs.Strikes.{keep-length, keep-∈, ∈-keep, struck-rising, struck-fails, fails-struck, struck-unique, keep-numbered, kept-at}
+use Rattle.lists.proofs.Searches.{many-at}
+use Rattle.lists.proofs.Strikes.{keep-length, keep-∈, ∈-keep, keep-map, struck-rising, struck-fails, fails-struck, struck-unique, keep-numbered, kept-at}
 use Rattle.grammar.specs.Layout.{start}
 use Rattle.grammar.specs.Chains.{chain}
 use Rattle.grammar.specs.Trees.{Tree, leaf, sentence}
@@ -30,7 +30,7 @@ use Rattle.history.specs.Refusals as history
 use Rattle.history.specs.Heard.{sentences, heard}
 use Rattle.history.proofs.Chain.{heard-sentences}
 use Rattle.sampling.specs.Question.{plainly}
-use Rattle.sampling.specs.Unheard.{outside, unheard, barred, distinct, ofLength, heardOf, leftOf, ambiguous}
+use Rattle.sampling.specs.Unheard.{Entry, entriesFrom, outside, unheard, barred, distinct, ofLength, heardOf, leftOf, ambiguous}
 use Rattle.sampling.specs.Answers.{drawn}
 
 -- ---- sentences, each once
@@ -107,22 +107,41 @@ module _ (g : List ℕ) (n : ℕ) where
 
 -- ---- the unheard list
 
+-- a place and what stands there, as an entry
+abbrev pub entry : ℕ × Tree → Entry
+entry e = record { number = e .0; tree = e .1 }
+
+entries-are : (d : ℕ) (l : List Tree) → entriesFrom d l ≡ map entry (numbered d l)
+entries-are d [] = refl
+entries-are d (t ∷ l) = rw (entries-are (suc d) l)
+
 module _ (g h : List ℕ) (n : ℕ) where
   -- the heard sentences of the length that have one derivation
   abbrev oneReading : List (List ℕ)
   oneReading = keep (λ s. eqb (readingsOf g s) 1) (ofLength n h)
 
-  pub unheard-length : length (unheard g h (plainly n)) ≡ length (keep (outside h) (fullList g n))
+  -- the unheard list, by pairs of a place and what stands there
+  abbrev pub kept : List (ℕ × Tree)
+  kept = keep (λ (e : ℕ × Tree). outside h (e .1)) (numbered 0 (fullList g n))
+
+  pub unheard-is : unheard g h (plainly n) ≡ map entry kept
   unfolding unheard
-  unheard-length = keep-numbered (outside h) 0 (fullList g n)
+  unheard-is =
+      ap (keep (λ (e : Entry). outside h (e .tree))) (entries-are 0 (fullList g n))
+      ∙ keep-map entry (λ (e : Entry). outside h (e .tree)) (numbered 0 (fullList g n))
+
+  pub unheard-length : length (unheard g h (plainly n)) ≡ length (keep (outside h) (fullList g n))
+  unheard-length = ap length unheard-is ∙ length-map kept entry ∙ keep-numbered (outside h) 0 (fullList g n)
 
   pub unheard-all : length (unheard g h (plainly n)) + length (barred g h (plainly n)) ≡ totalOf g n
   unheard-all = omega (arith, unheard-length, keep-length (outside h) (fullList g n), listed-total g n)
 
   -- entry q is what the skip of q over the struck places finds
-  pub unheard-at : (q : ℕ) → q < length (unheard g h (plainly n)) → drawn g h (plainly n) q ≡ (skip q (barred g h (plainly n)), getD (fullList g n) (skip q (barred g h (plainly n))) (leaf 0 0))
-  unfolding unheard
-  unheard-at q l = kept-at (outside h) (fullList g n) q (leaf 0 0) (omega (arith, unheard-length))
+  pub unheard-at : (q : ℕ) → q < length (unheard g h (plainly n)) → drawn g h (plainly n) q ≡ entry (skip q (barred g h (plainly n)), getD (fullList g n) (skip q (barred g h (plainly n))) (leaf 0 0))
+  unheard-at q l =
+      ap (λ (l : List Entry). getD l q (entry (0, leaf 0 0))) unheard-is
+      ∙ List·getD-map entry kept q (0, leaf 0 0)
+      ∙ ap entry (kept-at (outside h) (fullList g n) q (leaf 0 0) (omega (arith, unheard-length)))
 
 -- with an accepted history
 module _ (g h : List ℕ) (n : ℕ) (diary : history.Accepted h) where
@@ -209,13 +228,30 @@ module _ (g h : List ℕ) (n : ℕ) (diary : history.Accepted h) where
     unfolding heardOf
     heard-length =
         sym (length-map (distinct (oneReading g h n)) (numberOf g))
-        ∙ distinct-length (length (fullList g n)) (map (numberOf g) (distinct (oneReading g h n))) (barred g h (plainly n))
-        (numbers-once g n (distinct (oneReading g h n))
-        (λ s m. let q = counted-∈ s m in (length-∈ s (q .0) .1, q .1)) (distinct-once (oneReading g h n)))
-        (pairwise-distinct _<_ (λ x y l e. omega arith) (barred g h (plainly n)) (struck-rising (outside h) (fullList g n)))
-        (λ d m. struck-fails (outside h) (fullList g n) d (leaf 0 0) m .0)
-        counted-struck
-        struck-counted
+        ∙ omega (
+          arith,
+          distinct-le (map (numberOf g) (distinct (oneReading g h n))) (barred g h (plainly n))
+              (numbers-once g n (distinct (oneReading g h n))
+              (λ s m. let q = counted-∈ s m in (length-∈ s (q .0) .1, q .1)) (distinct-once (oneReading g h n)))
+              counted-struck,
+          distinct-le (barred g h (plainly n)) (map (numberOf g) (distinct (oneReading g h n)))
+              (pairwise-distinct _<_ (λ x y l e. omega arith) (barred g h (plainly n)) (struck-rising (outside h) (fullList g n)))
+              struck-counted,
+        )
+
+    -- it counts the heard sentences that have one derivation
+    pub heard-exactly : Exactly (heardOf g h (plainly n)) (λ s. (length s ≡ n) × (heard h s ≡ true) × (readingsOf g s ≡ 1))
+    unfolding heardOf
+    heard-exactly =
+        record {
+          listed = distinct (oneReading g h n);
+          many = refl;
+          once = distinct-once (oneReading g h n);
+          all = λ s. (
+            λ p. ∈-counted s (∈-length s (p .1) (p .0)) (p .2),
+            λ m. let q = counted-∈ s m in let r = length-∈ s (q .0) in (r .1, r .0, q .1),
+          );
+        }
 
     -- left is the length of the unheard list
     pub left-length : leftOf g h (plainly n) ≡ length (unheard g h (plainly n))
@@ -226,5 +262,5 @@ module _ (g h : List ℕ) (n : ℕ) (diary : history.Accepted h) where
     heard-left = omega (arith, heard-length, unheard-all g h n)
 
     pub left-at : (q : ℕ) → q < leftOf g h (plainly n)
-        → drawn g h (plainly n) q ≡ (skip q (barred g h (plainly n)), getD (fullList g n) (skip q (barred g h (plainly n))) (leaf 0 0))
+        → drawn g h (plainly n) q ≡ entry (skip q (barred g h (plainly n)), getD (fullList g n) (skip q (barred g h (plainly n))) (leaf 0 0))
     left-at q l = unheard-at g h n q (omega (arith, left-length))

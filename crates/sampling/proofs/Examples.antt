@@ -1,8 +1,8 @@
 -- The examples P1 to P10. Lists and small counts are computed. T of the grammar F is not: its pair rules have the words' nonterminal on the
 -- right, so only the left length one below adds, and T doubles with the length. So all its counts up to length 16 are at most 65,536.
 -- Assumes nothing.
-use mathlib.Core.Path.{_≡_, refl, ap, _∙_}
-use mathlib.Core.Bool.{true, false}
+use mathlib.Core.Path.{_≡_, refl, sym, ap, _∙_}
+use mathlib.Core.Bool.{Bool, true, false, _||_, or-false}
 use mathlib.Core.List.{List, [], _∷_, _++_, map}
 use Prim.Native.Nat.{ℕ, zero, suc, _+_, _-_, _*_, _≤_, _<_}
 use native.Mathlib.Omega.{arith}
@@ -12,7 +12,7 @@ use lib.Dec.{ltb, leb}
 use borrow.Author.Tests.{le-ltb, lt-leb, le-leb}
 use Rattle.lists.specs.Joined.{upFrom}
 use Rattle.lists.specs.Linked.{metFrom}
-use Rattle.lists.specs.Searched.{someBelow}
+use Rattle.lists.specs.Searched.{someBelow, same}
 use Rattle.answers.specs.Answer.{firstThatApplies}
 use Rattle.answers.specs.Length.{badLength}
 use Rattle.answers.proofs.Refusals.{row-applies, row-passed, rows-pass, answer-accepted, answer-refused}
@@ -35,8 +35,8 @@ use Rattle.history.specs.Refusals as history
 use Rattle.sampling.specs.Question.{plainly}
 use Rattle.sampling.specs.Unheard.{unheard, heardOf, leftOf, ambiguous}
 use Rattle.sampling.specs.Answers.{remainingRows, remainingOf, drawn, drawRows, drawOf, remainingTo, drawTo}
-use Rattle.sampling.specs.Demand3.{Premises, refused}
-use Rattle.sampling.specs.Examples.{F, G, heard01, Examples}
+use Rattle.sampling.specs.Demand3.{Premises, refused, SameBarred}
+use Rattle.sampling.specs.Examples.{F, G, heard01, heardTwice, Examples}
 use Rattle.sampling.proofs.Premises.{prepared-pass, heard-single, premises-pass}
 
 -- ---- where all derivations of the right half have one word
@@ -171,7 +171,11 @@ heard-one = refl
 left-three : leftOf F heard01 (plainly 2) ≡ 3
 left-three = omega (arith, heard-one, T-doubled 0)
 
-unheard-three : unheard F heard01 (plainly 2) ≡ (0, node 0 (leaf 0 0) (leaf 0 0)) ∷ (2, node 0 (leaf 1 1) (leaf 0 0)) ∷ (3, node 0 (leaf 1 1) (leaf 1 1)) ∷ []
+unheard-three : unheard F heard01 (plainly 2)
+    ≡ record { number = 0; tree = node 0 (leaf 0 0) (leaf 0 0) }
+    ∷ record { number = 2; tree = node 0 (leaf 1 1) (leaf 0 0) }
+    ∷ record { number = 3; tree = node 0 (leaf 1 1) (leaf 1 1) }
+    ∷ []
 unfolding unheard heard someBelow twoAt wordsOf trees treesTo metFrom rest
 unheard-three = refl
 
@@ -187,14 +191,14 @@ left-of-two =
     ∙ ap (λ (x : ℕ). told (4 ∷ 1 ∷ x ∷ [])) left-three
 
 draw-below : (q : ℕ) (out : List ℕ) → q < 3 → 2 ≤ length out
-    → drawOf F heard01 2 q out ≡ written (3 ∷ drawn F heard01 (plainly 2) q .0 ∷ []) (sentence (drawn F heard01 (plainly 2) q .1) ++ drop 2 out)
+    → drawOf F heard01 2 q out ≡ written (3 ∷ drawn F heard01 (plainly 2) q .number ∷ []) (sentence (drawn F heard01 (plainly 2) q .tree) ++ drop 2 out)
 unfolding drawTo firstThatApplies
 draw-below q out h l =
-    answer-accepted (leftOf F heard01 (plainly 2) ∷ drawn F heard01 (plainly 2) q .0 ∷ []) out (sentence (drawn F heard01 (plainly 2) q .1) ++ drop 2 out)
+    answer-accepted (leftOf F heard01 (plainly 2) ∷ drawn F heard01 (plainly 2) q .number ∷ []) out (sentence (drawn F heard01 (plainly 2) q .tree) ++ drop 2 out)
     (rows-pass (remainingRows F heard01 (plainly 2)) ((leb (leftOf F heard01 (plainly 2)) q, 16) ∷ (ltb (length out) 2, 20) ∷ []) refl passes
     ∙ row-passed 16 ((ltb (length out) 2, 20) ∷ []) (lt-leb (leftOf F heard01 (plainly 2)) q (omega (arith, left-three)))
     ∙ row-passed 20 [] (le-ltb (length out) 2 l))
-    ∙ ap (λ (x : ℕ). written (x ∷ drawn F heard01 (plainly 2) q .0 ∷ []) (sentence (drawn F heard01 (plainly 2) q .1) ++ drop 2 out)) left-three
+    ∙ ap (λ (x : ℕ). written (x ∷ drawn F heard01 (plainly 2) q .number ∷ []) (sentence (drawn F heard01 (plainly 2) q .tree) ++ drop 2 out)) left-three
 
 draws-three : (out : List ℕ) → 2 ≤ length out
     → map (λ q. drawOf F heard01 2 q out) (upFrom 0 3)
@@ -208,7 +212,7 @@ draw-beyond out =
     let e : firstThatApplies (drawRows F heard01 (plainly 2) 3 out) ≡ 16
     = rows-pass (remainingRows F heard01 (plainly 2)) ((leb (leftOf F heard01 (plainly 2)) 3, 16) ∷ (ltb (length out) 2, 20) ∷ []) refl passes
     ∙ row-applies 16 ((ltb (length out) 2, 20) ∷ []) (le-leb (leftOf F heard01 (plainly 2)) 3 (omega (arith, left-three))) in
-    rw e (answer-refused 16 (leftOf F heard01 (plainly 2) ∷ drawn F heard01 (plainly 2) 3 .0 ∷ []) out (sentence (drawn F heard01 (plainly 2) 3 .1) ++ drop 2 out) (omega arith))
+    rw e (answer-refused 16 (leftOf F heard01 (plainly 2) ∷ drawn F heard01 (plainly 2) 3 .number ∷ []) out (sentence (drawn F heard01 (plainly 2) 3 .tree) ++ drop 2 out) (omega arith))
 
 -- ---- the grammar G
 
@@ -261,3 +265,31 @@ examples =
       p9-four = G-count 4 5 (omega arith) (omega arith) (ap (λ (x : List ℕ). getD x 3 0) G-totals);
       p10 = two-readings;
     }
+
+-- ---- two histories that bar the same
+
+-- a sentence is heard in either exactly if it is 0 1
+said-once : (s : List ℕ) → heard heard01 s ≡ same (0 ∷ 1 ∷ []) s
+unfolding heard someBelow twoAt wordsOf
+said-once s = or-false (same (0 ∷ 1 ∷ []) s)
+
+said-twice : (s : List ℕ) → heard heardTwice s ≡ same (0 ∷ 1 ∷ []) s
+unfolding heard someBelow twoAt wordsOf
+said-twice s = go (same (0 ∷ 1 ∷ []) s)
+  where
+    go : (b : Bool) → (b || (b || false)) ≡ b
+    go true = refl
+    go false = refl
+
+twice-accepted : history.Accepted heardTwice
+unfolding firstThatApplies history.badSize history.misfit history.badRecord history.badLink history.badChain badLength someBelow twoAt numbersFrom metFrom
+twice-accepted = refl
+
+pub logged-twice : history.Accepted heard01 × history.Accepted heardTwice × SameBarred F heard01 heardTwice (plainly 2)
+logged-twice = (
+  example-premises .diary,
+  twice-accepted,
+  λ s l.
+      let e : heard heard01 s ≡ heard heardTwice s = said-once s ∙ sym (said-twice s) in
+      (λ b. (sym e ∙ b .0, b .1), λ b. (e ∙ b .0, b .1)),
+)

@@ -109,7 +109,7 @@ module _ (g h : List ℕ) (n : ℕ) where
       ∙ rows-pass (history.historyRows h) ((ambiguous g h (plainly n), 15) ∷ []) refl (p .diary)
       ∙ row-passed 15 [] (heard-single g h n (p .diary) .1 (p .single))
 
-  pass-premises : firstThatApplies (remainingRows g h (plainly n)) ≡ 0 → Premises g h (plainly n)
+  pub pass-premises : firstThatApplies (remainingRows g h (plainly n)) ≡ 0 → Premises g h (plainly n)
   pass-premises e =
       let a = rows-clear (preparedRows g n) (history.historyRows h ++ ((ambiguous g h (plainly n), 15) ∷ [])) refl e in
       let b = rows-clear (grammarRows g) ((badLength n, 9) ∷ (tooLarge g n, 10) ∷ []) refl (a .0) in

@@ -53,7 +53,7 @@ drawSaid Short out = record { refusal = 20; figures = 0 ∷ 0 ∷ []; buffer = o
 
 -- "the derivation with an unheard sentence that has exactly q such derivations before it": the unheard list's entry q
 abbrev pub drawn : (g h : List ℕ) (a : Question) (q : ℕ) → Entry
-drawn g h a q = getD (unheard g h a) q (0, leaf 0 0)
+drawn g h a q = getD (unheard g h a) q (record { number = 0; tree = leaf 0 0 })
 
 -- "16. The number is [..] left or more (*Draw*)." "20. The sentence buffer is shorter than the length (*Give*, *Draw*)."
 abbrev pub drawRows : (g h : List ℕ) (a : Question) (q : ℕ) (out : List ℕ) → List Row
@@ -62,7 +62,7 @@ drawRows g h a q out = remainingRows g h a ++ ((leb (leftOf g h a) q, 16) ∷ (l
 -- "*Draw* (bank, diary, length, draw number q, buffer) [..] gives left and its derivation number, writes its sentence."
 unfoldable pub drawTo : (g h : List ℕ) (a : Question) (q : ℕ) (out : List ℕ) → Answer
 drawTo g h a q out =
-    answer (drawRows g h a q out) (leftOf g h a ∷ drawn g h a q .0 ∷ []) out (sentence (drawn g h a q .1) ++ drop (a .length) out)
+    answer (drawRows g h a q out) (leftOf g h a ∷ drawn g h a q .number ∷ []) out (sentence (drawn g h a q .tree) ++ drop (a .length) out)
 
 abbrev pub drawOf : (g h : List ℕ) (n q : ℕ) (out : List ℕ) → Answer
 drawOf g h n q out = drawTo g h (plainly n) q out

@@ -8,17 +8,17 @@ use mathlib.Core.Bool.{true, false}
 use mathlib.Core.List.{List, [], _∷_, map}
 use Prim.Native.Nat.{ℕ, _≤_, _<_}
 use lib.ListN.{length, getD, take, drop}
-use Rattle.lists.specs.Joined.{upFrom}
-use Rattle.lists.specs.Ordered.{Exactly}
+use Rattle.lists.specs.Joined.{_∈_, upFrom}
+use Rattle.lists.specs.Ordered.{Pairwise, Exactly}
 use Rattle.answers.specs.Answer.{Answer}
 use Rattle.grammar.specs.Layout.{nonterminals}
 use Rattle.grammar.specs.Chains.{chain}
 use Rattle.grammar.specs.Refusals.{Accepted}
-use Rattle.grammar.specs.Trees.{Tree, sentence}
+use Rattle.grammar.specs.Trees.{Tree, sentence, Before}
 use Rattle.counting.specs.Totals.{T}
 use Rattle.counting.specs.Tables.{most}
 use Rattle.ranking.specs.Answers.{totalOf}
-use Rattle.ranking.specs.Demand2.{Derivation, told}
+use Rattle.ranking.specs.Demand2.{Derivation, HasNumber, OneDerivation, told}
 use Rattle.history.specs.Refusals as history
 use Rattle.history.specs.Heard.{heard}
 use Rattle.sampling.specs.Question.{Question}
@@ -41,19 +41,33 @@ pub record Premises (g h : List ℕ) (a : Question) : Type 0 where
 
 -- ---- what a draw answers, and the unheard list's entries, as derivation number and sentence
 
+pub record Shown : Type 0 where
+  pub number : ℕ
+  pub words : List ℕ
+
+-- the derivation number that a *Draw* gives: its second figure
+abbrev pub numberIn : Answer → ℕ
+numberIn a = getD (a .figures) 1 0
+
 -- "the derivation number and the buffer's first n bytes"
-abbrev pub shown : (n : ℕ) → Answer → ℕ × List ℕ
-shown n a = (getD (a .figures) 1 0, take n (a .buffer))
+abbrev pub shown : (n : ℕ) → Answer → Shown
+shown n a = record { number = numberIn a; words = take n (a .buffer) }
 
 -- "each entry put as its derivation number and its sentence"
-abbrev pub put : Entry → ℕ × List ℕ
-put e = (e .0, sentence (e .1))
+abbrev pub put : Entry → Shown
+put e = record { number = e .number; words = sentence (e .tree) }
 
 -- a refusal: its number, the figures 0 and the buffer as it was
 abbrev pub refused : (number : ℕ) (out : List ℕ) → Answer
 refused number out = record { refusal = number; figures = 0 ∷ 0 ∷ []; buffer = out }
 
 pub record Demand3 (g h : List ℕ) (a : Question) : Type 0 where
+  -- the unheard list has just the derivations whose sentence is unheard, each with its derivation number, in the order above
+  pub entries : (e : Entry) → (e ∈ unheard g h a) ↔ (HasNumber g (a .length) (e .tree) (e .number) × (heard h (sentence (e .tree)) ≡ false))
+  pub ordered : Pairwise (λ (e f : Entry). Before (e .tree) (f .tree)) (unheard g h a)
+  -- "heard (distinct heard sentences of that length with one derivation)": so many there are, and no more than T
+  pub heard-are : Exactly (heardOf g h a) (λ s. (length s ≡ a .length) × (heard h s ≡ true) × ((t : Tree) × OneDerivation g s t))
+  pub heard-few : heardOf g h a ≤ totalOf g (a .length)
   -- "Left, as *Left* and every accepted *Draw* give it, is the length of the unheard list."
   pub left : remainingTo g h a ≡ told (totalOf g (a .length) ∷ heardOf g h a ∷ length (unheard g h a) ∷ [])
   pub figures : (q : ℕ) (out : List ℕ) → drawTo g h a q out .refusal ≡ 0 → (d : ℕ) × (drawTo g h a q out .figures ≡ length (unheard g h a) ∷ d ∷ [])
@@ -87,7 +101,7 @@ pub record Once (g h : List ℕ) (a : Question) (out : ℕ → List ℕ) : Type 
 abbrev pub Bars : (g h s : List ℕ) → Type 0
 Bars g h s = (heard h s ≡ true) × Derivable g s
 
--- "two such diaries that bar the same sentences of length n"
+-- two diaries "that bar the same sentences of length n"
 abbrev pub SameBarred : (g h h′ : List ℕ) (a : Question) → Type 0
 SameBarred g h h′ a = (s : List ℕ) → length s ≡ a .length → (Bars g h s ↔ Bars g h′ s)
 

@@ -36,6 +36,15 @@ heard01 =
     0 ∷ 0 ∷ 2 ∷ 0 ∷ 0 ∷ 1 ∷
     0 ∷ 0 ∷ 0 ∷ 0 ∷ 0 ∷ 0 ∷ 0 ∷ 0 ∷ 0 ∷ 0 ∷ 0 ∷ 0 ∷ 0 ∷ 0 ∷ []
 
+-- the same sentence logged a second time
+abbrev pub heardTwice : List ℕ
+heardTwice =
+    2 ∷ 0 ∷ 2 ∷ 0 ∷
+    0 ∷ 0 ∷ 2 ∷ 0 ∷ 0 ∷ 1 ∷
+    0 ∷ 0 ∷ 0 ∷ 0 ∷ 0 ∷ 0 ∷ 0 ∷ 0 ∷ 0 ∷ 0 ∷ 0 ∷ 0 ∷ 0 ∷ 0 ∷
+    1 ∷ 0 ∷ 2 ∷ 0 ∷ 0 ∷ 1 ∷
+    0 ∷ 0 ∷ 0 ∷ 0 ∷ 0 ∷ 0 ∷ 0 ∷ 0 ∷ 0 ∷ 0 ∷ 0 ∷ 0 ∷ 0 ∷ 0 ∷ []
+
 pub record Examples : Type 0 where
   -- "P1: F, length 1: T 0. P2: length 2: T 4. P3: length 16: T 65,536."
   pub p1 : countOf F 1 ≡ told (0 ∷ [])

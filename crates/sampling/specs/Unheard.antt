@@ -3,19 +3,25 @@
 -- Assumes nothing: these are definitions.
 use mathlib.Core.Bool.{Bool, cond, not}
 use mathlib.Core.List.{List, [], _∷_}
-use Prim.Native.Nat.{ℕ, _-_}
+use Prim.Native.Nat.{ℕ, suc, _-_}
 use lib.ListN.{length}
 use lib.Dec.{leb, eqb}
 use Rattle.lists.specs.Searched.{someOf, same}
-use Rattle.lists.specs.Struck.{keep, struck, numbered}
+use Rattle.lists.specs.Struck.{keep, struck}
 use Rattle.grammar.specs.Trees.{Tree, sentence}
 use Rattle.ranking.specs.Answers.{fullList, totalOf, readingsOf}
 use Rattle.history.specs.Heard.{sentences, heard}
 use Rattle.sampling.specs.Question.{Question}
 
 -- a derivation with its derivation number
-abbrev pub Entry : Type 0
-Entry = ℕ × Tree
+pub record Entry : Type 0 where
+  pub number : ℕ
+  pub tree : Tree
+
+-- each derivation listed with its number, the first of them d
+abbrev pub entriesFrom : (d : ℕ) → List Tree → List Entry
+entriesFrom d [] = []
+entriesFrom d (t ∷ l) = record { number = d; tree = t } ∷ entriesFrom (suc d) l
 
 -- the derivation's sentence is unheard: outside the diary
 abbrev pub outside : (h : List ℕ) → Tree → Bool
@@ -24,7 +30,7 @@ outside h t = not (heard h (sentence t))
 -- "The full list holds every derivation of S with length n, each once, in the order above. Its entry d, counted from 0, so has derivation
 -- number d. Strike each entry whose sentence is heard. What remains, in the same order, is the unheard list."
 unfoldable pub unheard : (g h : List ℕ) (a : Question) → List Entry
-unheard g h a = keep (λ (e : Entry). outside h (e .1)) (numbered 0 (fullList g (a .length)))
+unheard g h a = keep (λ e. outside h (e .tree)) (entriesFrom 0 (fullList g (a .length)))
 
 -- the places that are struck, rising: the heard derivation numbers
 abbrev pub barred : (g h : List ℕ) (a : Question) → List ℕ
