@@ -12,15 +12,15 @@ use borrow.Author.Tests.{eq-eqb, ne-eqb}
 use lib.Dec.{eqb}
 use lib.ListN.{getD, drop}
 use Rattle.lists.specs.Joined.{_∈_, sumOver, upFrom}
-use Rattle.lists.specs.Tables.{entry}
+use Rattle.lists.specs.Inner.Tables.{entry}
 use Rattle.lists.proofs.Sums.{sum-plus, sum-const, sum-none, sum-single}
 use Rattle.lists.proofs.Tests.{cond-none, and-false}
-use Rattle.sets.specs.Sets.{member, members}
+use Rattle.sets.specs.Inner.Sets.{member, members}
 use Rattle.sets.proofs.Loops.{lowest-low}
-use Rattle.grammar.specs.Rules.{countIn, pairsIn, Ruled}
+use Rattle.grammar.specs.Inner.Rules.{countIn, pairsIn, Ruled}
 use Rattle.grammar.proofs.Ruling.{pair-inside}
-use Rattle.charts.specs.Plan.{partners}
-use Rattle.charts.specs.Filling.{tieSum, sideSum, pairSum, Partners, only, Grown, AddsPair, AddsLeft, AddsSplit}
+use Rattle.charts.specs.Inner.Plan.{partners}
+use Rattle.charts.specs.Inner.Filling.{tieSum, sideSum, pairSum, Partners, only, Grown, AddsPair, AddsLeft, AddsSplit}
 use Rattle.charts.proofs.Growing.{grown-ext, Parts, parts-start, parts-end, parts-fits, parts-step}
 
 -- a sum over the nonterminals below N, where only c counts

@@ -9,14 +9,14 @@ use native.Mathlib.Omega.{arith}
 use lib.ListN.{length, set}
 use Rattle.lists.specs.Joined.{_∈_, upFrom}
 use Rattle.lists.proofs.Members.{upFrom-∈}
-use Rattle.sets.specs.Sets.{member}
-use Rattle.grammar.specs.Rules.{leftAt, rightAt, pairFrom, countIn, pairsIn, ruled, Ruled}
+use Rattle.sets.specs.Inner.Sets.{member}
+use Rattle.grammar.specs.Inner.Rules.{leftAt, rightAt, pairFrom, countIn, pairsIn, ruled, Ruled}
 use Rattle.grammar.proofs.Ruling.{pair-below}
 use Rattle.counting.specs.Totals.{T}
-use Rattle.counting.specs.Counted.{Asked, Counted}
+use Rattle.counting.specs.Inner.Counted.{Asked, Counted}
 use Rattle.counting.proofs.Asking.{asked-left, asked-right}
-use Rattle.charts.specs.Plan.{Cut}
-use Rattle.charts.specs.Planning.{at, Sided, Wanted, Cutting, Spots, Spotted, Placed, Plans, Built}
+use Rattle.charts.specs.Inner.Plan.{Cut}
+use Rattle.charts.specs.Inner.Planning.{at, Sided, Wanted, Cutting, Spots, Spotted, Placed, Plans, Built}
 use Rattle.charts.proofs.Placing.{placed-rows}
 
 -- where a pair rule stands

@@ -10,23 +10,23 @@ use native.Mathlib.Omega.{arith}
 use native.Mathlib.Decide.{ℕ-discrete, decLe, decLt}
 use borrow.Author.Tests.{ne-eqb}
 use lib.ListN.{length, getD, drop}
-use Rattle.lists.specs.Tables.{entry, Wide}
+use Rattle.lists.specs.Inner.Tables.{entry, Wide}
 use Rattle.lists.specs.Joined.{_∈_}
-use Rattle.sets.specs.Sets.{member, members}
+use Rattle.sets.specs.Inner.Sets.{member, members}
 use Rattle.sets.proofs.Digits.{member-none}
 use Rattle.sets.proofs.Loops.{turn-member, turn}
 use Rattle.sets.proofs.Lists.{members-∈}
-use Rattle.grammar.specs.Rules.{countIn, ruled}
+use Rattle.grammar.specs.Inner.Rules.{countIn, ruled}
 use Rattle.counting.specs.Totals.{total, T}
-use Rattle.counting.specs.Tables.{most}
-use Rattle.counting.specs.Counted.{Asked}
+use Rattle.counting.specs.Refusals.{most}
+use Rattle.counting.specs.Inner.Counted.{Asked}
 use Rattle.counting.proofs.Counts.{total-le}
 use Rattle.counting.proofs.Asking.{counted-rows, total-dead}
-use Rattle.charts.specs.Letters.{letterAt, weightBy}
-use Rattle.charts.specs.Maps.{rowAt, totalAt, Span}
-use Rattle.charts.specs.Plan.{cuts, spots, wanted, needed, noneRow, chartRow, room, Cut, Rowed}
-use Rattle.charts.specs.Chart.{Clean, Fills, Filled, Charted}
-use Rattle.charts.specs.Filling.{only, cutsSum, spanSum, Makes, Half, Spans, Spanned, Done, FilledTo, Lengthened, Lengthens}
+use Rattle.charts.specs.Inner.Letters.{letterAt, weightBy}
+use Rattle.charts.specs.Inner.Maps.{rowAt, totalAt, Span}
+use Rattle.charts.specs.Inner.Plan.{cuts, spots, wanted, needed, noneRow, chartRow, room, Cut, Rowed}
+use Rattle.charts.specs.Inner.Chart.{Clean, Fills, Filled, Charted}
+use Rattle.charts.specs.Inner.Filling.{only, cutsSum, spanSum, Makes, Half, Spans, Spanned, Done, FilledTo, Lengthened, Lengthens}
 use Rattle.charts.proofs.Totalling.{letter-le, cuts-total, leaf-total}
 
 -- ---- what filling asks

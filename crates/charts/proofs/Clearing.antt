@@ -8,12 +8,12 @@ use native.Mathlib.Decide.{ℕ-discrete}
 use borrow.Author.Tests.{ne-eqb}
 use lib.ListN.{length, getD, set, drop, replicate, length-set}
 use lib.Seq.{set-getD, set-set}
-use Rattle.lists.specs.Tables.{put}
+use Rattle.lists.specs.Inner.Tables.{put}
 use Rattle.lists.proofs.Tables.{put-same, put-beside, row-same}
-use Rattle.sets.specs.Sets.{member, members}
+use Rattle.sets.specs.Inner.Sets.{member, members}
 use Rattle.sets.proofs.Digits.{member-none}
 use Rattle.sets.proofs.Loops.{lowest-low, turn, turn-member}
-use Rattle.charts.specs.Filling.{Zero, Clears, blanked}
+use Rattle.charts.specs.Inner.Filling.{Zero, Clears, blanked}
 
 all-zero : (n : ℕ) (l : List ℕ) → length l ≡ n → ((A : ℕ) → A < n → getD l A 0 ≡ 0) → l ≡ replicate n 0
 all-zero zero [] e z = refl

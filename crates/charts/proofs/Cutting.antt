@@ -7,16 +7,16 @@ use Prim.Native.Nat.{ℕ, _+_, _-_, _≤_, _<_}
 use native.Mathlib.Omega.{arith}
 use lib.ListN.{length, getD, set, drop, length-set}
 use Rattle.lists.specs.Joined.{_∈_}
-use Rattle.lists.specs.Tables.{entry}
+use Rattle.lists.specs.Inner.Tables.{entry}
 use Rattle.lists.proofs.Sums.{sum-ext}
 use Rattle.lists.proofs.Tables.{row-other}
-use Rattle.sets.specs.Sets.{member, members}
+use Rattle.sets.specs.Inner.Sets.{member, members}
 use Rattle.sets.proofs.Lists.{members-∈}
-use Rattle.grammar.specs.Rules.{countIn}
-use Rattle.counting.specs.Tables.{most}
-use Rattle.charts.specs.Maps.{rowAt}
-use Rattle.charts.specs.Plan.{cuts, wanted}
-use Rattle.charts.specs.Filling.{Clears, only, pairSum, cutSum, cutsSum, Grown, AddsSplit, Made, Half, Joins}
+use Rattle.grammar.specs.Inner.Rules.{countIn}
+use Rattle.counting.specs.Refusals.{most}
+use Rattle.charts.specs.Inner.Maps.{rowAt}
+use Rattle.charts.specs.Inner.Plan.{cuts, wanted}
+use Rattle.charts.specs.Inner.Filling.{Clears, only, pairSum, cutSum, cutsSum, Grown, AddsSplit, Made, Half, Joins}
 use Rattle.charts.proofs.Growing.{growing-start, grown-ext, Parts, parts-end, parts-fits, parts-step}
 use Rattle.charts.proofs.Making.{zeros, cleared, cleared-wide, made}
 

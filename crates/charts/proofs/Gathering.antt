@@ -11,11 +11,11 @@ use borrow.Author.Count.{below-more}
 use lib.Dec.{eqb}
 use lib.ListN.{length, set, length-set}
 use lib.Seq.{getD-set-same, getD-set-other}
-use Rattle.lists.specs.Tables.{entry}
-use Rattle.sets.specs.Sets.{member, members}
+use Rattle.lists.specs.Inner.Tables.{entry}
+use Rattle.sets.specs.Inner.Sets.{member, members}
 use Rattle.sets.proofs.Loops.{with-more, with-new, with-only, none-member}
-use Rattle.grammar.specs.Rules.{leftAt, rightAt, countIn}
-use Rattle.charts.specs.Planning.{at, Sides, Sided, Wants, Wanted, Cuts, Cutting}
+use Rattle.grammar.specs.Inner.Rules.{leftAt, rightAt, countIn}
+use Rattle.charts.specs.Inner.Planning.{at, Sides, Sided, Wants, Wanted, Cuts, Cutting}
 
 -- ---- a row of sets
 

@@ -10,15 +10,15 @@ use native.Mathlib.Decide.{ℕ-discrete}
 use borrow.Author.Tests.{eq-eqb, ne-eqb}
 use lib.Dec.{eqb}
 use lib.ListN.{length, getD, set, length-set, drop}
-use Rattle.lists.specs.Tables.{entry, put, Wide}
+use Rattle.lists.specs.Inner.Tables.{entry, put, Wide}
 use Rattle.lists.proofs.Tests.{or-left, or-right, cond-none}
 use Rattle.lists.proofs.Tables.{put-same, put-row, put-beside, wide-put}
 use Rattle.lists.specs.Joined.{sumOver, upFrom}
-use Rattle.sets.specs.Sets.{member, members}
+use Rattle.sets.specs.Inner.Sets.{member, members}
 use Rattle.sets.proofs.Lists.{sum-members}
 use Rattle.sets.proofs.Loops.{over}
-use Rattle.counting.specs.Tables.{most}
-use Rattle.charts.specs.Filling.{Growing, Grown, only}
+use Rattle.counting.specs.Refusals.{most}
+use Rattle.charts.specs.Inner.Filling.{Growing, Grown, only}
 
 module _ {row count : ℕ} {f : ℕ → ℕ} {before : List (List ℕ)} where
   pub growing-start : {rest : ℕ → ℕ} {s : ℕ} → Wide before 32 → ((A : ℕ) → A < count → rest A ≡ f A) → Growing row count f before before rest s

@@ -9,15 +9,15 @@ use lib.Dec.{eqb}
 use lib.ListN.{length, getD, set, replicate, length-set, getD-replicate}
 use lib.Seq.{getD-set-same, getD-set-other}
 use Rattle.lists.specs.Searched.{bit}
-use Rattle.lists.specs.Tables.{entry, Wide}
+use Rattle.lists.specs.Inner.Tables.{entry, Wide}
 use Rattle.lists.proofs.Sums.{sum-ext, sum-one}
 use Rattle.lists.proofs.Tables.{row-same, row-other, wide-row}
-use Rattle.grammar.specs.Rules.{countIn, wordsIn}
+use Rattle.grammar.specs.Inner.Rules.{countIn, wordsIn}
 use Rattle.grammar.proofs.Ruling.{word-count}
-use Rattle.charts.specs.Letters.{any, weighed, letterAt, weightBy}
-use Rattle.charts.specs.Maps.{rowAt}
-use Rattle.charts.specs.Filling.{Clears, wordCount, wordTimes, leafSum, Grown, Clear, Made, Makes, only, cutsSum, spanSum, Joins, Spans, Spanned}
-use Rattle.charts.specs.Plan.{wanted}
+use Rattle.charts.specs.Inner.Letters.{any, weighed, letterAt, weightBy}
+use Rattle.charts.specs.Inner.Maps.{rowAt}
+use Rattle.charts.specs.Inner.Filling.{Clears, wordCount, wordTimes, leafSum, Grown, Clear, Made, Makes, only, cutsSum, spanSum, Joins, Spans, Spanned}
+use Rattle.charts.specs.Inner.Plan.{wanted}
 
 abbrev pub zeros : List ℕ
 zeros = replicate 32 0

@@ -8,18 +8,18 @@ use Prim.Native.Nat.{ℕ, zero, suc, _+_, _≤_, _<_}
 use native.Mathlib.Omega.{arith}
 use borrow.Author.Count.{below-more}
 use lib.ListN.{length, getD, set, length-set, getD-replicate}
-use Rattle.lists.specs.Tables.{entry, put, Wide}
+use Rattle.lists.specs.Inner.Tables.{entry, put, Wide}
 use Rattle.lists.proofs.Tables.{put-same, put-row, put-beside, wide-put}
-use Rattle.grammar.specs.Rules.{ruled}
+use Rattle.grammar.specs.Inner.Rules.{ruled}
 use Rattle.counting.specs.Totals.{total, T}
-use Rattle.counting.specs.Counted.{Asked, Counted}
-use Rattle.grammar.specs.Links.{Links}
+use Rattle.counting.specs.Inner.Counted.{Asked, Counted}
+use Rattle.grammar.specs.Inner.Links.{Links}
 use Rattle.counting.proofs.Totals.{total-within, T-anywhere}
 use Rattle.counting.proofs.Asking.{counted-kept}
-use Rattle.charts.specs.Chart.{Blank, Clean}
-use Rattle.charts.specs.Letters.{any, letterAt, letterWeight, weightBy}
-use Rattle.charts.specs.Maps.{rowAt, totalAt, Span, Closed, Mapped, Everywhere, rowsFrom, plainMap, Spelt}
-use Rattle.charts.specs.Plan.{needed, chartRow, room, Planned}
+use Rattle.charts.specs.Inner.Chart.{Blank, Clean}
+use Rattle.charts.specs.Inner.Letters.{any, letterAt, letterWeight, weightBy}
+use Rattle.charts.specs.Inner.Maps.{rowAt, totalAt, Span, Closed, Mapped, Everywhere, rowsFrom, plainMap, Spelt}
+use Rattle.charts.specs.Inner.Plan.{needed, chartRow, room, Planned}
 
 -- ---- the map of plain counts
 

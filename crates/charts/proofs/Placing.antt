@@ -10,12 +10,12 @@ use borrow.Author.Count.{below-more}
 use native.Mathlib.Decide.{ℕ-discrete, decLt}
 use lib.ListN.{length, getD, set, length-set}
 use lib.Seq.{getD-set-same, getD-set-other}
-use Rattle.lists.specs.Tables.{Wide}
+use Rattle.lists.specs.Inner.Tables.{Wide}
 use Rattle.lists.proofs.Tables.{row-same, row-other, wide-row}
-use Rattle.sets.specs.Sets.{member}
-use Rattle.charts.specs.Maps.{rowAt, Span}
-use Rattle.charts.specs.Plan.{noneRow, chartRow, spansOf, room, needed, Rowed}
-use Rattle.charts.specs.Planning.{at, rowFrom, baseOf, Rows, Placed}
+use Rattle.sets.specs.Inner.Sets.{member}
+use Rattle.charts.specs.Inner.Maps.{rowAt, Span}
+use Rattle.charts.specs.Inner.Plan.{noneRow, chartRow, spansOf, room, needed, Rowed}
+use Rattle.charts.specs.Inner.Planning.{at, rowFrom, baseOf, Rows, Placed}
 
 -- ---- how many spans
 

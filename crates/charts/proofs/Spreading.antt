@@ -13,11 +13,11 @@ use lib.Dec.{eqb, leb}
 use lib.ListN.{length, set}
 use lib.Seq.{getD-set-other}
 use Rattle.lists.proofs.Tests.{or-true}
-use Rattle.sets.specs.Sets.{member, members}
+use Rattle.sets.specs.Inner.Sets.{member, members}
 use Rattle.sets.proofs.Digits.{member-none}
 use Rattle.sets.proofs.Lists.{members-∈}
 use Rattle.sets.proofs.Loops.{turn-member, with-new, with-only, either-left, either-right, either-cases, moved-there, moved-back, none-member}
-use Rattle.charts.specs.Planning.{at, Halves, Inside, Spreads, Spread, Spots, Spotted}
+use Rattle.charts.specs.Inner.Planning.{at, Halves, Inside, Spreads, Spread, Spots, Spotted}
 use Rattle.charts.proofs.Gathering.{stored-long, stored-same, stored-more}
 
 -- ---- one store

@@ -13,18 +13,18 @@ use lib.Dec.{eqb}
 use Rattle.lists.specs.Joined.{_∈_, sumOver, upFrom}
 use Rattle.lists.proofs.Sums.{sum-ext, sum-plus, sum-none}
 use Rattle.lists.proofs.Tests.{bit-le}
-use Rattle.sets.specs.Sets.{member, members}
+use Rattle.sets.specs.Inner.Sets.{member, members}
 use Rattle.sets.proofs.Lists.{members-∈, sum-within}
-use Rattle.grammar.specs.Rules.{pairsIn, ruled, Ruled}
+use Rattle.grammar.specs.Inner.Rules.{pairsIn, ruled, Ruled}
 use Rattle.grammar.proofs.Ruling.{words-ruled, pairs-ruled}
 use Rattle.counting.specs.Totals.{splitSum, total, T}
-use Rattle.counting.specs.Counted.{Asked}
+use Rattle.counting.specs.Inner.Counted.{Asked}
 use Rattle.counting.proofs.Totals.{pairTotal, split-step, split-end, total-one, total-more}
 use Rattle.counting.proofs.Asking.{asked-left, asked-right, total-dead}
-use Rattle.charts.specs.Letters.{any, weighed, letterWeight, weightBy}
-use Rattle.charts.specs.Maps.{totalAt}
-use Rattle.charts.specs.Plan.{cuts, Cut}
-use Rattle.charts.specs.Filling.{cutSum, cutsSum, leafSum, Done}
+use Rattle.charts.specs.Inner.Letters.{any, weighed, letterWeight, weightBy}
+use Rattle.charts.specs.Inner.Maps.{totalAt}
+use Rattle.charts.specs.Inner.Plan.{cuts, Cut}
+use Rattle.charts.specs.Inner.Filling.{cutSum, cutsSum, leafSum, Done}
 
 -- ---- weights up to 1
 

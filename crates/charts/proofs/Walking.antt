@@ -10,14 +10,14 @@ use native.Mathlib.Decide.{ℕ-discrete}
 use borrow.Author.Tests.{eq-eqb, ne-eqb}
 use lib.Dec.{eqb}
 use lib.ListN.{length}
-use Rattle.lists.specs.Tables.{entry, put, Wide}
+use Rattle.lists.specs.Inner.Tables.{entry, put, Wide}
 use Rattle.lists.proofs.Tests.{cond-none}
-use Rattle.sets.specs.Sets.{member}
-use Rattle.grammar.specs.Rules.{wordAt, wordFrom, pairFrom, countIn}
-use Rattle.grammar.specs.Links.{last, pickSum, both, bothAt, nextWord, wordOwner, withWord, nextPair, pairOwner, withPair, Keyed}
+use Rattle.sets.specs.Inner.Sets.{member}
+use Rattle.grammar.specs.Inner.Rules.{wordAt, wordFrom, pairFrom, countIn}
+use Rattle.grammar.specs.Inner.Links.{last, pickSum, both, bothAt, nextWord, wordOwner, withWord, nextPair, pairOwner, withPair, Keyed}
 use Rattle.grammar.proofs.Keyed.{Link, Rising, last-le, pick-none, pick-more, link-at, words-rise, pairs-rise, words-picked, pairs-picked}
-use Rattle.counting.specs.Tables.{most}
-use Rattle.charts.specs.Filling.{only, tieSum, wordTimes, Growing, Grown, Adds, AddsPair, Clear}
+use Rattle.counting.specs.Refusals.{most}
+use Rattle.charts.specs.Inner.Filling.{only, tieSum, wordTimes, Growing, Grown, Adds, AddsPair, Clear}
 use Rattle.charts.proofs.Growing.{growing-start, growing-end, growing-same, growing-put, growing-fits}
 
 -- ---- along the rules of any table

@@ -9,10 +9,10 @@ use native.Mathlib.Decide.{ℕ-discrete, decLe}
 use borrow.Author.Tests.{eq-eqb, ne-eqb, le-leb, lt-leb}
 use lib.Dec.{eqb, leb}
 use lib.ListN.{length}
-use Rattle.lists.specs.Tables.{entry, put}
-use Rattle.sets.specs.Sets.{member}
-use Rattle.grammar.specs.Rules.{countIn}
-use Rattle.charts.specs.Filling.{wordCount, Growing, Grown, Clear}
+use Rattle.lists.specs.Inner.Tables.{entry, put}
+use Rattle.sets.specs.Inner.Sets.{member}
+use Rattle.grammar.specs.Inner.Rules.{countIn}
+use Rattle.charts.specs.Inner.Filling.{wordCount, Growing, Grown, Clear}
 use Rattle.charts.proofs.Growing.{growing-start, growing-end, growing-same, growing-put}
 
 -- before the nonterminal a

@@ -2,12 +2,12 @@
 // nonterminals outside which it is 0: by that set the row is cleared before it is made anew.
 ghost use mathlib.Core.Path.{_≡_};
 ghost use Prim.Native.Nat.{ℕ, _+_, _*_, _-_, _<_};
-ghost use Rattle.lists.specs.Tables.{entry};
-ghost use Rattle.grammar.specs.Rules.{countIn};
-ghost use Rattle.charts.specs.Maps.{rowAt};
-ghost use Rattle.charts.specs.Plan.{lengthIn, wanted};
-ghost use Rattle.charts.specs.Chart.{Fills, Charted};
-ghost use Rattle.charts.specs.Filling.{blanked, Clears, only, tieSum, sideSum, pairSum, cutsSum, wordCount, wordTimes, leafSum, Grown, Clear, AddsPair, AddsLeft, AddsSplit, Made, Makes, Joins, Spans, Spanned, Lengthens, Lengthened};
+ghost use Rattle.lists.specs.Inner.Tables.{entry};
+ghost use Rattle.grammar.specs.Inner.Rules.{countIn};
+ghost use Rattle.charts.specs.Inner.Maps.{rowAt};
+ghost use Rattle.charts.specs.Inner.Plan.{lengthIn, wanted};
+ghost use Rattle.charts.specs.Inner.Chart.{Fills, Charted};
+ghost use Rattle.charts.specs.Inner.Filling.{blanked, Clears, only, tieSum, sideSum, pairSum, cutsSum, wordCount, wordTimes, leafSum, Grown, Clear, AddsPair, AddsLeft, AddsSplit, Made, Makes, Joins, Spans, Spanned, Lengthens, Lengthened};
 use crate::maps;
 use crate::plan;
 use crate::plan::CUTS;

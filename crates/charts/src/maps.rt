@@ -2,8 +2,8 @@
 ghost use mathlib.Core.Path.{_≡_};
 ghost use Prim.Native.Nat.{_≤_, _<_};
 ghost use lib.ListN.{length};
-ghost use Rattle.lists.specs.Tables.{Wide};
-ghost use Rattle.charts.specs.Maps.{rowAt, Spelt};
+ghost use Rattle.lists.specs.Inner.Tables.{Wide};
+ghost use Rattle.charts.specs.Inner.Maps.{rowAt, Spelt};
 
 // Rows of the table of totals: of zeros, and the first of a chart. Those below are the counts'.
 pub const NONE: usize = 17;

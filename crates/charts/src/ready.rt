@@ -1,5 +1,5 @@
 // Everything that the sentences and patterns of a length share: the links of the rules, the plan, and the map of the chart.
-ghost use Rattle.charts.specs.Ready.{Readies, Readied};
+ghost use Rattle.charts.specs.Inner.Ready.{Readies, Readied};
 use crate::plan;
 use grammar::links;
 

@@ -7,14 +7,14 @@ use native.Mathlib.Omega.{arith}
 use lib.ListN.{length, getD}
 use Rattle.lists.specs.Joined.{_∈_, sumOver}
 use Rattle.grammar.specs.Chains.{Rule}
-use Rattle.grammar.specs.Rules.{countIn, pairsIn, Ruled}
-use Rattle.lists.specs.Tables.{Wide, Copied}
+use Rattle.grammar.specs.Inner.Rules.{countIn, pairsIn, Ruled}
+use Rattle.lists.specs.Inner.Tables.{Wide, Copied}
 use Rattle.lists.proofs.Tables.{copied-wide}
 use Rattle.grammar.proofs.Ruling.{pair-inside}
 use Rattle.grammar.proofs.Kept.{ruled-same, ruled-kept}
 use Rattle.counting.specs.Totals.{total, T}
-use Rattle.counting.specs.Sentences.{sentences, weight}
-use Rattle.counting.specs.Counted.{Asked, Counted}
+use Rattle.counting.specs.Inner.Sentences.{sentences, weight}
+use Rattle.counting.specs.Inner.Counted.{Asked, Counted}
 use Rattle.counting.proofs.Counts.{total-sum, T-sentences}
 
 -- with a nonterminal and a length, the halves of its pair rules

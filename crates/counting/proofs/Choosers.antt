@@ -12,12 +12,12 @@ use Rattle.lists.specs.Joined.{_∈_, concatMap, combine}
 use Rattle.lists.proofs.Sums.{sum-append, sum-part}
 use Rattle.grammar.specs.Chains.{Rule, pairsOf}
 use Rattle.counting.specs.Totals.{total, T}
-use Rattle.counting.specs.Sentences.{sentences, weight, splitList}
+use Rattle.counting.specs.Inner.Sentences.{sentences, weight, splitList}
 use Rattle.counting.proofs.Totals.{pairTotal, split-part, total-more}
 use Rattle.counting.proofs.Sentences.{sentences-more}
 use Rattle.counting.proofs.Counts.{total-sum, T-sentences}
-use Rattle.lists.specs.Parts.{Passed}
-use Rattle.counting.specs.Owned.{halves, halvesTotal, ruleOf, ChosenAs}
+use Rattle.lists.specs.Inner.Parts.{Passed}
+use Rattle.counting.specs.Inner.Owned.{halves, halvesTotal, ruleOf, ChosenAs}
 use Rattle.lists.proofs.Parts.{passed-none, passed-size, passed-many, passed-more, passed-part}
 use Rattle.counting.proofs.Walks.{halves-total}
 

@@ -15,7 +15,7 @@ use Rattle.grammar.specs.Trees.{sentence, Derives}
 use Rattle.grammar.specs.FullList.{trees}
 use Rattle.grammar.proofs.Order.{how-many}
 use Rattle.counting.specs.Totals.{splitSum, total, T}
-use Rattle.counting.specs.Sentences.{sentences, weight, splitList}
+use Rattle.counting.specs.Inner.Sentences.{sentences, weight, splitList}
 use Rattle.counting.proofs.Totals.{pairTotal, split-ext, total-none, total-one, total-more}
 use Rattle.counting.proofs.Sentences.{sentences-none, sentences-one, sentences-more, sentence-length}
 

@@ -14,15 +14,15 @@ use lib.Dec.{ltb}
 use lib.ListN.{length, getD, set, drop, length-set}
 use lib.Seq.{drop-cons, drop-length}
 use Rattle.lists.specs.Joined.{sumOver}
-use Rattle.lists.specs.Tables.{put, Wide, Kept}
+use Rattle.lists.specs.Inner.Tables.{put, Wide, Kept}
 use Rattle.lists.proofs.Tests.{below-at, below-clear, below-some, to-clear, to-some}
 use Rattle.lists.proofs.Tables.{put-same, put-row, put-other-row, put-beside, kept-same, kept-then, kept-put}
-use Rattle.grammar.specs.Rules.{leftAt, rightAt, wordFrom, pairFrom, countIn, pairsIn, ruled}
+use Rattle.grammar.specs.Inner.Rules.{leftAt, rightAt, wordFrom, pairFrom, countIn, pairsIn, ruled}
 use Rattle.grammar.proofs.Ruling.{words-ruled, pairs-ruled, word-count, pair-count, pair-here, pair-below}
 use Rattle.counting.specs.Totals.{T}
-use Rattle.counting.specs.Tables.{most, overflows}
-use Rattle.counting.specs.Counted.{countAt, longestAt}
-use Rattle.counting.specs.Filling.{
+use Rattle.counting.specs.Refusals.{most, overflows}
+use Rattle.counting.specs.Inner.Counted.{countAt, longestAt}
+use Rattle.counting.specs.Inner.Filling.{
   Says,
   Filling,
   Filled,

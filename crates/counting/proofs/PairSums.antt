@@ -11,8 +11,8 @@ use Rattle.lists.specs.Joined.{sumOver}
 use Rattle.lists.proofs.Sums.{sum-ext}
 use Rattle.grammar.specs.Chains.{Rule, pairsOf}
 use Rattle.counting.specs.Totals.{splitSum, T}
-use Rattle.counting.specs.Tables.{most}
-use Rattle.counting.specs.Filling.{partSum}
+use Rattle.counting.specs.Refusals.{most}
+use Rattle.counting.specs.Inner.Filling.{partSum}
 use Rattle.counting.proofs.Totals.{pairTotal, T-more, split-step, split-end, split-dead, split-skip}
 
 -- ---- a product more

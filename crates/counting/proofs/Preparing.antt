@@ -14,19 +14,21 @@ use Rattle.answers.specs.Length.{badLength}
 use Rattle.answers.proofs.Refusals.{row-applies, row-passed, rows-stop, rows-pass, answer-number, answer-accepted, answer-refused}
 use Rattle.grammar.specs.Layout.{nonterminals, words, start}
 use Rattle.grammar.specs.Chains.{chain}
-use Rattle.grammar.specs.Rules.{startIn}
+use Rattle.grammar.specs.Inner.Rules.{startIn}
 use Rattle.grammar.specs.Refusals.{grammarRows, grammarRefusal, Accepted}
-use Rattle.grammar.specs.Answers.{refusalNumber, said, checkGrammar, Reads}
+use Rattle.grammar.specs.Answers.{refusalNumber, said, checkGrammar}
+use Rattle.grammar.specs.Inner.Reading.{Reads}
 use Rattle.grammar.specs.declared.checks.GrammarRefusal.{GrammarRefusal}
 use Rattle.grammar.specs.declared.checks.GrammarRefusal.the-variants.{TooShort, OutOfRange, WrongSize, BadRule, BadLink, MetTwice, OnNoChain, Repeated}
 use Rattle.grammar.specs.declared.checks.GrammarAnswer.{GrammarAnswer}
 use Rattle.grammar.specs.declared.checks.GrammarAnswer.the-variants as checked
 use Rattle.counting.specs.Totals.{T}
-use Rattle.counting.specs.Tables.{tooLarge}
-use Rattle.lists.specs.Tables.{Kept}
-use Rattle.counting.specs.Counted.{countAt}
-use Rattle.counting.specs.Filling.{Filling, Filled}
-use Rattle.counting.specs.Prepared.{openRows, preparedRows, countNumber, Opens, Lent, Prepares}
+use Rattle.counting.specs.Refusals.{tooLarge, openRows, preparedRows}
+use Rattle.lists.specs.Inner.Tables.{Kept}
+use Rattle.counting.specs.Inner.Counted.{countAt}
+use Rattle.counting.specs.Inner.Filling.{Filling, Filled}
+use Rattle.counting.specs.Answers.{countNumber}
+use Rattle.counting.specs.Inner.Preparing.{Opens, Lent, Prepares}
 use Rattle.counting.specs.Answers as answers
 use Rattle.counting.specs.declared.prepare.CountRefusal.{CountRefusal}
 use Rattle.counting.specs.declared.prepare.CountRefusal.the-variants.{Grammar, Length, TooLarge}

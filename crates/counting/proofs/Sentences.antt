@@ -12,7 +12,7 @@ use Rattle.grammar.specs.Chains.{Rule, word, pair, wordsOf, pairsOf}
 use Rattle.grammar.specs.Trees.{node, sentence}
 use Rattle.grammar.specs.FullList.{Choice, one, two, splits, choicesFrom, expand, choices, trees}
 use Rattle.grammar.proofs.Enumeration.{trees-eq, sound, sentence-size, derives-size}
-use Rattle.counting.specs.Sentences.{sentences, splitList}
+use Rattle.counting.specs.Inner.Sentences.{sentences, splitList}
 
 -- what the derivations that begin with a choice say
 said : (list : ℕ → ℕ → List (List ℕ)) → Choice → List (List ℕ)

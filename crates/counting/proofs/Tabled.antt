@@ -12,11 +12,11 @@ use Rattle.lists.proofs.Sums.{sum-ext, concat-ext}
 use Rattle.lists.proofs.Tests.{below-within}
 use Rattle.grammar.specs.Layout.{nonterminals}
 use Rattle.grammar.specs.Chains.{Rule, chain, wordsOf, pairsOf}
-use Rattle.grammar.specs.Rules.{countIn, ruled, Holds}
+use Rattle.grammar.specs.Inner.Rules.{countIn, ruled, Holds}
 use Rattle.grammar.proofs.Ruling.{words-ruled, pairs-ruled, pair-inside}
 use Rattle.counting.specs.Totals.{total, T}
-use Rattle.counting.specs.Sentences.{sentences, splitList}
-use Rattle.counting.specs.Tables.{most, overflows, tooLarge}
+use Rattle.counting.specs.Inner.Sentences.{sentences, splitList}
+use Rattle.counting.specs.Refusals.{most, overflows, tooLarge}
 use Rattle.counting.proofs.Totals.{pairTotal, split-moved, total-none, total-one, total-more}
 use Rattle.counting.proofs.Sentences.{sentences-none, sentences-one, sentences-more}
 

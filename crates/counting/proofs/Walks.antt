@@ -9,11 +9,11 @@ use Rattle.lists.specs.Joined.{sumOver, combine}
 use Rattle.lists.proofs.Sums.{sum-combine}
 use Rattle.grammar.specs.Chains.{Rule, wordsOf}
 use Rattle.counting.specs.Totals.{total}
-use Rattle.counting.specs.Sentences.{sentences, weight}
+use Rattle.counting.specs.Inner.Sentences.{sentences, weight}
 use Rattle.counting.proofs.Sentences.{sentences-one, sentence-length}
 use Rattle.counting.proofs.Counts.{weight-append, total-sum}
-use Rattle.lists.specs.Tickets.{Owns, Product}
-use Rattle.counting.specs.Owned.{OwnedAs, halvesTotal, InHalves, HalvesAs, ChosenAs}
+use Rattle.lists.specs.Inner.Tickets.{Owns, Product}
+use Rattle.counting.specs.Inner.Owned.{OwnedAs, halvesTotal, InHalves, HalvesAs, ChosenAs}
 use Rattle.lists.proofs.Owners.{owns-inside, owns-map, owns-ext}
 use Rattle.lists.proofs.Parts.{part-owns, part-total, part-size}
 use Rattle.lists.proofs.Products.{product-some, product-left, product-right, product-owns, product-weight, product-measure}

@@ -1,8 +1,4 @@
 pub mod Totals
-pub mod Sentences
-pub mod Tables
-pub mod Counted
-pub mod Prepared
+pub mod Refusals
 pub mod Answers
-pub mod Filling
-pub mod Owned
+pub mod Inner

@@ -1,7 +1,8 @@
 // What the calls with a grammar and a length share: the refusals 1 to 8 and 9 with the table of rules, and 10 with the table of totals.
 ghost use mathlib.Core.Path.{_≡_};
-ghost use Rattle.grammar.specs.Rules.{Roomy};
-ghost use Rattle.counting.specs.Prepared.{countNumber, Opens, Lent, Prepares};
+ghost use Rattle.grammar.specs.Inner.Rules.{Roomy};
+ghost use Rattle.counting.specs.Answers.{countNumber};
+ghost use Rattle.counting.specs.Inner.Preparing.{Opens, Lent, Prepares};
 use crate::tallies;
 use grammar::checks;
 use grammar::checks::GrammarAnswer;

@@ -3,11 +3,11 @@ ghost use mathlib.Core.Path.{_≡_};
 ghost use mathlib.Core.Bool.{true};
 ghost use Prim.Native.Nat.{_+_, _*_, _-_, _≤_, _<_};
 ghost use lib.ListN.{length};
-ghost use Rattle.lists.specs.Tables.{Copied};
-ghost use Rattle.grammar.specs.Rules.{ruled};
+ghost use Rattle.lists.specs.Inner.Tables.{Copied};
+ghost use Rattle.grammar.specs.Inner.Rules.{ruled};
 ghost use Rattle.counting.specs.Totals.{T};
-ghost use Rattle.counting.specs.Counted.{countAt, longestAt};
-ghost use Rattle.counting.specs.Filling.{Says, partSum, Halves, Deriving, longer, stored, RowFilling, RowFilled, Filling, Filled};
+ghost use Rattle.counting.specs.Inner.Counted.{countAt, longestAt};
+ghost use Rattle.counting.specs.Inner.Filling.{Says, partSum, Halves, Deriving, longer, stored, RowFilling, RowFilled, Filling, Filled};
 use grammar::rules;
 
 // The longest length at which a nonterminal has a derivation; the rows 1 to 16 are those of their lengths.

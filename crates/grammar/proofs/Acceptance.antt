@@ -15,7 +15,7 @@ use Rattle.answers.proofs.Refusals.{row-clear}
 use Rattle.grammar.specs.Layout.{nonterminals, words, rules, start, headOf, kindOf, aOf, bOf, nextOf, sizeOf}
 use Rattle.grammar.specs.Chains.{met}
 use Rattle.grammar.specs.Refusals.{tooShort, outOfRange, wrongSize, fits, misfit, badRule, headAbove, nextAbove, badLink, metTwice, onNoChain, repeated, Accepted}
-use Rattle.grammar.specs.Checks.{Readable}
+use Rattle.grammar.specs.Inner.Checks.{Readable}
 
 -- ---- 2: the ranges
 

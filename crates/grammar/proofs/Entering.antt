@@ -16,7 +16,7 @@ use lib.Seq.{getD-append-add, getD-append-seam}
 use Rattle.lists.specs.Joined.{_∈_, concatMap, upFrom}
 use Rattle.lists.specs.Searched.{times}
 use Rattle.lists.specs.Linked.{isNumber}
-use Rattle.lists.specs.Tables.{entry, put}
+use Rattle.lists.specs.Inner.Tables.{entry, put}
 use Rattle.lists.proofs.Members.{concat-∈}
 use Rattle.lists.proofs.Sums.{concat-append}
 use Rattle.lists.proofs.Places.{getD-same, getD-left, map-upFrom, upFrom-split, set-le}
@@ -27,9 +27,9 @@ use Rattle.lists.proofs.Linked.{met-none, met-step, met-inside}
 use Rattle.grammar.specs.Layout.{nonterminals, words, rules, start, headOf, nextOf}
 use Rattle.grammar.specs.Chains.{Rule, word, pair, ruleOf, numbersFrom, chainNumbers, met, rest, chain, wordsOf, pairsOf}
 use Rattle.grammar.specs.Refusals.{metTwice}
-use Rattle.grammar.specs.Checks.{Readable}
-use Rattle.grammar.specs.Rules.{wordAt, leftAt, rightAt, wordFrom, pairFrom, wordsIn, pairsIn, Roomy}
-use Rattle.grammar.specs.Entering.{metBelow, before, Marked, Run, Entered, Kept, Prepares, Walked, Entering, Enters, Builds}
+use Rattle.grammar.specs.Inner.Checks.{Readable}
+use Rattle.grammar.specs.Inner.Rules.{wordAt, leftAt, rightAt, wordFrom, pairFrom, wordsIn, pairsIn, Roomy}
+use Rattle.grammar.specs.Inner.Entering.{metBelow, before, Marked, Run, Entered, Kept, Prepares, Walked, Entering, Enters, Builds}
 use Rattle.grammar.proofs.Walks.{Met}
 
 -- ---- the rules by kind

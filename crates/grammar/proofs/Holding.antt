@@ -9,9 +9,9 @@ use native.Mathlib.Omega.{arith}
 use Rattle.grammar.specs.Layout.{nonterminals, words, start, headOf}
 use Rattle.grammar.specs.Chains.{chain}
 use Rattle.grammar.specs.Refusals.{repeated}
-use Rattle.grammar.specs.Checks.{Readable}
-use Rattle.grammar.specs.Rules.{wordAt, leftAt, rightAt, wordFrom, pairFrom, Holds}
-use Rattle.grammar.specs.Entering.{Sorted}
+use Rattle.grammar.specs.Inner.Checks.{Readable}
+use Rattle.grammar.specs.Inner.Rules.{wordAt, leftAt, rightAt, wordFrom, pairFrom, Holds}
+use Rattle.grammar.specs.Inner.Entering.{Sorted}
 use Rattle.grammar.proofs.Walks.{readable-inside, words-∈, pairs-∈}
 use Rattle.grammar.proofs.Ruling.{holder, word-listed, pair-listed}
 use Rattle.grammar.proofs.Twins.{words-once}

@@ -6,8 +6,8 @@ use Prim.Native.Nat.{ℕ, _+_, _-_, _≤_, _<_}
 use native.Mathlib.Omega.{arith}
 use lib.ListN.{length, getD}
 use Rattle.lists.specs.Joined.{upFrom}
-use Rattle.lists.specs.Tables.{Wide}
-use Rattle.grammar.specs.Rules.{wordsIn, pairsIn, ruled, Ruled}
+use Rattle.lists.specs.Inner.Tables.{Wide}
+use Rattle.grammar.specs.Inner.Rules.{wordsIn, pairsIn, ruled, Ruled}
 
 -- the words and the pair rules, by the rows that have them
 abbrev wordsBy : (ws begins : List ℕ) → ℕ → List ℕ

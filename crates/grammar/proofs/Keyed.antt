@@ -16,8 +16,8 @@ use Rattle.lists.specs.Searched.{bit, times}
 use Rattle.lists.proofs.Members.{upFrom-∈}
 use Rattle.lists.proofs.Sums.{sum-ext, sum-map}
 use Rattle.lists.proofs.Tests.{and-false, both-ways}
-use Rattle.grammar.specs.Rules.{wordAt, leftAt, rightAt, wordFrom, pairFrom, countIn, wordsIn, pairsIn, Ruled}
-use Rattle.grammar.specs.Links.{last, pickSum, both, bothAt, wordOwner, pairOwner, Keyed, Linked}
+use Rattle.grammar.specs.Inner.Rules.{wordAt, leftAt, rightAt, wordFrom, pairFrom, countIn, wordsIn, pairsIn, Ruled}
+use Rattle.grammar.specs.Inner.Links.{last, pickSum, both, bothAt, wordOwner, pairOwner, Keyed, Linked}
 use Rattle.grammar.proofs.Ruling.{both-tells, holder, rising, pair-below}
 
 -- ---- the last place with a key

@@ -12,11 +12,11 @@ use native.Mathlib.Decide.{ℕ-discrete, decLe}
 use borrow.Author.Tests.{eq-eqb, ne-eqb}
 use lib.Dec.{lit<}
 use lib.ListN.{length, getD, set, length-set}
-use Rattle.lists.specs.Tables.{entry, put, Wide}
+use Rattle.lists.specs.Inner.Tables.{entry, put, Wide}
 use Rattle.lists.proofs.Tables.{put-same, put-row, put-beside, put-other-row, wide-put}
-use Rattle.grammar.specs.Rules.{wordAt, leftAt, rightAt, wordFrom, pairFrom, countIn}
-use Rattle.grammar.specs.Links.{last, bothAt, Keyed, Unlinked, Links}
-use Rattle.grammar.specs.Linking.{LinkedTo, Beside, LinksWords, LinksPairs, LinkedMore}
+use Rattle.grammar.specs.Inner.Rules.{wordAt, leftAt, rightAt, wordFrom, pairFrom, countIn}
+use Rattle.grammar.specs.Inner.Links.{last, bothAt, Keyed, Unlinked, Links}
+use Rattle.grammar.specs.Inner.Linking.{LinkedTo, Beside, LinksWords, LinksPairs, LinkedMore}
 use Rattle.grammar.proofs.Ruling.{rising, word-below, pair-below}
 use Rattle.grammar.proofs.Kept.{ruled-kept}
 

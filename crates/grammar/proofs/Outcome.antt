@@ -18,9 +18,10 @@ use Rattle.answers.proofs.Refusals.{answer-accepted, answer-refused}
 use Rattle.grammar.specs.Layout.{nonterminals, words, rules, sizeOf}
 use Rattle.grammar.specs.Chains.{met}
 use Rattle.grammar.specs.Refusals.{tooShort, wrongSize, headAbove, nextAbove, badLink, metTwice, onNoChain, grammarRows, grammarRefusal}
-use Rattle.grammar.specs.Rules.{Holds}
-use Rattle.grammar.specs.Entering.{Kept}
-use Rattle.grammar.specs.Answers.{refusalNumber, checkGrammar, Reads}
+use Rattle.grammar.specs.Inner.Rules.{Holds}
+use Rattle.grammar.specs.Inner.Entering.{Kept}
+use Rattle.grammar.specs.Answers.{refusalNumber, checkGrammar}
+use Rattle.grammar.specs.Inner.Reading.{Reads}
 use Rattle.grammar.specs.declared.checks.GrammarRefusal.{GrammarRefusal}
 use Rattle.grammar.specs.declared.checks.GrammarAnswer.the-variants.{Accepted, Refused}
 use Rattle.grammar.proofs.Entering.{below-inside}

@@ -15,8 +15,8 @@ use Rattle.lists.proofs.Places.{run-length, run-at}
 use Rattle.lists.proofs.Tests.{and-left, and-right, both-ways}
 use Rattle.lists.proofs.Members.{upFrom-∈, ∈-upFrom}
 use Rattle.grammar.specs.Chains.{word, pair, wordsOf, pairsOf}
-use Rattle.grammar.specs.Rules.{wordAt, leftAt, rightAt, wordFrom, pairFrom, countIn, wordsIn, pairsIn, ruled, Ruled}
-use Rattle.grammar.specs.Links.{both}
+use Rattle.grammar.specs.Inner.Rules.{wordAt, leftAt, rightAt, wordFrom, pairFrom, countIn, wordsIn, pairsIn, ruled, Ruled}
+use Rattle.grammar.specs.Inner.Links.{both}
 
 -- ---- the rules by kind
 

@@ -21,10 +21,10 @@ use Rattle.lists.proofs.Linked.{met-inside}
 use Rattle.grammar.specs.Layout.{nonterminals, rules, headOf, aOf, bOf, nextOf}
 use Rattle.grammar.specs.Chains.{Rule, word, pair, ruleOf, chainNumbers, rest, chain, wordsOf, pairsOf}
 use Rattle.grammar.specs.Refusals.{alike, twins, repeated}
-use Rattle.grammar.specs.Checks.{Readable, beginsAt, entryAt, entriesFrom, entries, Stamping, Stamped}
-use Rattle.grammar.specs.Rules.{leftAt, rightAt, pairFrom, wordsIn, pairsIn}
-use Rattle.grammar.specs.Links.{both}
-use Rattle.grammar.specs.Entering.{Sorted}
+use Rattle.grammar.specs.Inner.Checks.{Readable, beginsAt, entryAt, entriesFrom, entries, Stamping, Stamped}
+use Rattle.grammar.specs.Inner.Rules.{leftAt, rightAt, pairFrom, wordsIn, pairsIn}
+use Rattle.grammar.specs.Inner.Links.{both}
+use Rattle.grammar.specs.Inner.Entering.{Sorted}
 use Rattle.grammar.proofs.Ruling.{both-tells}
 use Rattle.grammar.proofs.Walks.{rule-kind, rule-word, rule-pair, readable-inside, words-∈, pairs-∈}
 

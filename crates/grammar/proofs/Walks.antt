@@ -20,8 +20,8 @@ use Rattle.grammar.specs.declared.cursor.Step.the-variants.{Word, Pair, 
 use Rattle.grammar.specs.Layout.{byteAt, nonterminals, words, rules, headOf, kindOf, aOf, bOf, nextOf}
 use Rattle.grammar.specs.Chains.{Rule, word, pair, ruleOf, numbersFrom, chainNumbers, met, rest, wordsOf, pairsOf, Chained}
 use Rattle.grammar.specs.Refusals.{Accepted}
-use Rattle.grammar.specs.Checks.{Readable}
-use Rattle.grammar.specs.Steps.{handed, stepAt, yielded}
+use Rattle.grammar.specs.Inner.Checks.{Readable}
+use Rattle.grammar.specs.Inner.Steps.{handed, stepAt, yielded}
 use Rattle.grammar.proofs.Acceptance.{Known, known, readable, fits-cases, rule-fits}
 
 -- ---- of an accepted grammar

@@ -1,18 +1,14 @@
--- What *Check bank* answers, and the paper's number and figures of each case of the answer; what reading a grammar leaves in the table of rules.
+-- What *Check bank* answers, and the paper's number and figures of each case of the answer.
 -- Assumes nothing: these are definitions.
-use mathlib.Core.Path.{_≡_}
 use mathlib.Core.List.{List, [], _∷_}
-use Prim.Native.Nat.{ℕ, _≤_}
-use lib.ListN.{length, getD}
-use Rattle.lists.specs.Tables.{Wide}
+use Prim.Native.Nat.{ℕ}
 use Rattle.answers.specs.Answer.{Answer, answer}
 use Rattle.grammar.specs.declared.checks.GrammarRefusal.{GrammarRefusal}
 use Rattle.grammar.specs.declared.checks.GrammarRefusal.the-variants.{TooShort, OutOfRange, WrongSize, BadRule, BadLink, MetTwice, OnNoChain, Repeated}
 use Rattle.grammar.specs.declared.checks.GrammarAnswer.{GrammarAnswer}
 use Rattle.grammar.specs.declared.checks.GrammarAnswer.the-variants.{Accepted, Refused}
 use Rattle.grammar.specs.Layout.{nonterminals, words}
-use Rattle.grammar.specs.Refusals.{grammarRows, grammarRefusal}
-use Rattle.grammar.specs.Rules.{Holds}
+use Rattle.grammar.specs.Refusals.{grammarRows}
 
 abbrev pub refusalNumber : GrammarRefusal → ℕ
 refusalNumber TooShort = 1
@@ -32,11 +28,3 @@ said (Refused r) = record { refusal = refusalNumber r; figures = 0 ∷ 0 ∷ [];
 -- "*Check bank* gives N and W."
 unfoldable pub checkGrammar : List ℕ → Answer
 checkGrammar g = answer (grammarRows g) (nonterminals g ∷ words g ∷ []) [] []
-
--- what reading a grammar answers, and leaves in the table: the rules if it is accepted, and the rows from 4 on as they were
-pub record Reads (g : List ℕ) (before after : List (List ℕ)) (r : GrammarAnswer) : Type 0 where
-  pub says : said r ≡ checkGrammar g
-  pub holds : grammarRefusal g ≡ 0 → Holds g after
-  pub long : length after ≡ length before
-  pub wide : Wide after 256
-  pub rest : (q : ℕ) → 4 ≤ q → getD after q [] ≡ getD before q []

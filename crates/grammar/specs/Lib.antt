@@ -1,12 +1,7 @@
 pub mod Layout
 pub mod Chains
 pub mod Refusals
-pub mod Rules
-pub mod Links
 pub mod Answers
-pub mod Steps
-pub mod Checks
-pub mod Entering
-pub mod Linking
 pub mod Trees
 pub mod FullList
+pub mod Inner

@@ -2,8 +2,8 @@
 ghost use mathlib.Core.Path.{_≡_};
 ghost use Prim.Native.Nat.{_<_};
 ghost use Rattle.grammar.specs.Layout.{nonterminals, headOf};
-ghost use Rattle.grammar.specs.Checks.{Readable};
-ghost use Rattle.grammar.specs.Steps.{stepAt};
+ghost use Rattle.grammar.specs.Inner.Checks.{Readable};
+ghost use Rattle.grammar.specs.Inner.Steps.{stepAt};
 
 // A place on a chain: the number of the rule that comes next, 0 at the end.
 pub struct ChainCursor {

@@ -1,8 +1,8 @@
 // The table of rules, filled by the walk of the chains that finds a rule met a second time.
 ghost use Prim.Native.Nat.{_<_};
-ghost use Rattle.grammar.specs.Rules.{Roomy};
-ghost use Rattle.grammar.specs.Checks.{Readable};
-ghost use Rattle.grammar.specs.Entering.{Prepares, Entering, Enters, Builds};
+ghost use Rattle.grammar.specs.Inner.Rules.{Roomy};
+ghost use Rattle.grammar.specs.Inner.Checks.{Readable};
+ghost use Rattle.grammar.specs.Inner.Entering.{Prepares, Entering, Enters, Builds};
 use crate::cursor::ChainCursor;
 use crate::cursor::Step;
 use crate::fields;

@@ -1,9 +1,9 @@
 // The links of a table of rules: from the last rule with a word to the one before, and so on, and from the last pair rule with two
 // nonterminals.
 ghost use Prim.Native.Nat.{_+_, _<_};
-ghost use Rattle.grammar.specs.Rules.{wordFrom, pairFrom};
-ghost use Rattle.grammar.specs.Links.{Unlinked, Links};
-ghost use Rattle.grammar.specs.Linking.{LinksWords, LinksPairs, LinkedMore};
+ghost use Rattle.grammar.specs.Inner.Rules.{wordFrom, pairFrom};
+ghost use Rattle.grammar.specs.Inner.Links.{Unlinked, Links};
+ghost use Rattle.grammar.specs.Inner.Linking.{LinksWords, LinksPairs, LinkedMore};
 use crate::rules;
 use crate::rules::NEXT_PAIR;
 use crate::rules::NEXT_WORD;

@@ -2,9 +2,9 @@
 ghost use mathlib.Core.Path.{_≡_};
 ghost use Prim.Native.Nat.{_+_, _≤_, _<_};
 ghost use lib.ListN.{length};
-ghost use Rattle.lists.specs.Tables.{entry, Copied};
-ghost use Rattle.grammar.specs.Links.{both, withPair};
-ghost use Rattle.grammar.specs.Rules.{wordAt, leftAt, rightAt, wordFrom, pairFrom, startIn, countIn, widthIn};
+ghost use Rattle.lists.specs.Inner.Tables.{entry, Copied};
+ghost use Rattle.grammar.specs.Inner.Links.{both, withPair};
+ghost use Rattle.grammar.specs.Inner.Rules.{wordAt, leftAt, rightAt, wordFrom, pairFrom, startIn, countIn, widthIn};
 
 // The rules by kind, those of a nonterminal together and in chain order.
 pub const WORDS: usize = 0;

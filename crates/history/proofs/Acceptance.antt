@@ -17,7 +17,7 @@ use Rattle.answers.proofs.Refusals.{row-clear}
 use Rattle.history.specs.Layout.{recordsOf, headOf, recordAt, nextOf, lengthOf, wordsOf}
 use Rattle.history.specs.Chain.{numbers}
 use Rattle.history.specs.Refusals.{badSize, someNonzero, misfit, badRecord, nextAbove, badLink, badChain, Accepted}
-use Rattle.history.specs.Checks.{Sized}
+use Rattle.history.specs.Inner.Checks.{Sized}
 
 -- ---- 11: the size
 

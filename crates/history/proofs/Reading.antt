@@ -13,8 +13,8 @@ use Rattle.lists.proofs.Tests.{within-facts}
 use Rattle.history.specs.Layout.{recordsOf, recordAt, nextOf, wordsOf}
 use Rattle.history.specs.Chain.{numbersFrom}
 use Rattle.history.specs.Refusals.{Accepted}
-use Rattle.history.specs.Checks.{Inside}
-use Rattle.history.specs.Reading.{isRecord, sentenceAt, nextAt}
+use Rattle.history.specs.Inner.Checks.{Inside}
+use Rattle.history.specs.Inner.Reading.{isRecord, sentenceAt, nextAt}
 use Rattle.history.proofs.Acceptance.{known, fits, words-length}
 use Rattle.history.proofs.Chain.{numbers-zero, numbers-above, numbers-step}
 

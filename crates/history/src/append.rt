@@ -3,7 +3,7 @@ ghost use mathlib.Core.Path.{_≡_};
 ghost use Prim.Native.Nat.{_+_, _≤_, _<_};
 ghost use lib.ListN.{length, getD};
 ghost use Rattle.history.specs.Writing.{put, twoBytes, recordBytes, appended};
-ghost use Rattle.history.specs.Checks.{Room};
+ghost use Rattle.history.specs.Inner.Checks.{Room};
 ghost use Rattle.history.specs.Answers.{appendSaid, appendOf};
 use crate::checks;
 use crate::checks::HistoryAnswer;

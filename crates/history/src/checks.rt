@@ -4,7 +4,7 @@ ghost use mathlib.Core.Bool.{false};
 ghost use Prim.Native.Nat.{_+_, _-_, _≤_};
 ghost use lib.ListN.{length};
 ghost use Rattle.history.specs.Refusals.{badSize, someNonzero, misfit, badLink, badChain};
-ghost use Rattle.history.specs.Checks.{Sized, Tested};
+ghost use Rattle.history.specs.Inner.Checks.{Sized, Tested};
 ghost use Rattle.history.specs.Answers.{refusalNumber, said, checkHistory};
 use crate::records;
 

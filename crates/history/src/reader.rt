@@ -5,7 +5,7 @@
 ghost use mathlib.Core.Path.{_≡_};
 ghost use Rattle.history.specs.Layout.{headOf};
 ghost use Rattle.history.specs.Refusals.{Accepted};
-ghost use Rattle.history.specs.Reading.{isRecord, sentenceAt, nextAt};
+ghost use Rattle.history.specs.Inner.Reading.{isRecord, sentenceAt, nextAt};
 use crate::records;
 
 // A place on the chain. The number 0 is the end.

@@ -4,7 +4,7 @@ ghost use Prim.Native.Nat.{_+_, _≤_, _<_};
 ghost use lib.ListN.{length};
 ghost use Rattle.history.specs.Layout.{twoAt, recordAt, lengthOf, wordsOf};
 ghost use Rattle.history.specs.Refusals.{Accepted};
-ghost use Rattle.history.specs.Checks.{Inside};
+ghost use Rattle.history.specs.Inner.Checks.{Inside};
 
 pub fn wide(x: u8) -> usize
     ensures { λ r. ⌜ (r ≡ x) × (r ≤ 255) ⌝ }

@@ -3,7 +3,7 @@
 ghost use mathlib.Core.Path.{_≡_};
 ghost use Prim.Native.Nat.{_+_, _≤_, _<_};
 ghost use lib.ListN.{length};
-ghost use Rattle.sampling.specs.Drawing.{DrawSought};
+ghost use Rattle.sampling.specs.Inner.Drawing.{DrawSought};
 use libc::STDIN_FILENO;
 use libc::STDOUT_FILENO;
 use ranking::unrank;

@@ -13,7 +13,7 @@ use lib.Dec.{ltb}
 use lib.ListN.{length, getD, replicate, length-replicate, getD-replicate}
 use lib.Seq.{getD-append-seam}
 use Rattle.lists.specs.Joined.{_∈_, sumOver}
-use Rattle.lists.specs.Tickets.{ahead, owner, place, offset, tickets, Owns}
+use Rattle.lists.specs.Inner.Tickets.{ahead, owner, place, offset, tickets, Owns}
 use Rattle.lists.proofs.Sums.{sum-append, sum-ext, sum-one, sum-map, length-concat, map-append}
 use Rattle.lists.proofs.Places.{getD-left, getD-right}
 

@@ -6,8 +6,8 @@ use mathlib.Core.List.{List, [], _∷_, _++_, append-assoc}
 use Prim.Native.Nat.{ℕ, _+_, _-_, _≤_, _<_}
 use native.Mathlib.Omega.{arith}
 use Rattle.lists.specs.Joined.{sumOver}
-use Rattle.lists.specs.Tickets.{Owns}
-use Rattle.lists.specs.Parts.{Passed, Part}
+use Rattle.lists.specs.Inner.Tickets.{Owns}
+use Rattle.lists.specs.Inner.Parts.{Passed, Part}
 use Rattle.lists.proofs.Sums.{sum-append}
 use Rattle.lists.proofs.Owners.{owns-left, owns-right}
 

@@ -8,7 +8,7 @@ use Prim.Native.Nat.{ℕ, zero, suc, _+_, _*_, _/_, _%_, _<_}
 use native.Mathlib.Omega.{arith}
 use native.Mathlib.Nat.{div-add-mod', mod-lt, div-lt-iff-lt-mul, mul-le-mul-right}
 use Rattle.lists.specs.Joined.{_∈_, sumOver, combine}
-use Rattle.lists.specs.Tickets.{Owns, Product}
+use Rattle.lists.specs.Inner.Tickets.{Owns, Product}
 use Rattle.lists.proofs.Sums.{sum-append, sum-ext, sum-map, sum-scale, sum-combine, map-append}
 use Rattle.lists.proofs.Owners.{owns-∈, before-∈}
 

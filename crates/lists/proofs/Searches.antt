@@ -2,22 +2,22 @@
 -- passes, and else none. And counting a list of numbers by its values.
 -- Assumes nothing.
 use mathlib.Core.Path.{_≡_, refl, sym, ap, _∙_}
-use mathlib.Core.Bool.{Bool, true, false}
+use mathlib.Core.Bool.{Bool, true, false, cond}
 use mathlib.Core.List.{List, [], _∷_, _++_, map, List·Memᴰ·head, List·Memᴰ·tail}
-use Prim.Native.Nat.{ℕ, zero, suc, _+_, _≤_, _<_}
+use Prim.Native.Nat.{ℕ, zero, suc, _+_, _-_, _≤_, _<_}
 use native.Mathlib.Omega.{arith}
 use native.Mathlib.Decide.{ℕ-discrete, decLe}
 use borrow.Author.Tests.{eq-eqb, ne-eqb}
-use lib.Dec.{eqb}
+use lib.Dec.{eqb, ltb}
 use lib.ListN.{length, getD, set, take, drop}
 use lib.Seq.{getD-set-same, getD-set-other, split-at, length-take-le}
 use Rattle.lists.specs.Joined.{_∈_, sumOver, concatMap, upFrom}
 use Rattle.lists.specs.Ordered.{Distinct, none, more}
-use Rattle.lists.specs.Tickets.{ahead, owner, Owns}
-use Rattle.lists.specs.Searched.{bit, howMany, placeOf, times}
+use Rattle.lists.specs.Inner.Tickets.{ahead, owner, place, Owns}
+use Rattle.lists.specs.Searched.{bit, howMany, firstPlace, times}
 use Rattle.lists.proofs.Sums.{sum-append, sum-map, sum-plus, sum-const, sum-one, sum-le, sum-single, length-upFrom}
 use Rattle.lists.proofs.Tests.{bit-le}
-use Rattle.lists.proofs.Owners.{owned, owns-place, place-inside, owns-only, owns-ext, ahead-map, owner-at}
+use Rattle.lists.proofs.Owners.{owned, owns-place, place-inside, owns-only, owns-ext, owner-at}
 
 -- ---- how many
 
@@ -34,36 +34,48 @@ bit-true : (b : Bool) → 0 < bit b → b ≡ true
 bit-true true h = refl
 bit-true false h = absurd (omega arith)
 
-module _ {X : Type 0} where
-  pub place-lt : (P : X → Bool) (l : List X) (d : ℕ) → d < howMany P l → placeOf P l d < length l
-  place-lt P [] d h = absurd (omega arith)
-  place-lt P (x ∷ l) d h =
-      let r = owned {v = λ y. bit (P y)} {u = λ y. 1} (x ∷ l) d x h in
-      omega (arith, place-inside r, sum-one l)
+module _ {X : Type 0} (P : X → Bool) where
+  -- it is that of the owner of ticket 0, where each that passes has a ticket
+  place-first : (l : List X) → place (λ x. bit (P x)) (λ x. 1) l 0 ≡ firstPlace P l
+  place-first [] = refl
+  place-first (x ∷ l) = go (P x) (place-first l)
+    where
+      go : (b : Bool) → place (λ x. bit (P x)) (λ x. 1) l 0 ≡ firstPlace P l
+          → sumOver (λ (y : X). 1) (cond (ltb 0 (bit b)) [] (x ∷ ahead (λ x. bit (P x)) l (0 - bit b))) ≡ cond b 0 (suc (firstPlace P l))
+      go true e = refl
+      go false e = omega (arith, e)
+
+  pub place-lt : (l : List X) → 0 < howMany P l → firstPlace P l < length l
+  place-lt [] h = absurd (omega arith)
+  place-lt (x ∷ l) h =
+      let r = owned {v = λ y. bit (P y)} {u = λ y. 1} (x ∷ l) 0 x h in
+      omega (arith, place-inside r, sum-one l, place-first (x ∷ l))
 
   -- what stands there passes
-  pub place-hit : (P : X → Bool) (l : List X) (d : ℕ) (z : X) → d < howMany P l → P (getD l (placeOf P l d) z) ≡ true
-  place-hit P l d z h =
-      let r = owned {v = λ x. bit (P x)} {u = λ x. 1} l d z h in
-      ap P (sym (owner-at (λ x. bit (P x)) l d z)) ∙ bit-true (P (owner (λ x. bit (P x)) l d z)) (omega (arith, r .own))
+  pub place-hit : (l : List X) (z : X) → 0 < howMany P l → P (getD l (firstPlace P l) z) ≡ true
+  place-hit l z h =
+      let r = owned {v = λ x. bit (P x)} {u = λ x. 1} l 0 z h in
+      ap (λ (n : ℕ). P (getD l n z)) (sym (place-first l))
+      ∙ ap P (sym (owner-at (λ x. bit (P x)) l 0 z))
+      ∙ bit-true (P (owner (λ x. bit (P x)) l 0 z)) (omega (arith, r .own))
 
   -- where just one element passes, that is its place
-  pub place-only : (P : X → Bool) (l : List X) (i : ℕ) (z : X) → howMany P l ≡ 1 → i < length l → P (getD l i z) ≡ true → i ≡ placeOf P l 0
-  place-only P l i z o h e =
+  pub place-only : (l : List X) (i : ℕ) (z : X) → howMany P l ≡ 1 → i < length l → P (getD l i z) ≡ true → i ≡ firstPlace P l
+  place-only l i z o h e =
       let b : bit (P (getD l i z)) ≡ 1 = ap bit e in
       let r = owns-only {v = λ x. bit (P x)} {u = λ x. 1} (take i l) (getD l i z) (drop (suc i) l) (split-at l i z h) (omega arith) (omega arith) in
-      omega (arith, owns-place r, sum-one (take i l), length-take-le i l (omega arith))
+      omega (arith, owns-place r, sum-one (take i l), length-take-le i l (omega arith), place-first l)
 
-module _ {X Y : Type 0} where
-  pub place-map : (P : Y → Bool) (f : X → Y) (l : List X) (d : ℕ) → placeOf P (map f l) d ≡ placeOf (λ x. P (f x)) l d
-  place-map P f l d = ap (sumOver (λ x. 1)) (ahead-map f (λ y. bit (P y)) l d) ∙ sum-map f (λ y. 1) (ahead (λ x. bit (P (f x))) l d)
+pub place-map : {X Y : Type 0} (P : Y → Bool) (f : X → Y) (l : List X) → firstPlace P (map f l) ≡ firstPlace (λ x. P (f x)) l
+place-map P f [] = refl
+place-map P f (x ∷ l) = rw (place-map P f l)
 
 -- ---- owners where an element weighs 1 if it passes, and else 0
 
-module _ {X : Type 0} {v u : X → ℕ} {l : List X} {t : ℕ} {x : X} {n o : ℕ} (r : Owns v u l t x n o) (P : X → Bool) (h : (y : X) → y ∈ l → v y ≡ bit (P y)) where
-  -- where every element measures 1, the owner of t is the one that passes after t others
-  pub by-index : ((y : X) → y ∈ l → u y ≡ 1) → n ≡ placeOf P l t
-  by-index k = sym (owns-place (owns-ext (λ y. bit (P y)) (λ y. 1) h k r))
+module _ {X : Type 0} {v u : X → ℕ} {l : List X} {x : X} {n o : ℕ} (r : Owns v u l 0 x n o) (P : X → Bool) (h : (y : X) → y ∈ l → v y ≡ bit (P y)) where
+  -- where every element measures 1, the owner of ticket 0 is the first that passes
+  pub by-index : ((y : X) → y ∈ l → u y ≡ 1) → n ≡ firstPlace P l
+  by-index k = sym (owns-place (owns-ext (λ y. bit (P y)) (λ y. 1) h k r)) ∙ place-first P l
 
 -- ---- a list of numbers, counted by its values
 

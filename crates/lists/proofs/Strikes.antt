@@ -11,9 +11,9 @@ use lib.Seq.{split-at, getD-at, length-take-le}
 use lib.ListN.{length, getD, take, drop, length-map, length-append, List·getD-map}
 use Rattle.lists.specs.Joined.{_∈_, sumOver, upFrom}
 use Rattle.lists.specs.Ordered.{Pairwise, more, Distinct, Exactly}
-use Rattle.lists.specs.Searched.{bit, howMany}
-use Rattle.lists.specs.Tickets.{place, struckFrom, skipOver}
-use Rattle.lists.specs.Struck.{keep, struck, numbered, skip}
+use Rattle.lists.specs.Searched.{bit, howMany, keep}
+use Rattle.lists.specs.Inner.Tickets.{place, struckFrom, skipOver}
+use Rattle.lists.specs.Inner.Struck.{struck, numbered, skip}
 use Rattle.lists.proofs.Sums.{sum-one, sum-map, map-ext}
 use Rattle.lists.proofs.Members.{upFrom-∈}
 use Rattle.lists.proofs.Orders.{pairwise-map, order-unique}

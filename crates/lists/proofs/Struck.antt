@@ -15,8 +15,9 @@ use lib.Seq.{ext-getD}
 use lib.ListN.{length, getD, replicate, take, length-map, List·getD-eq-default}
 use Rattle.lists.specs.Joined.{_∈_, At, sumOver, upFrom}
 use Rattle.lists.specs.Ordered.{Pairwise, none, more}
-use Rattle.lists.specs.Tickets.{ahead, owner, place, tickets, Owns, unstruck, struckFrom, skipOver, StruckAs}
-use Rattle.lists.specs.Struck.{keep, numbered}
+use Rattle.lists.specs.Inner.Tickets.{ahead, owner, place, tickets, Owns, unstruck, struckFrom, skipOver, StruckAs}
+use Rattle.lists.specs.Searched.{keep}
+use Rattle.lists.specs.Inner.Struck.{numbered}
 use Rattle.lists.proofs.Sums.{sum-one, sum-map, concat-ext, length-upFrom}
 use Rattle.lists.proofs.Members.{getD-∈}
 use Rattle.lists.proofs.Places.{getD-map, getD-upFrom}

@@ -7,7 +7,7 @@ use native.Mathlib.Omega.{arith}
 use native.Mathlib.Decide.{ℕ-discrete, decLt}
 use lib.ListN.{length, getD, set, replicate, length-set, length-replicate, getD-replicate}
 use lib.Seq.{getD-set-same, getD-set-other}
-use Rattle.lists.specs.Tables.{entry, put, Wide, Kept, Copied}
+use Rattle.lists.specs.Inner.Tables.{entry, put, Wide, Kept, Copied}
 use Rattle.lists.proofs.Places.{getD-same}
 
 module _ (t : List (List ℕ)) where

@@ -1,8 +1,5 @@
 pub mod Joined
 pub mod Ordered
-pub mod Tickets
-pub mod Parts
 pub mod Searched
-pub mod Struck
 pub mod Linked
-pub mod Tables
+pub mod Inner

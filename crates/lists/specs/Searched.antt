@@ -1,11 +1,11 @@
--- Tests on numbers and over lists: whether a number is within bounds, how many elements pass, the place of one that does, whether some number below a bound does.
+-- Tests on numbers and over lists: whether a number is within bounds, how many elements pass, the place of the first that does, those that do,
+-- whether some number below a bound does.
 -- Assumes nothing: these are definitions.
 use mathlib.Core.Bool.{Bool, true, false, cond, _&&_, _||_}
 use mathlib.Core.List.{List, [], _∷_}
 use Prim.Native.Nat.{ℕ, zero, suc}
 use lib.Dec.{leb, eqb}
 use Rattle.lists.specs.Joined.{sumOver}
-use Rattle.lists.specs.Tickets.{place}
 
 -- x is from lo to hi
 abbrev pub within : (lo hi x : ℕ) → Bool
@@ -20,9 +20,15 @@ module _ {X : Type 0} where
   abbrev pub howMany : (X → Bool) → List X → ℕ
   howMany P l = sumOver (λ x. bit (P x)) l
 
-  -- the place of the element that passes after d others that do: the owner of the ticket d, where each that passes has one
-  abbrev pub placeOf : (X → Bool) → List X → ℕ → ℕ
-  placeOf P l d = place (λ x. bit (P x)) (λ x. 1) l d
+  -- how many elements stand before the first that passes
+  abbrev pub firstPlace : (X → Bool) → List X → ℕ
+  firstPlace P [] = 0
+  firstPlace P (x ∷ l) = cond (P x) 0 (suc (firstPlace P l))
+
+  -- the elements that pass, in their order
+  abbrev pub keep : (X → Bool) → List X → List X
+  keep P [] = []
+  keep P (x ∷ l) = cond (P x) (x ∷ keep P l) (keep P l)
 
   -- some element passes
   abbrev pub someOf : (X → Bool) → List X → Bool

@@ -14,7 +14,7 @@ use Rattle.grammar.specs.Chains.{rest, chain}
 use Rattle.grammar.specs.Trees.{Tree, sentence, Derives}
 use Rattle.grammar.proofs.Plain.{plain, plain-single}
 use Rattle.counting.specs.Totals.{totalTo, total}
-use Rattle.counting.specs.Tables.{overflows, tooLarge}
+use Rattle.counting.specs.Refusals.{overflows, tooLarge}
 use Rattle.matrix.specs.Table.{table}
 
 -- how long the sentences of each nonterminal are

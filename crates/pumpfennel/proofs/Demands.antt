@@ -12,7 +12,7 @@ use Rattle.grammar.specs.Layout.{nonterminals, words}
 use Rattle.grammar.specs.Trees.{sentence}
 use Rattle.grammar.specs.Refusals.{grammarRows}
 use Rattle.grammar.specs.Answers.{checkGrammar}
-use Rattle.counting.specs.Prepared.{preparedRows}
+use Rattle.counting.specs.Refusals.{preparedRows}
 use Rattle.counting.specs.Answers.{countOf}
 use Rattle.history.specs.Layout.{recordsOf}
 use Rattle.history.specs.Refusals as history

@@ -10,7 +10,7 @@ use Rattle.answers.specs.Answer.{Row, Answer, firstThatApplies}
 use Rattle.grammar.specs.Refusals as grammar
 use Rattle.grammar.specs.Refusals.{grammarRows}
 use Rattle.grammar.specs.Answers.{checkGrammar}
-use Rattle.counting.specs.Prepared.{preparedRows}
+use Rattle.counting.specs.Refusals.{preparedRows}
 use Rattle.counting.specs.Answers.{countOf}
 use Rattle.history.specs.Refusals as history
 use Rattle.history.specs.Refusals.{historyRows}

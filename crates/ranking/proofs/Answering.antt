@@ -11,16 +11,17 @@ use lib.Dec.{ltb, leb, eqb, lit<}
 use borrow.Author.Tests.{le-leb, lt-leb, lt-ltb, le-ltb, eq-eqb, ne-eqb}
 use Rattle.answers.specs.Answer.{Row, firstThatApplies}
 use Rattle.answers.proofs.Refusals.{row-applies, row-passed, rows-stop, rows-pass, answer-accepted, answer-refused}
-use Rattle.grammar.specs.Rules.{startIn, Holds}
-use Rattle.counting.specs.Tables.{most}
-use Rattle.counting.specs.Counted.{Counted}
-use Rattle.counting.specs.Prepared.{preparedRows, countNumber, preparedNumber, Prepares}
+use Rattle.grammar.specs.Inner.Rules.{startIn, Holds}
+use Rattle.counting.specs.Refusals.{most, preparedRows}
+use Rattle.counting.specs.Inner.Counted.{Counted}
+use Rattle.counting.specs.Answers.{countNumber}
+use Rattle.counting.specs.Inner.Preparing.{preparedNumber, Prepares}
 use Rattle.counting.specs.declared.prepare.Prepared.{Prepared}
 use Rattle.counting.specs.declared.prepare.Prepared.the-variants.{Ready, Refused}
 use Rattle.counting.specs.declared.prepare.CountRefusal.{CountRefusal}
 use Rattle.counting.proofs.Preparing.{count-number}
 use Rattle.ranking.specs.Answers.{totalOf, entryOf, unrankOf, readingsOf, numberOf, rankOf}
-use Rattle.ranking.specs.Inside.{totalIn, entryIn, readingsIn, numberIn, unrankIn, rankIn}
+use Rattle.ranking.specs.Inner.Inside.{totalIn, entryIn, readingsIn, numberIn, unrankIn, rankIn}
 use Rattle.ranking.proofs.Inside.{total-is, entry-is, readings-are, number-is}
 
 -- T is of 64 bits

@@ -24,9 +24,9 @@ use Rattle.grammar.specs.Trees.{Tree, leaf, sentence}
 use Rattle.grammar.proofs.Walks.{chained}
 use Rattle.grammar.proofs.Enumeration.{sound, complete, listed}
 use Rattle.grammar.proofs.Order.{distinct, sorted, entry-number}
-use Rattle.counting.specs.Prepared.{preparedRows}
+use Rattle.counting.specs.Refusals.{preparedRows}
 use Rattle.counting.specs.Answers.{countOf}
-use Rattle.counting.specs.Sentences.{sentences}
+use Rattle.counting.specs.Inner.Sentences.{sentences}
 use Rattle.counting.proofs.Sentences.{sentence-length}
 use Rattle.counting.proofs.Counts.{T-counts, T-length, T-sentences}
 use Rattle.ranking.specs.Answers.{fullList, totalOf, entryOf, unrankRows, unrankOf, derives, readingsOf, numberOf, rankRows, rankOf}
@@ -61,10 +61,10 @@ module _ (g : List ℕ) where
     some = omega arith
 
     pub number-inside : numberOf g s < totalOf g (length s)
-    number-inside = omega (arith, place-lt (derives s) (fullList g (length s)) 0 some, listed-total (length s))
+    number-inside = omega (arith, place-lt (derives s) (fullList g (length s)) some, listed-total (length s))
 
     pub number-says : entryOf g (length s) (numberOf g s) ≡ s
-    number-says = same-eq (entryOf g (length s) (numberOf g s)) s (place-hit (derives s) (fullList g (length s)) 0 (leaf 0 0) some)
+    number-says = same-eq (entryOf g (length s) (numberOf g s)) s (place-hit (derives s) (fullList g (length s)) (leaf 0 0) some)
 
     pub number-only : (d : ℕ) → d < totalOf g (length s) → entryOf g (length s) d ≡ s → d ≡ numberOf g s
     number-only d h e =

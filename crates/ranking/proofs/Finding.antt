@@ -9,27 +9,27 @@ use native.Mathlib.Omega.{arith}
 use native.Mathlib.Nat.{sub-zero}
 use lib.ListN.{length, getD, drop, replicate, length-replicate}
 use borrow.Rule.Slice.PartMut.{postOf}
-use Rattle.lists.specs.Tables.{entry}
+use Rattle.lists.specs.Inner.Tables.{entry}
 use Rattle.lists.proofs.Tables.{wide-made, made-entry}
-use Rattle.grammar.specs.Rules.{startIn, ruled}
-use Rattle.counting.specs.Owned.{OwnedAs}
-use Rattle.counting.specs.Counted.{countAt, Asked, Counted}
+use Rattle.grammar.specs.Inner.Rules.{startIn, ruled}
+use Rattle.counting.specs.Inner.Owned.{OwnedAs}
+use Rattle.counting.specs.Inner.Counted.{countAt, Asked, Counted}
 use Rattle.grammar.proofs.Kept.{ruled-same}
-use Rattle.counting.specs.Prepared.{Prepares}
+use Rattle.counting.specs.Inner.Preparing.{Prepares}
 use Rattle.counting.specs.declared.prepare.Prepared.{Prepared}
 use Rattle.counting.specs.declared.prepare.Prepared.the-variants.{Ready as Passed}
 use Rattle.counting.proofs.Asking.{counted-copied}
 use Rattle.charts.proofs.Placing.{room-short, room-low}
-use Rattle.charts.specs.Letters.{letterAt, weightBy}
-use Rattle.charts.specs.Maps.{totalAt, Span, Mapped, Everywhere, Spelt}
-use Rattle.charts.specs.Plan.{lengthIn, needed}
-use Rattle.charts.specs.Chart.{Fills, Filled, Charted}
-use Rattle.charts.specs.Ready.{Ready}
+use Rattle.charts.specs.Inner.Letters.{letterAt, weightBy}
+use Rattle.charts.specs.Inner.Maps.{totalAt, Span, Mapped, Everywhere, Spelt}
+use Rattle.charts.specs.Inner.Plan.{lengthIn, needed}
+use Rattle.charts.specs.Inner.Chart.{Fills, Filled, Charted}
+use Rattle.charts.specs.Inner.Ready.{Ready}
 use Rattle.charts.proofs.Mapping.{everywhere-total, everywhere-mapped, all-closed, planned-closed, planned-same}
-use Rattle.walk.specs.Sought.{Hand, Sought}
-use Rattle.walk.specs.Steps.{Placed}
-use Rattle.ranking.specs.Inside.{totalIn, entryIn, readingsIn, numberIn, rankIn, WriteSought}
-use Rattle.ranking.specs.Ranking.{FindSought, Says, FoundAs, Roomy, NumberSought}
+use Rattle.walk.specs.Inner.Sought.{Hand, Sought}
+use Rattle.walk.specs.Inner.Steps.{Placed}
+use Rattle.ranking.specs.Inner.Inside.{totalIn, entryIn, readingsIn, numberIn, rankIn, WriteSought}
+use Rattle.ranking.specs.Inner.Ranking.{FindSought, Says, FoundAs, Roomy, NumberSought}
 use Rattle.ranking.specs.declared.rank.Found.{Found}
 use Rattle.ranking.proofs.Weighing.{given, readings-weigh, numbered}
 

@@ -13,12 +13,12 @@ use Rattle.lists.proofs.Searches.{place-map}
 use Rattle.grammar.specs.Layout.{start}
 use Rattle.grammar.specs.Chains.{chain}
 use Rattle.grammar.specs.Trees.{leaf, sentence}
-use Rattle.grammar.specs.Rules.{startIn, ruled, Holds}
-use Rattle.counting.specs.Sentences.{sentences}
+use Rattle.grammar.specs.Inner.Rules.{startIn, ruled, Holds}
+use Rattle.counting.specs.Inner.Sentences.{sentences}
 use Rattle.counting.proofs.Counts.{T-sentences, T-length}
 use Rattle.counting.proofs.Tabled.{tabled-sentences}
 use Rattle.ranking.specs.Answers.{fullList, totalOf, entryOf, readingsOf, numberOf}
-use Rattle.ranking.specs.Inside.{fullIn, totalIn, entryIn, readingsIn, numberIn}
+use Rattle.ranking.specs.Inner.Inside.{fullIn, totalIn, entryIn, readingsIn, numberIn}
 
 -- the sentence of entry d
 pub entry-of : (g : List ℕ) (n d : ℕ) → d < totalOf g n → getD (sentences (chain g) (start g) n) d [] ≡ entryOf g n d
@@ -46,4 +46,4 @@ module _ {g : List ℕ} {rules : List (List ℕ)} (h : Holds g rules) where
   readings-are s = rw (full-is (length s)) (sum-map sentence (λ u. bit (same u s)) (fullList g (length s)))
 
   pub number-is : (s : List ℕ) → numberIn rules s ≡ numberOf g s
-  number-is s = rw (full-is (length s)) (place-map (λ u. same u s) sentence (fullList g (length s)) 0)
+  number-is s = rw (full-is (length s)) (place-map (λ u. same u s) sentence (fullList g (length s)))

@@ -11,20 +11,20 @@ use lib.Dec.{eqb}
 use borrow.Author.Tests.{ne-eqb, eqb-true, eq-eqb}
 use Rattle.lists.specs.Joined.{_∈_}
 use Rattle.lists.specs.Searched.{bit, same}
-use Rattle.lists.specs.Tables.{entry}
+use Rattle.lists.specs.Inner.Tables.{entry}
 use Rattle.lists.proofs.Sums.{sum-ext}
 use Rattle.lists.proofs.Tests.{bit-and, both-ways}
 use Rattle.lists.proofs.Owners.{owns-∈, by-counts, by-itself}
 use Rattle.lists.proofs.Searches.{by-index}
-use Rattle.grammar.specs.Rules.{startIn, ruled}
+use Rattle.grammar.specs.Inner.Rules.{startIn, ruled}
 use Rattle.counting.specs.Totals.{total}
-use Rattle.counting.specs.Sentences.{weight}
-use Rattle.counting.specs.Owned.{OwnedAs}
+use Rattle.counting.specs.Inner.Sentences.{weight}
+use Rattle.counting.specs.Inner.Owned.{OwnedAs}
 use Rattle.counting.proofs.Counts.{total-sum}
 use Rattle.counting.proofs.Sentences.{sentence-length}
-use Rattle.charts.specs.Letters.{any, letterAt, letterWeight, weightBy}
-use Rattle.charts.specs.Maps.{Everywhere}
-use Rattle.ranking.specs.Inside.{fullIn, entryIn, readingsIn, numberIn}
+use Rattle.charts.specs.Inner.Letters.{any, letterAt, letterWeight, weightBy}
+use Rattle.charts.specs.Inner.Maps.{Everywhere}
+use Rattle.ranking.specs.Inner.Inside.{fullIn, entryIn, readingsIn, numberIn}
 
 eqb-flip : (x y : ℕ) → eqb x y ≡ eqb y x
 eqb-flip x y = both-ways (eqb x y) (eqb y x) (λ e. eq-eqb y x (sym (eqb-true x y e))) (λ e. eq-eqb x y (sym (eqb-true y x e)))

@@ -5,14 +5,15 @@ use mathlib.Core.List.{List, [], _∷_, _++_}
 use Prim.Native.Nat.{ℕ}
 use lib.ListN.{length, getD, drop}
 use lib.Dec.{ltb, leb, eqb}
-use Rattle.lists.specs.Searched.{howMany, placeOf, same}
+use Rattle.lists.specs.Searched.{howMany, firstPlace, same}
 use Rattle.answers.specs.Answer.{Row, Answer, answer}
 use Rattle.grammar.specs.Layout.{start}
 use Rattle.grammar.specs.Chains.{chain}
 use Rattle.grammar.specs.Trees.{Tree, leaf, sentence}
 use Rattle.grammar.specs.FullList.{trees}
 use Rattle.counting.specs.Totals.{T}
-use Rattle.counting.specs.Prepared.{preparedRows, countNumber}
+use Rattle.counting.specs.Refusals.{preparedRows}
+use Rattle.counting.specs.Answers.{countNumber}
 use Rattle.ranking.specs.declared.unrank.UnrankAnswer.{UnrankAnswer}
 use Rattle.ranking.specs.declared.unrank.UnrankAnswer.the-variants.{Given, NotGiven, Beyond, Short}
 use Rattle.ranking.specs.declared.rank.RankAnswer.{RankAnswer}
@@ -66,7 +67,7 @@ readingsOf g s = howMany (derives s) (fullList g (length s))
 
 -- how many derivations stand before the sentence's first one: the derivation number of its one derivation
 abbrev pub numberOf : (g s : List ℕ) → ℕ
-numberOf g s = placeOf (derives s) (fullList g (length s)) 0
+numberOf g s = firstPlace (derives s) (fullList g (length s))
 
 -- "17. The sentence has no derivation from S (*Number*)." "18. The sentence has two or more derivations from S (*Number*)."
 abbrev pub rankRows : (g s : List ℕ) → List Row

@@ -1,4 +1,3 @@
 pub mod Answers
-pub mod Inside
-pub mod Ranking
 pub mod Demand2
+pub mod Inner

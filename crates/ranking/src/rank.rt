@@ -2,8 +2,8 @@
 ghost use mathlib.Core.Path.{_≡_};
 ghost use lib.ListN.{length};
 ghost use Rattle.ranking.specs.Answers.{rankSaid, rankOf};
-ghost use Rattle.ranking.specs.Inside.{rankIn};
-ghost use Rattle.ranking.specs.Ranking.{FindSought, FoundAs, NumberSought, Roomy};
+ghost use Rattle.ranking.specs.Inner.Inside.{rankIn};
+ghost use Rattle.ranking.specs.Inner.Ranking.{FindSought, FoundAs, NumberSought, Roomy};
 use crate::unrank;
 use crate::unrank::DerivationNumber;
 use charts::chart;

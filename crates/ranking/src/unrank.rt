@@ -2,9 +2,9 @@
 ghost use mathlib.Core.Path.{_≡_};
 ghost use mathlib.Core.List.{_++_};
 ghost use lib.ListN.{drop};
-ghost use Rattle.counting.specs.Counted.{Counted};
+ghost use Rattle.counting.specs.Inner.Counted.{Counted};
 ghost use Rattle.ranking.specs.Answers.{unrankSaid, unrankOf};
-ghost use Rattle.ranking.specs.Inside.{totalIn, entryIn, WriteSought, unrankIn};
+ghost use Rattle.ranking.specs.Inner.Inside.{totalIn, entryIn, WriteSought, unrankIn};
 use charts::maps;
 use counting::prepare;
 use counting::prepare::CountRefusal;

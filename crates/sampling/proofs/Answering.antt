@@ -14,7 +14,8 @@ use lib.Seq.{length-take-le, take-append-le}
 use lib.Dec.{ltb, leb, eqb, lit<}
 use Rattle.lists.specs.Joined.{_∈_, concatMap}
 use Rattle.lists.specs.Ordered.{Pairwise}
-use Rattle.lists.specs.Struck.{keep, struck, skip}
+use Rattle.lists.specs.Searched.{keep}
+use Rattle.lists.specs.Inner.Struck.{struck, skip}
 use Rattle.lists.proofs.Sums.{concat-ext}
 use Rattle.lists.proofs.Members.{∈-concat, concat-∈}
 use Rattle.lists.proofs.Tests.{and-left, and-right, some-ext}
@@ -24,13 +25,15 @@ use Rattle.lists.proofs.Strikes.{keep-length, keep-∈, ∈-keep, struck-rising
 use Rattle.answers.specs.Answer.{Row, firstThatApplies, answerOf, answer}
 use Rattle.answers.proofs.Refusals.{row-applies, row-passed, rows-stop, rows-pass, answer-accepted, answer-refused}
 use Rattle.grammar.specs.Trees.{sentence}
-use Rattle.grammar.specs.Rules as grammar
-use Rattle.counting.specs.Prepared.{preparedRows, countNumber, Tabled}
+use Rattle.grammar.specs.Inner.Rules as grammar
+use Rattle.counting.specs.Refusals.{preparedRows}
+use Rattle.counting.specs.Answers.{countNumber}
+use Rattle.counting.specs.Inner.Preparing.{Tabled}
 use Rattle.counting.specs.declared.prepare.CountRefusal.{CountRefusal}
 use Rattle.counting.proofs.Preparing.{count-number}
 use Rattle.counting.proofs.Counts.{T-sentences}
 use Rattle.ranking.specs.Answers.{fullList, totalOf, readingsOf, numberOf}
-use Rattle.ranking.specs.Inside.{fullIn, totalIn, entryIn, readingsIn, WriteSought}
+use Rattle.ranking.specs.Inner.Inside.{fullIn, totalIn, entryIn, readingsIn, WriteSought}
 use Rattle.ranking.proofs.Inside.{full-is, total-is, entry-is, readings-are, number-is}
 use Rattle.ranking.proofs.Answering.{left-of, refused-of, total-fits}
 use Rattle.ranking.proofs.Demand2.{listed-total}
@@ -40,19 +43,19 @@ use Rattle.history.specs.Heard.{sentences, heard}
 use Rattle.history.proofs.Acceptance.{known}
 use Rattle.history.proofs.Chain.{numbers-zero}
 use Rattle.history.proofs.Outcome.{number-some}
-use Rattle.sorting.specs.Sorted.{Sorted}
+use Rattle.sorting.specs.Inner.Sorted.{Sorted}
 use Rattle.sampling.specs.Question.{Question, plainly}
-use Rattle.sampling.specs.Unheard.{Entry, outside, barred, ofLength, heardOf, leftOf, ambiguous}
+use Rattle.sampling.specs.Unheard.{Entry, outside, ofLength, heardOf, leftOf, ambiguous}
+use Rattle.sampling.specs.Inner.Hearing.{barred, numbersIn, ambiguousIn, Holds}
 use Rattle.sampling.specs.Answers.{sampleNumber, remainingRows, remainingTo, drawn, drawTo}
-use Rattle.sampling.specs.Skipping.{Skips}
-use Rattle.sampling.specs.Hearing.{numbersIn, ambiguousIn, Holds}
-use Rattle.sampling.specs.Preparing.{Room, Lent, Heard, Hold, HeardAs, Recorded, RecordedAs, Drawable, Prepared, PreparedAs}
+use Rattle.sampling.specs.Inner.Skipping.{Skips}
+use Rattle.sampling.specs.Inner.Preparing.{Room, Lent, Heard, Hold, HeardAs, Recorded, RecordedAs, Drawable, Prepared, PreparedAs}
 use Rattle.sampling.specs.declared.heard.Collected.the-variants.{Numbers}
 use Rattle.sampling.specs.declared.prepare.SampleRefusal.{SampleRefusal}
 use Rattle.sampling.specs.declared.prepare.SampleRefusal.the-variants.{Count, History, Ambiguous as NotSingle}
 use Rattle.sampling.specs.declared.prepare.Sampled.{Sampled}
 use Rattle.sampling.specs.declared.prepare.Sampled.the-variants.{Ready, Refused as NotReady}
-use Rattle.sampling.specs.Drawing.{DrawSought, drawSkipping}
+use Rattle.sampling.specs.Inner.Drawing.{DrawSought, drawSkipping}
 use Rattle.sampling.proofs.Barred.{collected, heard-length, left-at, unheard-all}
 
 -- ---- the tables that a call makes

@@ -12,8 +12,8 @@ use lib.Dec.{leb, eqb}
 use borrow.Author.Tests.{leb-false, eqb-true, eq-eqb, not-false}
 use Rattle.lists.specs.Joined.{_∈_}
 use Rattle.lists.specs.Ordered.{Pairwise, none, more, Distinct, Exactly}
-use Rattle.lists.specs.Searched.{someOf, same}
-use Rattle.lists.specs.Struck.{keep, numbered, skip}
+use Rattle.lists.specs.Searched.{someOf, same, keep}
+use Rattle.lists.specs.Inner.Struck.{numbered, skip}
 use Rattle.lists.proofs.Members.{getD-∈}
 use Rattle.lists.proofs.Orders.{pairwise-distinct, distinct-le}
 use Rattle.lists.proofs.Tests.{some-∈, ∈-some, none-∈, same-eq, same-refl}
@@ -22,7 +22,7 @@ use Rattle.lists.proofs.Strikes.{keep-length, keep-∈, ∈-keep, keep-map, str
 use Rattle.grammar.specs.Layout.{start}
 use Rattle.grammar.specs.Chains.{chain}
 use Rattle.grammar.specs.Trees.{Tree, leaf, sentence}
-use Rattle.counting.specs.Sentences as counting
+use Rattle.counting.specs.Inner.Sentences as counting
 use Rattle.counting.proofs.Sentences.{sentence-length}
 use Rattle.ranking.specs.Answers.{fullList, totalOf, entryOf, derives, readingsOf, numberOf}
 use Rattle.ranking.proofs.Demand2.{listed-total, number-inside, number-says, number-only}
@@ -30,7 +30,8 @@ use Rattle.history.specs.Refusals as history
 use Rattle.history.specs.Heard.{sentences, heard}
 use Rattle.history.proofs.Chain.{heard-sentences}
 use Rattle.sampling.specs.Question.{plainly}
-use Rattle.sampling.specs.Unheard.{Entry, entriesFrom, outside, unheard, barred, distinct, ofLength, heardOf, leftOf, ambiguous}
+use Rattle.sampling.specs.Unheard.{Entry, entriesFrom, outside, unheard, distinct, ofLength, heardOf, leftOf, ambiguous}
+use Rattle.sampling.specs.Inner.Hearing.{barred}
 use Rattle.sampling.specs.Answers.{drawn}
 
 -- ---- sentences, each once

@@ -14,8 +14,8 @@ use lib.Dec.{ltb, leb}
 use borrow.Author.Tests.{le-leb, lt-leb, lt-ltb, le-ltb, not-true}
 use Rattle.lists.specs.Joined.{_∈_, At, upFrom}
 use Rattle.lists.specs.Ordered.{Pairwise, none, more, Distinct, Exactly}
-use Rattle.lists.specs.Searched.{same}
-use Rattle.lists.specs.Struck.{keep, numbered, skip}
+use Rattle.lists.specs.Searched.{same, keep}
+use Rattle.lists.specs.Inner.Struck.{numbered, skip}
 use Rattle.lists.proofs.Members.{getD-∈, ∈-place, At-getD}
 use Rattle.lists.proofs.Places.{map-upFrom}
 use Rattle.lists.proofs.Orders.{pairwise-one, distinct-place, exactly-unique}
@@ -29,14 +29,15 @@ use Rattle.grammar.specs.Chains.{chain}
 use Rattle.grammar.specs.Trees.{Tree, leaf, sentence, Before}
 use Rattle.grammar.proofs.Enumeration.{sound, complete}
 use Rattle.grammar.proofs.Order as order
-use Rattle.counting.specs.Prepared.{preparedRows}
+use Rattle.counting.specs.Refusals.{preparedRows}
 use Rattle.ranking.specs.Answers.{fullList, totalOf, readingsOf}
 use Rattle.ranking.specs.Demand2.{HasNumber, OneDerivation, written}
 use Rattle.ranking.proofs.Demand2.{at-has, one-derivation, exactly-readings}
 use Rattle.history.specs.Refusals as history
 use Rattle.history.specs.Heard.{heard}
 use Rattle.sampling.specs.Question.{plainly}
-use Rattle.sampling.specs.Unheard.{Entry, entriesFrom, outside, unheard, barred, heardOf, leftOf, ambiguous}
+use Rattle.sampling.specs.Unheard.{Entry, entriesFrom, outside, unheard, heardOf, leftOf, ambiguous}
+use Rattle.sampling.specs.Inner.Hearing.{barred}
 use Rattle.sampling.specs.Answers.{remainingRows, remainingOf, drawn, drawOf, remainingTo, drawTo}
 use Rattle.sampling.specs.Demand3.{Single, Premises, shown, put, refused, Demand3, Derivable, Once, SameBarred, Alike}
 use Rattle.sampling.proofs.Barred.{listed-length, entry, kept, unheard-is, unheard-length, unheard-at, heard-length, heard-exactly, heard-left, left-length}

@@ -21,8 +21,7 @@ use Rattle.grammar.specs.Refusals.{tooShort, outOfRange, wrongSize, fits, badRu
 use Rattle.grammar.specs.Trees.{leaf, node, sentence}
 use Rattle.grammar.specs.FullList.{treesTo, trees}
 use Rattle.counting.specs.Totals.{splitSum, totalTo, total, T}
-use Rattle.counting.specs.Tables.{most}
-use Rattle.counting.specs.Prepared.{preparedRows}
+use Rattle.counting.specs.Refusals.{most, preparedRows}
 use Rattle.counting.specs.Answers.{countOf}
 use Rattle.counting.proofs.Totals.{split-step, split-end, split-skip, T-one, T-more}
 use Rattle.counting.proofs.OneLength.{OneLength, words-alone}

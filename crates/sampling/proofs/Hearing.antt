@@ -12,22 +12,21 @@ use lib.ListN.{length, set, take, length-set}
 use lib.Seq.{take-suc-set}
 use lib.Dec.{leb, eqb}
 use Rattle.lists.specs.Joined.{concatMap}
-use Rattle.lists.specs.Searched.{someOf}
-use Rattle.lists.specs.Struck.{keep}
-use Rattle.charts.specs.Plan.{lengthIn}
-use Rattle.ranking.specs.Inside.{readingsIn, numberIn}
-use Rattle.ranking.specs.Ranking.{FindSought, Says, FoundAs}
+use Rattle.lists.specs.Searched.{someOf, keep}
+use Rattle.charts.specs.Inner.Plan.{lengthIn}
+use Rattle.ranking.specs.Inner.Inside.{readingsIn, numberIn}
+use Rattle.ranking.specs.Inner.Ranking.{FindSought, Says, FoundAs}
 use Rattle.ranking.specs.declared.rank.Found.{Found}
 use Rattle.ranking.specs.declared.rank.Found.the-variants.{None, One, Many}
 use Rattle.ranking.specs.declared.unrank.DerivationNumber.{DerivationNumber}
 use Rattle.history.specs.Layout.{recordsOf, headOf, wordsOf}
 use Rattle.history.specs.Chain.{numbersFrom}
 use Rattle.history.specs.Refusals.{Accepted}
-use Rattle.history.specs.Reading.{sentenceAt, nextAt}
+use Rattle.history.specs.Inner.Reading.{sentenceAt, nextAt}
 use Rattle.history.specs.Heard.{sentences}
 use Rattle.history.proofs.Chain.{chained}
 use Rattle.history.proofs.Reading.{read-end, read-record}
-use Rattle.sampling.specs.Hearing.{numbersIn, manyIn, ambiguousIn, Tells, Adds, ToldAs, Holds, CollectedAs}
+use Rattle.sampling.specs.Inner.Hearing.{numbersIn, manyIn, ambiguousIn, Tells, Adds, ToldAs, Holds, CollectedAs}
 use Rattle.sampling.specs.declared.heard.Collected.{Collected}
 use Rattle.sampling.specs.declared.heard.Collected.the-variants.{Numbers, Ambiguous}
 

@@ -21,8 +21,7 @@ use Rattle.grammar.specs.Layout.{nonterminals}
 use Rattle.grammar.specs.Chains.{chain}
 use Rattle.grammar.specs.Refusals.{grammarRows, Accepted}
 use Rattle.counting.specs.Totals.{T}
-use Rattle.counting.specs.Tables.{most, overflows, tooLarge}
-use Rattle.counting.specs.Prepared.{preparedRows}
+use Rattle.counting.specs.Refusals.{most, overflows, tooLarge, preparedRows}
 use Rattle.ranking.specs.Answers.{totalOf, readingsOf}
 use Rattle.ranking.proofs.Demand2.{exactly-readings}
 use Rattle.history.specs.Refusals as history

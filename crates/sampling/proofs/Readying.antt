@@ -7,23 +7,23 @@ use Prim.Native.Nat.{ℕ, zero, _+_, _/_, _%_, _≤_, _<_}
 use native.Mathlib.Omega.{arith}
 use lib.ListN.{length, getD, replicate, length-replicate}
 use lib.Dec.{leb}
-use Rattle.lists.specs.Tables.{entry, Wide, Copied}
+use Rattle.lists.specs.Inner.Tables.{entry, Wide, Copied}
 use Rattle.lists.proofs.Sums.{concat-ext}
 use Rattle.lists.proofs.Tests.{some-ext}
 use Rattle.lists.proofs.Tables.{copied-wide, wide-made, made-entry}
-use Rattle.grammar.specs.Rules.{startIn, ruled}
+use Rattle.grammar.specs.Inner.Rules.{startIn, ruled}
 use Rattle.grammar.proofs.Kept.{ruled-same, ruled-kept}
-use Rattle.counting.specs.Counted.{Counted}
+use Rattle.counting.specs.Inner.Counted.{Counted}
 use Rattle.counting.proofs.Asking.{counted-copied, counted-kept}
-use Rattle.charts.specs.Maps.{Everywhere}
-use Rattle.charts.specs.Plan.{lengthIn}
-use Rattle.charts.specs.Ready.{Readies, Readied}
-use Rattle.ranking.specs.Inside.{readingsIn}
-use Rattle.ranking.specs.Ranking.{Roomy}
+use Rattle.charts.specs.Inner.Maps.{Everywhere}
+use Rattle.charts.specs.Inner.Plan.{lengthIn}
+use Rattle.charts.specs.Inner.Ready.{Readies, Readied}
+use Rattle.ranking.specs.Inner.Inside.{readingsIn}
+use Rattle.ranking.specs.Inner.Ranking.{Roomy}
 use Rattle.history.specs.Heard.{sentences}
 use Rattle.sampling.specs.Unheard.{ofLength}
-use Rattle.sampling.specs.Hearing.{numbersIn, ambiguousIn, Collects, Holds, CollectedAs}
-use Rattle.sampling.specs.Preparing.{Hears}
+use Rattle.sampling.specs.Inner.Hearing.{numbersIn, ambiguousIn, Collects, Holds, CollectedAs}
+use Rattle.sampling.specs.Inner.Preparing.{Hears}
 use Rattle.sampling.specs.declared.heard.Collected.{Collected}
 use Rattle.sampling.specs.declared.heard.Collected.the-variants.{Numbers, Ambiguous}
 use Rattle.sampling.proofs.Hearing.{collect-case}

@@ -7,7 +7,7 @@ use Prim.Native.Nat.{ℕ, _+_, _≤_, _<_}
 use native.Mathlib.Omega.{arith}
 use lib.ListN.{length, getD}
 use Rattle.lists.specs.Ordered.{Pairwise}
-use Rattle.lists.specs.Struck.{skip}
+use Rattle.lists.specs.Inner.Struck.{skip}
 use Rattle.lists.proofs.Strikes.{rising-gap, skip-at}
 
 pub record Searching (heard : List ℕ) (q low high : ℕ) : Type 0 where

@@ -6,7 +6,8 @@ use lib.ListN.{length, getD, drop}
 use lib.Dec.{ltb, leb}
 use Rattle.answers.specs.Answer.{Row, Answer, answer}
 use Rattle.grammar.specs.Trees.{leaf, sentence}
-use Rattle.counting.specs.Prepared.{preparedRows, countNumber}
+use Rattle.counting.specs.Refusals.{preparedRows}
+use Rattle.counting.specs.Answers.{countNumber}
 use Rattle.history.specs.Refusals.{historyRows}
 use Rattle.history.specs.Answers.{refusalNumber}
 use Rattle.ranking.specs.Answers.{totalOf}

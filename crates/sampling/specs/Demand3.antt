@@ -16,7 +16,7 @@ use Rattle.grammar.specs.Chains.{chain}
 use Rattle.grammar.specs.Refusals.{Accepted}
 use Rattle.grammar.specs.Trees.{Tree, sentence, Before}
 use Rattle.counting.specs.Totals.{T}
-use Rattle.counting.specs.Tables.{most}
+use Rattle.counting.specs.Refusals.{most}
 use Rattle.ranking.specs.Answers.{totalOf}
 use Rattle.ranking.specs.Demand2.{Derivation, HasNumber, OneDerivation, told}
 use Rattle.history.specs.Refusals as history

@@ -6,8 +6,7 @@ use mathlib.Core.List.{List, [], _∷_}
 use Prim.Native.Nat.{ℕ, suc, _-_}
 use lib.ListN.{length}
 use lib.Dec.{leb, eqb}
-use Rattle.lists.specs.Searched.{someOf, same}
-use Rattle.lists.specs.Struck.{keep, struck}
+use Rattle.lists.specs.Searched.{someOf, same, keep}
 use Rattle.grammar.specs.Trees.{Tree, sentence}
 use Rattle.ranking.specs.Answers.{fullList, totalOf, readingsOf}
 use Rattle.history.specs.Heard.{sentences, heard}
@@ -31,10 +30,6 @@ outside h t = not (heard h (sentence t))
 -- number d. Strike each entry whose sentence is heard. What remains, in the same order, is the unheard list."
 unfoldable pub unheard : (g h : List ℕ) (a : Question) → List Entry
 unheard g h a = keep (λ e. outside h (e .tree)) (entriesFrom 0 (fullList g (a .length)))
-
--- the places that are struck, rising: the heard derivation numbers
-abbrev pub barred : (g h : List ℕ) (a : Question) → List ℕ
-barred g h a = struck (outside h) (fullList g (a .length))
 
 -- ---- what *Left* counts
 

@@ -1,8 +1,8 @@
 // *Draw*: the unheard derivation that has so many unheard ones before it.
 ghost use mathlib.Core.Path.{_≡_};
 ghost use Rattle.sampling.specs.Answers.{drawSaid, drawOf};
-ghost use Rattle.sampling.specs.Drawing.{DrawSought, drawSkipping};
-ghost use Rattle.sampling.specs.Preparing.{Room};
+ghost use Rattle.sampling.specs.Inner.Drawing.{DrawSought, drawSkipping};
+ghost use Rattle.sampling.specs.Inner.Preparing.{Room};
 use crate::prepare;
 use crate::prepare::SampleRefusal;
 use crate::prepare::Sampled;

@@ -1,5 +1,5 @@
 // The heard derivation numbers: those of the history's sentences of a length that have one derivation.
-ghost use Rattle.sampling.specs.Hearing.{Tells, ToldAs, Collects, CollectedAs};
+ghost use Rattle.sampling.specs.Inner.Hearing.{Tells, ToldAs, Collects, CollectedAs};
 use charts::plan;
 use history::reader;
 use ranking::rank;

@@ -2,11 +2,11 @@
 ghost use mathlib.Core.Path.{_≡_};
 ghost use Prim.Native.Nat.{_≤_};
 ghost use lib.ListN.{length};
-ghost use Rattle.sorting.specs.Sorted.{Sorted};
+ghost use Rattle.sorting.specs.Inner.Sorted.{Sorted};
 ghost use Rattle.sampling.specs.Answers.{sampleNumber};
 ghost use Rattle.sampling.specs.Question.{asked};
-ghost use Rattle.ranking.specs.Ranking.{Roomy};
-ghost use Rattle.sampling.specs.Preparing.{Lent, Hears, HeardAs, HearsAll, RecordedAs, PreparedAs};
+ghost use Rattle.ranking.specs.Inner.Ranking.{Roomy};
+ghost use Rattle.sampling.specs.Inner.Preparing.{Lent, Hears, HeardAs, HearsAll, RecordedAs, PreparedAs};
 use crate::heard;
 use crate::heard::Collected;
 use crate::question::Question;

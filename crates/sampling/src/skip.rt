@@ -1,7 +1,7 @@
 // The skip over heard derivations: the one place where a draw number becomes a derivation number.
 ghost use mathlib.Core.Path.{_≡_};
-ghost use Rattle.lists.specs.Struck.{skip};
-ghost use Rattle.sampling.specs.Skipping.{Skips};
+ghost use Rattle.lists.specs.Inner.Struck.{skip};
+ghost use Rattle.sampling.specs.Inner.Skipping.{Skips};
 use ranking::unrank::DerivationNumber;
 
 // How many unheard derivations stand before one (document 01: draw number).

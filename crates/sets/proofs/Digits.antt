@@ -8,7 +8,7 @@ use native.Mathlib.Omega.{arith}
 use lib.Dec.{eqb, leb, eqb·zero-suc, eqb·suc-zero, eqb·suc-suc, leb·zero, leb·suc-zero, leb·suc-suc}
 use lib.Pow.{shl-exact, field, mod-mod-pow}
 use lib.Bits.{bitAnd, bitOr, and-shr, or-shr, and-mod, or-mod, and-mask, shifted-half, shifted-even}
-use Rattle.sets.specs.Sets.{member}
+use Rattle.sets.specs.Inner.Sets.{member}
 
 -- ---- two sets, digit by digit
 

@@ -12,11 +12,11 @@ use lib.Bits.{bitAnd, and-step, and-self}
 use lib.Count.{trailingZeros, under}
 use Rattle.lists.specs.Joined.{_∈_, sumOver, upFrom}
 use Rattle.lists.specs.Ordered.{Pairwise}
-use Rattle.lists.specs.Struck.{keep}
+use Rattle.lists.specs.Searched.{keep}
 use Rattle.lists.proofs.Members.{upFrom-∈, ∈-upFrom}
 use Rattle.lists.proofs.Orders.{upFrom-rising, order-unique}
 use Rattle.lists.proofs.Strikes.{keep-∈, ∈-keep, keep-pairwise, keep-ext, keep-later, sum-keep}
-use Rattle.sets.specs.Sets.{member, members}
+use Rattle.sets.specs.Inner.Sets.{member, members}
 use Rattle.sets.proofs.Digits.{member-zero, member-suc}
 
 -- ---- the members below n

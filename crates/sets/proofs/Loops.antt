@@ -13,7 +13,7 @@ use lib.Dec.{eqb, leb}
 use lib.ListN.{length, drop}
 use Rattle.lists.specs.Joined.{_∈_}
 use Rattle.lists.proofs.Tests.{or-true, both-ways, and-left, and-right, or-first, or-cases}
-use Rattle.sets.specs.Sets.{member, members}
+use Rattle.sets.specs.Inner.Sets.{member, members}
 use Rattle.sets.proofs.Lists.{members-none, members-∈, ∈-members}
 use Rattle.sets.proofs.Digits.{member-none}
 

@@ -5,7 +5,7 @@ ghost use mathlib.Core.List.{[], _∷_};
 ghost use Prim.Native.Nat.{ℕ, _-_, _<_};
 ghost use lib.Dec.{eqb, leb};
 ghost use lib.ListN.{drop};
-ghost use Rattle.sets.specs.Sets.{member, members};
+ghost use Rattle.sets.specs.Inner.Sets.{member, members};
 
 // The empty set.
 pub fn none() -> u32

@@ -11,17 +11,17 @@ use lib.ListN.{length, getD, set, take, drop, drop-of-length-le}
 use lib.Seq.{drop-cons, split-at, length-take-le}
 use Rattle.lists.specs.Joined.{sumOver}
 use Rattle.lists.specs.Searched.{bit, times}
-use Rattle.lists.specs.Tables.{entry}
-use Rattle.lists.specs.Parts.{Passed}
+use Rattle.lists.specs.Inner.Tables.{entry}
+use Rattle.lists.specs.Inner.Parts.{Passed}
 use Rattle.lists.proofs.Sums.{sum-ext, sum-one}
 use Rattle.lists.proofs.Searches.{∈-times}
 use Rattle.lists.proofs.Owners.{owns-only}
 use Rattle.lists.proofs.Parts.{passed-none, passed-size, passed-many, passed-here, passed-over}
-use Rattle.grammar.specs.Rules.{wordAt, wordFrom, wordsIn}
+use Rattle.grammar.specs.Inner.Rules.{wordAt, wordFrom, wordsIn}
 use Rattle.grammar.proofs.Ruling.{word-count, word-here}
-use Rattle.counting.specs.Tables.{most}
-use Rattle.charts.specs.Letters.{any, weighed}
-use Rattle.walk.specs.Steps.{byLetter, HasWord, WordPlace, WordSought, PickedAs, LeafAs}
+use Rattle.counting.specs.Refusals.{most}
+use Rattle.charts.specs.Inner.Letters.{any, weighed}
+use Rattle.walk.specs.Inner.Steps.{byLetter, HasWord, WordPlace, WordSought, PickedAs, LeafAs}
 
 -- ---- letters
 

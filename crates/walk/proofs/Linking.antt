@@ -7,11 +7,11 @@ use Prim.Native.Nat.{ℕ, _+_, _-_, _≤_, _<_}
 use native.Mathlib.Omega.{arith}
 use native.Mathlib.Decide.{ℕ-discrete}
 use Rattle.lists.proofs.Members.{upFrom-∈}
-use Rattle.grammar.specs.Rules.{wordAt, wordFrom, countIn, wordsIn}
-use Rattle.grammar.specs.Links.{last, withWord, nextWord, wordOwner}
+use Rattle.grammar.specs.Inner.Rules.{wordAt, wordFrom, countIn, wordsIn}
+use Rattle.grammar.specs.Inner.Links.{last, withWord, nextWord, wordOwner}
 use Rattle.grammar.proofs.Ruling.{word-below}
 use Rattle.grammar.proofs.Keyed.{Link, last-le, last-after, link-at, words-rise}
-use Rattle.walk.specs.Steps.{HasWord, WordPlace}
+use Rattle.walk.specs.Inner.Steps.{HasWord, WordPlace}
 
 -- l leads to the last place below `below` with the word x, and x's place in a is below that, too
 pub record Linking (rules : List (List ℕ)) (x a l : ℕ) : Type 0 where

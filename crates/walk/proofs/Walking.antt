@@ -14,24 +14,24 @@ use lib.ListN.{length, getD}
 use Rattle.lists.specs.Joined.{_∈_, sumOver}
 use Rattle.lists.proofs.Members.{getD-∈}
 use Rattle.lists.proofs.Owners.{place-inside}
-use Rattle.lists.specs.Tickets.{Owns}
+use Rattle.lists.specs.Inner.Tickets.{Owns}
 use Rattle.grammar.specs.Chains.{wordsOf, pairsOf}
-use Rattle.grammar.specs.Rules.{leftAt, rightAt, pairFrom, countIn, wordsIn, pairsIn, ruled}
+use Rattle.grammar.specs.Inner.Rules.{leftAt, rightAt, pairFrom, countIn, wordsIn, pairsIn, ruled}
 use Rattle.grammar.proofs.Ruling.{words-ruled, pairs-ruled, pair-count, pair-here}
 use Rattle.counting.specs.Totals.{total, T}
-use Rattle.counting.specs.Tables.{most}
-use Rattle.counting.specs.Sentences.{sentences, splitList}
-use Rattle.counting.specs.Counted.{Asked, longestAt}
-use Rattle.counting.specs.Owned.{halvesTotal, OwnedAs, InHalves, HalvesAs, ChosenAs}
+use Rattle.counting.specs.Refusals.{most}
+use Rattle.counting.specs.Inner.Sentences.{sentences, splitList}
+use Rattle.counting.specs.Inner.Counted.{Asked, longestAt}
+use Rattle.counting.specs.Inner.Owned.{halvesTotal, OwnedAs, InHalves, HalvesAs, ChosenAs}
 use Rattle.counting.proofs.Totals.{total-one}
 use Rattle.counting.proofs.Counts.{total-sum}
 use Rattle.counting.proofs.Asking.{asked-left, asked-right, total-dead}
 use Rattle.counting.proofs.Walks as walks
 use Rattle.counting.proofs.Choosers as loops
-use Rattle.charts.specs.Letters.{letterAt, weightBy}
-use Rattle.charts.specs.Maps.{totalAt, Span, Mapped}
-use Rattle.walk.specs.Sought.{Sought}
-use Rattle.walk.specs.Steps.{Placed, Cut, WordSought, LeafAs, HalvesSought, HalvesFound, scaled, Extends, ExtendedTo}
+use Rattle.charts.specs.Inner.Letters.{letterAt, weightBy}
+use Rattle.charts.specs.Inner.Maps.{totalAt, Span, Mapped}
+use Rattle.walk.specs.Inner.Sought.{Sought}
+use Rattle.walk.specs.Inner.Steps.{Placed, Cut, WordSought, LeafAs, HalvesSought, HalvesFound, scaled, Extends, ExtendedTo}
 
 -- ---- a cut of a known span
 

@@ -1,2 +1,1 @@
-pub mod Sought
-pub mod Steps
+pub mod Inner

@@ -2,8 +2,8 @@
 ghost use mathlib.Core.Path.{_≡_};
 ghost use Prim.Native.Nat.{_≤_, _<_};
 ghost use lib.ListN.{length};
-ghost use Rattle.charts.specs.Letters.{letterAt};
-ghost use Rattle.walk.specs.Steps.{byLetter, HasWord, WordPlace, WordSought, PickedAs, LeafAs};
+ghost use Rattle.charts.specs.Inner.Letters.{letterAt};
+ghost use Rattle.walk.specs.Inner.Steps.{byLetter, HasWord, WordPlace, WordSought, PickedAs, LeafAs};
 use crate::Found;
 use charts::maps::ANY;
 use charts::maps::LETTERS;

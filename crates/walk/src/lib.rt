@@ -4,12 +4,12 @@
 ghost use mathlib.Core.Path.{_≡_};
 ghost use Prim.Native.Nat.{_*_, _/_, _%_, _≤_, _<_};
 ghost use lib.ListN.{length};
-ghost use Rattle.grammar.specs.Rules.{ruled};
-ghost use Rattle.counting.specs.Tables.{most};
-ghost use Rattle.counting.specs.Owned.{OwnedAs};
-ghost use Rattle.charts.specs.Letters.{weightBy};
-ghost use Rattle.walk.specs.Sought.{Sought};
-ghost use Rattle.walk.specs.Steps.{HalvesSought, HalvesFound, scaled, Extends, ExtendedTo};
+ghost use Rattle.grammar.specs.Inner.Rules.{ruled};
+ghost use Rattle.counting.specs.Refusals.{most};
+ghost use Rattle.counting.specs.Inner.Owned.{OwnedAs};
+ghost use Rattle.charts.specs.Inner.Letters.{weightBy};
+ghost use Rattle.walk.specs.Inner.Sought.{Sought};
+ghost use Rattle.walk.specs.Inner.Steps.{HalvesSought, HalvesFound, scaled, Extends, ExtendedTo};
 use crate::leaf::leaf;
 use crate::nodes::Node;
 use crate::nodes::total;

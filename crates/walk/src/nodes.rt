@@ -1,8 +1,8 @@
 // Nodes of a derivation, and what they total by a map.
 ghost use mathlib.Core.Path.{_≡_};
 ghost use Prim.Native.Nat.{_*_};
-ghost use Rattle.charts.specs.Maps.{totalAt};
-ghost use Rattle.walk.specs.Steps.{Placed, Cut};
+ghost use Rattle.charts.specs.Inner.Maps.{totalAt};
+ghost use Rattle.walk.specs.Inner.Steps.{Placed, Cut};
 use charts::maps;
 
 // A nonterminal over the m positions from p on.

@@ -1,9 +1,9 @@
 // A longer span: which pair rule of a nonterminal, with which left length, holds a ticket.
 ghost use Prim.Native.Nat.{ℕ, _-_, _≤_, _<_};
-ghost use Rattle.grammar.specs.Rules.{ruled};
-ghost use Rattle.counting.specs.Owned.{ChosenAs};
-ghost use Rattle.charts.specs.Letters.{weightBy};
-ghost use Rattle.walk.specs.Sought.{Sought};
+ghost use Rattle.grammar.specs.Inner.Rules.{ruled};
+ghost use Rattle.counting.specs.Inner.Owned.{ChosenAs};
+ghost use Rattle.charts.specs.Inner.Letters.{weightBy};
+ghost use Rattle.walk.specs.Inner.Sought.{Sought};
 use crate::nodes::Node;
 use crate::nodes::product;
 use counting::tallies::LONGEST;

@@ -14,11 +14,11 @@ use borrow.Rule.Slice.PartMut.{putMid}
 use borrow.Fn.Kind.{PK}
 use borrow.Fn.Kinds.{In, Out}
 use borrow.Fn.PlainCycle.{Measures, is, falls, and}
-use Rattle.grammar.specs.Rules.{ruled}
-use Rattle.counting.specs.Tables.{most}
-use Rattle.counting.specs.Owned.{OwnedAs}
-use Rattle.charts.specs.Letters.{weightBy}
-use Rattle.walk.specs.Steps.{HalvesSought, Extends}
+use Rattle.grammar.specs.Inner.Rules.{ruled}
+use Rattle.counting.specs.Refusals.{most}
+use Rattle.counting.specs.Inner.Owned.{OwnedAs}
+use Rattle.charts.specs.Inner.Letters.{weightBy}
+use Rattle.walk.specs.Inner.Steps.{HalvesSought, Extends}
 use Rattle.walk.proofs.Joined.{lent-length, put-length, put-front, rest-length, put-rest}
 use Rattle.walk.proofs.Walking.{word-sought, leaf-owned, short, k-some, k-short, span-short, placed-by, placed-to, some-right, left-sought, rest-fits, halves-sought, halves-owned, Along, Behind, along-start, extends, behind, along, extends-last, found-last}
 use Rattle.walk.proofs.choose.Reads as choose

@@ -2,7 +2,7 @@
 -- with this left nonterminal add. The measure is the right nonterminals left. Assumes nothing.
 use native.Mathlib.Omega.{arith}
 use lib.ListN.{length}
-use Rattle.sets.specs.Sets.{members}
+use Rattle.sets.specs.Inner.Sets.{members}
 use Rattle.sets.proofs.Loops.{turn-less}
 use Rattle.charts.proofs.Adding.{LeftWalk, left-start, left-end, left-asks, left-step}
 use Rattle.charts.proofs.chart.add_left.Statement.{statement}

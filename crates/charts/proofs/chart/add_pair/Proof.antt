@@ -7,8 +7,8 @@ use Prim.Native.Nat.{_+_, _*_, _≤_, _<_}
 use native.Mathlib.Omega.{arith}
 use denote.Ref.{now}
 use lib.ListN.{length}
-use Rattle.lists.specs.Tables.{entry}
-use Rattle.counting.specs.Tables.{most}
+use Rattle.lists.specs.Inner.Tables.{entry}
+use Rattle.counting.specs.Refusals.{most}
 use Rattle.charts.proofs.Walking.{PairWalk, walk-end, pair-start, pair-low, pair-owner, pair-less, pair-room, pair-fits, pair-step, pair-skip}
 use Rattle.charts.proofs.chart.add_pair.Statement.{statement}
 use Rattle.charts.proofs.chart.add_pair.Tie as tie

@@ -2,7 +2,7 @@
 -- pair rules add. The measure is the left nonterminals left. Assumes nothing.
 use native.Mathlib.Omega.{arith}
 use lib.ListN.{length}
-use Rattle.sets.specs.Sets.{members}
+use Rattle.sets.specs.Inner.Sets.{members}
 use Rattle.sets.proofs.Loops.{turn-less}
 use Rattle.charts.proofs.Adding.{SplitWalk, split-start, split-end, split-asks, split-step}
 use Rattle.charts.proofs.chart.add_split.Statement.{statement}

@@ -6,8 +6,8 @@ use Prim.Native.Nat.{_-_, _<_}
 use native.Mathlib.Omega.{arith}
 use denote.Ref.{now}
 use lib.ListN.{length}
-use Rattle.grammar.specs.Rules.{countIn}
-use Rattle.charts.specs.Filling.{wordCount}
+use Rattle.grammar.specs.Inner.Rules.{countIn}
+use Rattle.charts.specs.Inner.Filling.{wordCount}
 use Rattle.charts.proofs.Words.{WordsFrom, words-start, words-end, words-room, words-low, words-step, words-skip}
 use Rattle.charts.proofs.chart.add_words.Statement.{statement}
 use Rattle.charts.proofs.chart.add_words.Tie as tie

@@ -3,7 +3,7 @@
 use native.Mathlib.Omega.{arith}
 use Prim.Native.Nat.{_<_}
 use lib.ListN.{length}
-use Rattle.sets.specs.Sets.{members}
+use Rattle.sets.specs.Inner.Sets.{members}
 use Rattle.sets.proofs.Loops.{lowest-low, turn-less}
 use Rattle.charts.proofs.Clearing.{ClearWalk, clear-start, clear-long, clear-inside, clear-end, clear-step}
 use Rattle.charts.proofs.chart.clear.Statement.{statement}

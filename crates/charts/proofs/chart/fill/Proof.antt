@@ -4,7 +4,7 @@ use Prim.Native.Nat.{_+_, _-_, _≤_}
 use native.Mathlib.Omega.{arith}
 use denote.Ref.{now}
 use borrow.Author.Needs.{needs}
-use Rattle.charts.specs.Plan.{lengthIn}
+use Rattle.charts.specs.Inner.Plan.{lengthIn}
 use Rattle.charts.proofs.Charting.{FillWalk, fill-start, fill-asks, fill-step, fill-end}
 use Rattle.charts.proofs.chart.fill.Statement.{statement}
 use Rattle.charts.proofs.chart.fill.Tie as tie

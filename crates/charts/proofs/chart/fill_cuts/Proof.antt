@@ -5,11 +5,11 @@ use Prim.Native.Nat.{_+_, _≤_, _<_}
 use native.Mathlib.Omega.{arith}
 use denote.Ref.{now}
 use lib.ListN.{length}
-use Rattle.lists.specs.Tables.{entry}
-use Rattle.sets.specs.Sets.{members}
+use Rattle.lists.specs.Inner.Tables.{entry}
+use Rattle.sets.specs.Inner.Sets.{members}
 use Rattle.sets.proofs.Loops.{turn-less}
-use Rattle.charts.specs.Maps.{rowAt}
-use Rattle.charts.specs.Filling.{Joins}
+use Rattle.charts.specs.Inner.Maps.{rowAt}
+use Rattle.charts.specs.Inner.Filling.{Joins}
 use Rattle.charts.proofs.Cutting.{CutsWalk, cuts-beside, cuts-clears, cuts-long, cuts-joins, cuts-clear, cuts-made, cuts-start, cuts-end, cut-within, cut-asks, cut-step}
 use Rattle.charts.proofs.chart.fill_cuts.Statement.{statement}
 use Rattle.charts.proofs.chart.fill_cuts.Tie as tie

@@ -3,7 +3,7 @@
 use Prim.Native.Nat.{_≤_}
 use native.Mathlib.Omega.{arith}
 use lib.ListN.{length}
-use Rattle.sets.specs.Sets.{members}
+use Rattle.sets.specs.Inner.Sets.{members}
 use Rattle.sets.proofs.Loops.{turn-less}
 use Rattle.charts.proofs.Charting.{LengthWalk, length-start, length-end, length-asks, length-step}
 use Rattle.charts.proofs.chart.fill_length.Statement.{statement}

@@ -5,7 +5,7 @@ use borrow.Author.Needs.{needs}
 use denote.Ref.{now}
 use Prim.Native.Nat.{ℕ}
 use Rattle.lists.proofs.Places.{getD-same}
-use Rattle.grammar.specs.Rules.{pairFrom, countIn}
+use Rattle.grammar.specs.Inner.Rules.{pairFrom, countIn}
 use Rattle.charts.proofs.Gathering.{cutting-length, length-held}
 use Rattle.charts.proofs.Assembling.{spots-ask, built}
 use Rattle.charts.proofs.plan.build.Statement.{statement}

@@ -3,7 +3,7 @@
 use mathlib.Core.Path.{_≡_}
 use Prim.Native.Nat.{_+_, _-_, _≤_}
 use native.Mathlib.Omega.{arith}
-use Rattle.charts.specs.Planning.{Cutting}
+use Rattle.charts.specs.Inner.Planning.{Cutting}
 use Rattle.charts.proofs.Gathering.{cutting-start, cutting-turn}
 use Rattle.charts.proofs.plan.cut.Statement.{statement}
 use Rattle.charts.proofs.plan.cut.Tie as tie

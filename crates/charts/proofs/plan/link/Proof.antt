@@ -5,8 +5,8 @@ use Prim.Native.Nat.{_-_, _≤_, _<_}
 use native.Mathlib.Omega.{arith}
 use borrow.Author.Needs.{needs}
 use denote.Ref.{now}
-use Rattle.grammar.specs.Rules.{leftAt, rightAt}
-use Rattle.charts.specs.Planning.{Sided}
+use Rattle.grammar.specs.Inner.Rules.{leftAt, rightAt}
+use Rattle.charts.specs.Inner.Planning.{Sided}
 use Rattle.charts.proofs.Gathering.{sides-low, sided-start, sided-turn}
 use Rattle.charts.proofs.plan.link.Statement.{statement}
 use Rattle.charts.proofs.plan.link.Tie as tie

@@ -5,7 +5,7 @@ use mathlib.Core.Path.{_≡_, refl, sym}
 use Prim.Native.Nat.{_+_, _-_, _≤_}
 use native.Mathlib.Omega.{arith}
 use lib.ListN.{length}
-use Rattle.charts.specs.Planning.{baseOf, Placed}
+use Rattle.charts.specs.Inner.Planning.{baseOf, Placed}
 use Rattle.charts.proofs.Placing.{base-first, base-next, base-low, placed-start, placed-turn}
 use Rattle.charts.proofs.plan.place.Statement.{statement}
 use Rattle.charts.proofs.plan.place.Tie as tie

@@ -3,7 +3,7 @@
 use mathlib.Core.Path.{_≡_}
 use Prim.Native.Nat.{_-_, _≤_}
 use native.Mathlib.Omega.{arith}
-use Rattle.charts.specs.Planning.{Rows}
+use Rattle.charts.specs.Inner.Planning.{Rows}
 use Rattle.charts.proofs.Placing.{rows-start, rows-turn}
 use Rattle.charts.proofs.plan.row.Statement.{statement}
 use Rattle.charts.proofs.plan.row.Tie as tie

@@ -5,7 +5,7 @@ use mathlib.Core.Path.{_≡_}
 use Prim.Native.Nat.{_+_, _-_, _≤_}
 use native.Mathlib.Omega.{arith}
 use borrow.Author.Needs.{needs}
-use Rattle.charts.specs.Planning.{Spotted}
+use Rattle.charts.specs.Inner.Planning.{Spotted}
 use Rattle.charts.proofs.Spreading.{spotted-start, spotted-spreads, spotted-turn, spotted-end}
 use Rattle.charts.proofs.plan.spot.Statement.{statement}
 use Rattle.charts.proofs.plan.spot.Tie as tie

@@ -5,7 +5,7 @@ use Prim.Native.Nat.{_≤_, _<_}
 use native.Mathlib.Omega.{arith}
 use borrow.Author.Needs.{needs}
 use lib.ListN.{length}
-use Rattle.sets.specs.Sets.{members}
+use Rattle.sets.specs.Inner.Sets.{members}
 use Rattle.sets.proofs.Loops.{lowest-low, turn, turn-less, first-member}
 use Rattle.charts.proofs.Spreading.{Spreading, spreading-start, lowest-within, spreading-turn, spreading-end}
 use Rattle.charts.proofs.plan.spread.Statement.{statement}

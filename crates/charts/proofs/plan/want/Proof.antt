@@ -3,7 +3,7 @@
 use mathlib.Core.Path.{_≡_}
 use Prim.Native.Nat.{_+_, _-_, _≤_}
 use native.Mathlib.Omega.{arith}
-use Rattle.charts.specs.Planning.{Wanted}
+use Rattle.charts.specs.Inner.Planning.{Wanted}
 use Rattle.charts.proofs.Gathering.{wanted-start, wanted-turn}
 use Rattle.charts.proofs.plan.want.Statement.{statement}
 use Rattle.charts.proofs.plan.want.Tie as tie

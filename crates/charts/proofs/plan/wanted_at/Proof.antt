@@ -6,7 +6,7 @@ use mathlib.Core.Logic.{⊎-elim}
 use Prim.Native.Nat.{_-_, _≤_}
 use native.Mathlib.Omega.{arith}
 use borrow.Author.Needs.{needs}
-use Rattle.charts.specs.Planning.{Wants}
+use Rattle.charts.specs.Inner.Planning.{Wants}
 use Rattle.charts.proofs.Gathering.{wants-start, wants-put, wants-pass}
 use Rattle.charts.proofs.plan.wanted_at.Statement.{statement}
 use Rattle.charts.proofs.plan.wanted_at.Tie as tie

@@ -2,7 +2,7 @@
 -- Assumes nothing.
 use borrow.Author.Needs.{needs}
 use denote.Ref.{now}
-use Rattle.charts.specs.Chart.{Blank}
+use Rattle.charts.specs.Inner.Chart.{Blank}
 use Rattle.charts.proofs.Mapping.{linked-blank}
 use Rattle.charts.proofs.ready.ready.Statement.{statement}
 use Rattle.charts.proofs.ready.ready.Tie as tie

@@ -3,7 +3,7 @@
 use mathlib.Core.Path.{refl}
 use Prim.Native.Nat.{_+_, _*_, _≤_}
 use native.Mathlib.Omega.{arith}
-use Rattle.counting.specs.Tables.{most}
+use Rattle.counting.specs.Refusals.{most}
 use Rattle.counting.proofs.PairSums.{room, no-room}
 use Rattle.counting.proofs.tallies.add_large.Statement.{statement}
 use Rattle.counting.proofs.tallies.add_large.Tie as tie

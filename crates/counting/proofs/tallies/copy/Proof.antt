@@ -3,7 +3,7 @@
 use mathlib.Core.Path.{_≡_}
 use Prim.Native.Nat.{_+_, _-_, _≤_}
 use native.Mathlib.Omega.{arith}
-use Rattle.lists.specs.Tables.{Copied}
+use Rattle.lists.specs.Inner.Tables.{Copied}
 use Rattle.lists.proofs.Tables.{copied-none, copied-more}
 use Rattle.counting.proofs.tallies.copy.Statement.{statement}
 use Rattle.counting.proofs.tallies.copy.Tie as tie

@@ -5,7 +5,7 @@ use Prim.Native.Nat.{_-_}
 use native.Mathlib.Omega.{arith}
 use borrow.Author.Needs.{needs}
 use denote.Ref.{now}
-use Rattle.grammar.specs.Rules.{countIn}
+use Rattle.grammar.specs.Inner.Rules.{countIn}
 use Rattle.counting.proofs.Filling.{Passed, passed-start, passed-few, passed-asks, passed-fits, passed-over, passed-end}
 use Rattle.counting.proofs.tallies.row.Statement.{statement}
 use Rattle.counting.proofs.tallies.row.Tie as tie

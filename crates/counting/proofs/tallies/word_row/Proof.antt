@@ -5,8 +5,8 @@ use mathlib.Core.Path.{_≡_}
 use Prim.Native.Nat.{_-_, _≤_, _<_}
 use native.Mathlib.Omega.{arith}
 use denote.Ref.{now}
-use Rattle.lists.specs.Tables.{put}
-use Rattle.grammar.specs.Rules.{countIn, ruled}
+use Rattle.lists.specs.Inner.Tables.{put}
+use Rattle.grammar.specs.Inner.Rules.{countIn, ruled}
 use Rattle.counting.specs.Totals.{T}
 use Rattle.counting.proofs.Filling.{Passed, passed-start, passed-few, passed-step, passed-end, words-count, passed-anew}
 use Rattle.counting.proofs.tallies.word_row.Statement.{statement}

@@ -5,8 +5,8 @@ use mathlib.Core.Bool.{Bool, true, false}
 use mathlib.Core.List.{List}
 use Prim.Native.Nat.{ℕ, _+_, _*_}
 use borrow.Author.Needs.{needs}
-use Rattle.grammar.specs.Rules.{wordAt, leftAt, rightAt}
-use Rattle.grammar.specs.Checks.{entryAt}
+use Rattle.grammar.specs.Inner.Rules.{wordAt, leftAt, rightAt}
+use Rattle.grammar.specs.Inner.Checks.{entryAt}
 use Rattle.grammar.proofs.checks.entry.Statement.{statement}
 use Rattle.grammar.proofs.checks.entry.Tie as tie
 

@@ -15,8 +15,8 @@ use Rattle.answers.proofs.Refusals.{row-applies, row-passed}
 use Rattle.grammar.specs.Layout.{rules}
 use Rattle.grammar.specs.Chains.{met}
 use Rattle.grammar.specs.Refusals.{badRule, nextAbove, metTwice}
-use Rattle.grammar.specs.Checks.{Sized, Readable}
-use Rattle.grammar.specs.Entering.{Kept}
+use Rattle.grammar.specs.Inner.Checks.{Sized, Readable}
+use Rattle.grammar.specs.Inner.Entering.{Kept}
 use Rattle.grammar.proofs.Acceptance.{Ranges, range-facts}
 use Rattle.lists.proofs.Tables.{kept-same}
 use Rattle.grammar.proofs.Holding.{sorted-holds}

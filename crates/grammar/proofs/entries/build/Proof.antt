@@ -7,7 +7,7 @@ use native.Mathlib.Omega.{arith}
 use borrow.Author.Needs.{needs}
 use denote.Ref.{now}
 use Rattle.grammar.specs.Layout.{nonterminals}
-use Rattle.grammar.specs.Entering.{Walked, Kept}
+use Rattle.grammar.specs.Inner.Entering.{Walked, Kept}
 use Rattle.lists.proofs.Tables.{kept-same, kept-then}
 use Rattle.grammar.proofs.Entering.{build-start, build-again, build-end}
 use Rattle.grammar.proofs.entries.build.Statement.{statement}

@@ -10,7 +10,7 @@ use borrow.Author.Needs.{needs}
 use lib.ListN.{length, getD, length-set}
 use Rattle.grammar.specs.Layout as Layout
 use Rattle.grammar.proofs.Walks.{step-told}
-use Rattle.grammar.specs.Entering.{Kept}
+use Rattle.grammar.specs.Inner.Entering.{Kept}
 use Rattle.lists.proofs.Tables.{kept-same, kept-put}
 use Rattle.grammar.proofs.Entering.{Walking, enter-few, walk-start, walk-room, walk-again, walk-free, walk-word, walk-pair, walk-end}
 use Rattle.grammar.proofs.entries.enter.Statement.{statement}

@@ -10,7 +10,7 @@ use lib.Dec.{lit<}
 use Rattle.answers.proofs.Refusals.{row-applies, row-passed}
 use Rattle.history.specs.Layout.{recordsOf}
 use Rattle.history.specs.Refusals.{badSize, badLink}
-use Rattle.history.specs.Checks.{Sized}
+use Rattle.history.specs.Inner.Checks.{Sized}
 use Rattle.history.proofs.Acceptance.{size-facts}
 use Rattle.history.proofs.Outcome.{Passed, refused, accepted}
 use borrow.Author.Needs.{needs}

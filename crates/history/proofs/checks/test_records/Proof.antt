@@ -12,7 +12,7 @@ use Rattle.lists.specs.Searched.{someBelow, someTo}
 use Rattle.lists.proofs.Tests.{or-true, to-hit, to-miss, to-some}
 use Rattle.history.specs.Layout.{recordsOf, headOf, recordAt, twoAt}
 use Rattle.history.specs.Refusals.{misfit, nextAbove, badRecord, badLink}
-use Rattle.history.specs.Checks.{Sized, Tested}
+use Rattle.history.specs.Inner.Checks.{Sized, Tested}
 use Rattle.history.proofs.checks.test_records.Statement.{statement}
 use Rattle.history.proofs.checks.test_records.Tie as tie
 

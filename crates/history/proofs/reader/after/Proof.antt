@@ -39,7 +39,7 @@ use denote.Triple.Walked.{says, needs, Stays, stay-none, stay-none-slice, walkOf
 use denote.Exit.{yes}
 use denote.Triple.Clauses.{ensured, lasts}
 use Rattle.history.specs.Refusals.{Accepted}
-use Rattle.history.specs.Reading.{nextAt}
+use Rattle.history.specs.Inner.Reading.{nextAt}
 use Rattle.history.specs.declared.reader.Reader.{Reader}
 use Rattle.history.proofs.Held.{Bytes, Row, D, L, inLocal, bytesVal, made, Both, Held, both-held, passes}
 use Rattle.history.proofs.reader.Reader as T

@@ -6,8 +6,8 @@ use native.Mathlib.Omega.{arith}
 use borrow.Author.Needs.{needs}
 use denote.Ref.{now}
 use Rattle.history.specs.Layout.{twoAt}
-use Rattle.history.specs.Checks.{Inside}
-use Rattle.history.specs.Reading.{isRecord}
+use Rattle.history.specs.Inner.Checks.{Inside}
+use Rattle.history.specs.Inner.Reading.{isRecord}
 use Rattle.history.proofs.Acceptance.{known}
 use Rattle.history.proofs.Reading.{inside, next-here, next-end}
 use Rattle.history.proofs.reader.next_at.Statement.{statement}

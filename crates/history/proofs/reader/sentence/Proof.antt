@@ -36,7 +36,7 @@ use denote.Triple.Walked.{says, needs, Stays, stay-none, stay-none-slice, walkOf
 use denote.Exit.{yes}
 use denote.Triple.Clauses.{ensured, lasts}
 use Rattle.history.specs.Refusals.{Accepted}
-use Rattle.history.specs.Reading.{sentenceAt}
+use Rattle.history.specs.Inner.Reading.{sentenceAt}
 use Rattle.history.proofs.Held.{Bytes, bytesVal, made, Both, Held, both-held, passes}
 use Rattle.history.proofs.reader.Reader.Laws as T′
 use Rattle.history.proofs.reader.standing as standing

@@ -38,7 +38,7 @@ use denote.Triple.Walked.{says, needs, Stays, stay-none, walkOf, goes-none, Walk
 use denote.Exit.{yes}
 use denote.Triple.Clauses.{ensured, lasts}
 use Rattle.history.specs.Refusals.{Accepted}
-use Rattle.history.specs.Reading.{sentenceAt}
+use Rattle.history.specs.Inner.Reading.{sentenceAt}
 use Rattle.history.specs.declared.reader.Reader.{Reader}
 use Rattle.history.proofs.Held.{Bytes, Row, bytesVal, Both, Held, held-both, passes}
 use Rattle.history.proofs.reader.Reader as T

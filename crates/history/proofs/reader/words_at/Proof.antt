@@ -4,7 +4,7 @@ use mathlib.Core.Path.{_≡_, sym, _∙_}
 use mathlib.Core.Bool.{true}
 use borrow.Author.Needs.{needs}
 use denote.Ref.{now}
-use Rattle.history.specs.Reading.{isRecord}
+use Rattle.history.specs.Inner.Reading.{isRecord}
 use Rattle.history.proofs.Reading.{inside, words-here, words-end}
 use Rattle.history.proofs.reader.words_at.Statement.{statement}
 use Rattle.history.proofs.reader.words_at.Tie as tie

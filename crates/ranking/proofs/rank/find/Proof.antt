@@ -9,7 +9,7 @@ use borrow.Author.Needs.{needs}
 use denote.Ref.{now}
 use lib.ListN.{length, replicate}
 use Rattle.walk.proofs.Joined.{left-length}
-use Rattle.ranking.specs.Inside.{readingsIn}
+use Rattle.ranking.specs.Inner.Inside.{readingsIn}
 use Rattle.ranking.proofs.Finding.{fill-asks, found-as, count-asks, count-is, find-sought, found-number}
 use Rattle.ranking.proofs.rank.find.Statement.{statement}
 use Rattle.ranking.proofs.rank.find.Tie as tie

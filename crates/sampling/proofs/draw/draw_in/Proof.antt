@@ -5,7 +5,7 @@ use native.Mathlib.Omega.{arith}
 use borrow.Author.Needs.{needs}
 use denote.Ref.{now}
 use Rattle.sampling.specs.Question.{plainly}
-use Rattle.sampling.specs.Preparing.{Drawable}
+use Rattle.sampling.specs.Inner.Preparing.{Drawable}
 use Rattle.sampling.proofs.Answering.{draw-refused, draw-skipping, draw-sought, lent-made, prepared-case, sample-some}
 use Rattle.sampling.proofs.draw.draw_in.Statement.{statement}
 use Rattle.sampling.proofs.draw.draw_in.Tie as tie

@@ -8,9 +8,9 @@ use native.Mathlib.Omega.{arith}
 use borrow.Author.Needs.{needs}
 use denote.Ref.{now}
 use lib.ListN.{length, length-set}
-use Rattle.charts.specs.Plan.{lengthIn}
-use Rattle.charts.specs.Chart.{Clean}
-use Rattle.charts.specs.Ready.{Ready}
+use Rattle.charts.specs.Inner.Plan.{lengthIn}
+use Rattle.charts.specs.Inner.Chart.{Clean}
+use Rattle.charts.specs.Inner.Ready.{Ready}
 use Rattle.charts.proofs.Mapping.{clean-start}
 use Rattle.charts.proofs.Placing.{room-low}
 use Rattle.history.proofs.Acceptance.{known}

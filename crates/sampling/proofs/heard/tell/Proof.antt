@@ -4,7 +4,7 @@ use mathlib.Core.Path.{_≡_, sym, _∙_}
 use borrow.Author.Needs.{needs}
 use denote.Ref.{now}
 use lib.ListN.{length}
-use Rattle.charts.specs.Plan.{lengthIn}
+use Rattle.charts.specs.Inner.Plan.{lengthIn}
 use Rattle.sampling.proofs.Hearing.{told-other, told-sought, told-found}
 use Rattle.sampling.proofs.heard.tell.Statement.{statement}
 use Rattle.sampling.proofs.heard.tell.Tie as tie

@@ -11,7 +11,7 @@ use Rattle.lists.proofs.Tables.{wide-made}
 use Rattle.history.specs.Layout.{recordsOf}
 use Rattle.history.proofs.Acceptance.{known}
 use Rattle.charts.proofs.Mapping.{plain-map}
-use Rattle.sampling.specs.Hearing.{Holds}
+use Rattle.sampling.specs.Inner.Hearing.{Holds}
 use Rattle.sampling.specs.declared.heard.Collected.the-variants.{Numbers}
 use Rattle.sampling.proofs.Readying.{counts-asked, asks-ready, asks-collect, collected-is}
 use Rattle.sampling.proofs.Answering.{part-few, heard-sorted}

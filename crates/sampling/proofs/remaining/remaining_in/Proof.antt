@@ -3,7 +3,7 @@
 use borrow.Author.Needs.{needs}
 use denote.Ref.{now}
 use Rattle.sampling.specs.Question.{plainly}
-use Rattle.sampling.specs.Preparing.{Drawable}
+use Rattle.sampling.specs.Inner.Preparing.{Drawable}
 use Rattle.sampling.proofs.Answering.{heard-few, left-counted, left-refused, lent-made, prepared-case, sample-some}
 use Rattle.sampling.proofs.remaining.remaining_in.Statement.{statement}
 use Rattle.sampling.proofs.remaining.remaining_in.Tie as tie

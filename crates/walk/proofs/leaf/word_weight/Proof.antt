@@ -1,7 +1,7 @@
 -- `word_weight` meets its contract, letter by letter. Assumes nothing.
 use mathlib.Core.Path.{sym, ap, _∙_}
 use denote.Ref.{now}
-use Rattle.lists.specs.Tables.{entry}
+use Rattle.lists.specs.Inner.Tables.{entry}
 use Rattle.walk.proofs.Leaves.{by-any, by-weight, by-same, by-other}
 use borrow.Author.Needs.{needs}
 use Rattle.walk.proofs.leaf.word_weight.Statement.{statement}

@@ -1,0 +1,6 @@
+-- Contracts of inner functions. What the calls promise is said without them, so a reader of the demands may pass over this folder.
+pub mod Sentences
+pub mod Counted
+pub mod Preparing
+pub mod Filling
+pub mod Owned

@@ -1,0 +1,36 @@
+-- The table of totals, by its rows: in the row LONGEST the longest length at which a nonterminal has a derivation, in the row m from 1 to
+-- 16 the counts T of the length m; a row has a number for each nonterminal. Rows above are other crates'.
+-- Assumes nothing: these are definitions.
+use mathlib.Core.Path.{_≡_}
+use mathlib.Core.List.{List}
+use Prim.Native.Nat.{ℕ, _≤_, _<_}
+use lib.ListN.{length}
+use Rattle.lists.specs.Inner.Tables.{entry, Wide}
+use Rattle.grammar.specs.Inner.Rules.{countIn, ruled, Ruled}
+use Rattle.counting.specs.Totals.{T}
+use Rattle.counting.specs.Refusals.{most}
+
+-- a's count at the length m, and its longest length
+abbrev pub countAt : List (List ℕ) → (a m : ℕ) → ℕ
+countAt totals a m = entry totals m a
+
+abbrev pub longestAt : List (List ℕ) → ℕ → ℕ
+longestAt totals a = entry totals 0 a
+
+-- A call with the length n asks for the total of the nonterminal A and the length m: document 01's 10 looks at every nonterminal and
+-- every length up to n. Whatever the tables hold is promised for these alone, and only their totals must fit in 64 bits.
+pub record Asked (rules : List (List ℕ)) (n A m : ℕ) : Type 0 where
+  pub inside : A < countIn rules
+  pub some : 1 ≤ m
+  pub short : m ≤ n
+
+-- the counts up to the length n are there, and fit
+pub record Counted (rules totals : List (List ℕ)) (n : ℕ) : Type 0 where
+  pub table : Ruled rules
+  pub some : 1 ≤ n
+  pub short : n ≤ 16
+  pub long : 17 ≤ length totals
+  pub wide : Wide totals 32
+  pub right : (A m : ℕ) → Asked rules n A m → countAt totals A m ≡ T (ruled rules) A m
+  pub fits : (A m : ℕ) → Asked rules n A m → T (ruled rules) A m ≤ most
+  pub longest : (A m : ℕ) → Asked rules n A m → longestAt totals A < m → T (ruled rules) A m ≡ 0

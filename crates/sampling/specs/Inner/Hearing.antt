@@ -1,0 +1,79 @@
+-- What collecting the heard derivation numbers asks and gives back, by the table of rules alone.
+-- Assumes nothing: these are definitions.
+use mathlib.Core.Path.{_≡_}
+use mathlib.Core.Bool.{Bool, true, false, cond, _&&_}
+use mathlib.Core.List.{List, [], _∷_}
+use Prim.Native.Nat.{ℕ, _≤_}
+use lib.ListN.{length, take}
+use lib.Dec.{leb, eqb}
+use Rattle.lists.specs.Joined.{concatMap}
+use Rattle.lists.specs.Searched.{someOf}
+use Rattle.lists.specs.Inner.Struck.{struck}
+use Rattle.lists.specs.Inner.Tables.{entry}
+use Rattle.charts.specs.Inner.Plan.{lengthIn, chartRow}
+use Rattle.charts.specs.Inner.Chart.{Clean}
+use Rattle.charts.specs.Inner.Maps.{Everywhere}
+use Rattle.charts.specs.Inner.Ready.{Ready}
+use Rattle.ranking.specs.Answers.{fullList}
+use Rattle.ranking.specs.Inner.Inside.{readingsIn, numberIn}
+use Rattle.history.specs.Layout.{recordsOf}
+use Rattle.history.specs.Refusals.{Accepted}
+use Rattle.history.specs.Heard.{sentences}
+use Rattle.sampling.specs.Question.{Question}
+use Rattle.sampling.specs.Unheard.{outside, ofLength}
+use Rattle.ranking.specs.declared.rank.Found.{Found}
+use Rattle.ranking.specs.declared.rank.Found.the-variants.{None, One, Many}
+use Rattle.sampling.specs.declared.heard.Collected.{Collected}
+use Rattle.sampling.specs.declared.heard.Collected.the-variants.{Numbers, Ambiguous}
+
+-- the places of the full list that are struck, rising: the heard derivation numbers
+abbrev pub barred : (g h : List ℕ) (a : Question) → List ℕ
+barred g h a = struck (outside h) (fullList g (a .length))
+
+-- the number of a sentence with n words and one derivation; of any other none
+abbrev pub numbersIn : (rules : List (List ℕ)) (n : ℕ) (s : List ℕ) → List ℕ
+numbersIn rules n s = cond (eqb (length s) n && eqb (readingsIn rules s) 1) (numberIn rules s ∷ []) []
+
+-- the sentence has n words and two or more derivations
+abbrev pub manyIn : (rules : List (List ℕ)) (n : ℕ) (s : List ℕ) → Bool
+manyIn rules n s = eqb (length s) n && leb 2 (readingsIn rules s)
+
+-- some sentence of a history with n words has two or more derivations
+abbrev pub ambiguousIn : (rules : List (List ℕ)) (h : List ℕ) (n : ℕ) → Bool
+ambiguousIn rules h n = someOf (λ s. leb 2 (readingsIn rules s)) (ofLength n h)
+
+-- ---- one sentence
+
+-- the tables for sentences of the plan's length
+pub record Tells (rules plan map counts : List (List ℕ)) (sets : List ℕ) (totals : List (List ℕ)) : Type 0 where
+  pub ready : Ready rules plan map totals (lengthIn plan)
+  pub everywhere : Everywhere counts
+  pub clean : Clean (lengthIn plan) sets totals
+
+-- the numbers that the sentence s adds, or that it has two or more derivations
+abbrev pub Adds : (rules : List (List ℕ)) (n : ℕ) (s : List ℕ) → Found → Type 0
+Adds rules n s None = (manyIn rules n s ≡ false) × (numbersIn rules n s ≡ [])
+Adds rules n s (One d) = (manyIn rules n s ≡ false) × (numbersIn rules n s ≡ d .0 ∷ [])
+Adds rules n s Many = manyIn rules n s ≡ true
+
+pub record ToldAs (rules plan map : List (List ℕ)) (s sets : List ℕ) (totals : List (List ℕ)) (f : Found) : Type 0 where
+  pub adds : Adds rules (lengthIn plan) s f
+  pub ready : Ready rules plan map totals (lengthIn plan)
+  pub clean : Clean (lengthIn plan) sets totals
+
+-- ---- all sentences
+
+pub record Collects (rules plan map counts : List (List ℕ)) (h : List ℕ) (totals : List (List ℕ)) (numbers : List ℕ) : Type 0 where
+  pub ready : Ready rules plan map totals (lengthIn plan)
+  pub everywhere : Everywhere counts
+  pub zeros : (r A : ℕ) → chartRow ≤ r → entry totals r A ≡ 0
+  pub diary : Accepted h
+  pub room : recordsOf h ≤ length numbers
+
+-- the numbers along the chain, or that a sentence has two or more derivations
+abbrev pub Holds : (rules : List (List ℕ)) (h : List ℕ) (n : ℕ) (numbers : List ℕ) → Collected → Type 0
+Holds rules h n numbers (Numbers k) = (ambiguousIn rules h n ≡ false) × (k ≤ recordsOf h) × (take k numbers ≡ concatMap (numbersIn rules n) (sentences h))
+Holds rules h n numbers Ambiguous = ambiguousIn rules h n ≡ true
+
+pub record CollectedAs (rules plan : List (List ℕ)) (h : List ℕ) (numbers : List ℕ) (c : Collected) : Type 0 where
+  pub holds : Holds rules h (lengthIn plan) numbers c
