@@ -8,11 +8,11 @@ use native.Mathlib.Omega.{arith}
 use native.Mathlib.Numerals.{add-one}
 use native.Mathlib.Decide.{ℕ-discrete}
 use borrow.Author.Tests.{ne-eqb}
-use Rattle.lists.specs.Joined.{sumOver}
+use Rattle.lists.specs.Joined.{sumOver, upFrom}
 use Rattle.lists.proofs.Sums.{sum-ext, sum-one}
 use lib.ListN.{length}
 use Rattle.grammar.specs.Chains.{Rule, word, pair, wordsOf, pairsOf}
-use Rattle.counting.specs.Totals.{splitSum, ruleTotal, totalTo, total, T}
+use Rattle.counting.specs.Totals.{splitSum, ruleTotal, totalTo, total, T, Sums}
 
 -- ---- a pair rule's products
 
@@ -168,3 +168,18 @@ module _ (chain : ℕ → List Rule) where
       total-more (λ q w. 1) 0 A m h
       ∙ sum-ext (pairTotal (total chain (λ q w. 1)) 0 m) (pairTotal (λ q. T chain) 0 m) (pairsOf (chain A))
       (λ x i. split-ext (total chain (λ q w. 1)) (λ q. T chain) (x .0) (x .1) 0 1 (m - 1) (omega arith) (λ q B k l u. T-anywhere q B k))
+
+  -- the products one after another
+  split-products : (f : ℕ → ℕ → ℕ) (B C k j m : ℕ) → k + j ≡ m → splitSum (λ q. f) B C 0 k j ≡ sumOver (λ i. f B i * f C (m - i)) (upFrom k j)
+  split-products f B C k zero m e = refl
+  split-products f B C k (suc j) m e =
+      let z : m - k ≡ suc j = omega arith in
+      rw z (omega (arith, split-products f B C (suc k) j m (omega arith)))
+
+  pub sums : Sums chain
+  sums = record {
+    words = T-one;
+    pairs = λ A m h. T-more A m h
+        ∙ sum-ext (pairTotal (λ q. T chain) 0 m) (λ (x : ℕ × ℕ). sumOver (λ k. T chain (x .0) k * T chain (x .1) (m - k)) (upFrom 1 (m - 1))) (pairsOf (chain A))
+        (λ x i. split-products (T chain) (x .0) (x .1) 1 (m - 1) m (omega arith));
+  }

@@ -28,6 +28,7 @@ use Rattle.counting.specs.Refusals.{preparedRows}
 use Rattle.counting.specs.Answers.{countOf}
 use Rattle.counting.specs.Inner.Sentences.{sentences}
 use Rattle.counting.proofs.Sentences.{sentence-length}
+use Rattle.counting.proofs.Totals.{sums}
 use Rattle.counting.proofs.Counts.{T-counts, T-length, T-sentences}
 use Rattle.ranking.specs.Answers.{fullList, totalOf, entryOf, unrankRows, unrankOf, derives, readingsOf, numberOf, rankRows, rankOf}
 use Rattle.ranking.specs.Demand2.{Derivation, HasNumber, OneDerivation, told, written, Demand2}
@@ -189,6 +190,7 @@ module _ (g : List ℕ) where
           ordered = sorted (chain g) (start g) n;
           number = at-has n;
         };
+        sums = sums (chain g);
         counted = T-counts (chain g);
         counts = count-answer;
         gives = λ n d out ok. (entry n d, entry-has n d (give-inside n d out ok), give-answer n d out ok);

@@ -13,7 +13,7 @@ use Rattle.grammar.specs.Layout.{start}
 use Rattle.grammar.specs.Chains.{chain, Chained}
 use Rattle.grammar.specs.Refusals.{Accepted}
 use Rattle.grammar.specs.Trees.{Tree, sentence, Derives, Before}
-use Rattle.counting.specs.Totals.{T}
+use Rattle.counting.specs.Totals.{T, Sums}
 use Rattle.counting.specs.Answers.{countOf}
 use Rattle.ranking.specs.Answers.{fullList, totalOf, unrankOf, rankOf}
 
@@ -50,7 +50,9 @@ pub record Demand2 (g : List ℕ) : Type 0 where
   -- the chains that derivations are made of, and the full list of them
   pub chained : Accepted g → Chained g
   pub listed : (n : ℕ) → FullList g n
-  -- "T(A, m) is how many derivations there are", of every nonterminal and length; *Count* gives that of S where it isn't refused
+  -- T is a sum of products; "T(A, m) is how many derivations there are", of every nonterminal and length; *Count* gives that of S where it isn't
+  -- refused
+  pub sums : Sums (chain g)
   pub counted : (A m : ℕ) → Exactly (T (chain g) A m) (Derives (chain g) A m)
   pub counts : (n : ℕ) → countOf g n .refusal ≡ 0 → countOf g n ≡ told (totalOf g n ∷ [])
   -- *Give*, where it isn't refused, writes the sentence of the derivation that has the number d
