@@ -20,7 +20,7 @@ use Rattle.sets.proofs.Loops.{lowest-low}
 use Rattle.grammar.specs.Inner.Rules.{countIn, pairsIn, Ruled}
 use Rattle.grammar.proofs.Ruling.{pair-inside}
 use Rattle.charts.specs.Inner.Plan.{partners}
-use Rattle.charts.specs.Inner.Filling.{tieSum, sideSum, pairSum, Partners, only, Grown, AddsPair, AddsLeft, AddsSplit}
+use Rattle.charts.specs.Inner.Filling.{tieSum, sideSum, pairSum, Partners, only, GrownAs, AddsPair, AddsLeft, AddsSplit}
 use Rattle.charts.proofs.Growing.{grown-ext, Parts, parts-start, parts-end, parts-fits, parts-step}
 
 -- a sum over the nonterminals below N, where only c counts
@@ -128,7 +128,7 @@ module _ {rules plan : List (List ℕ)} {wanted row left right b rights : ℕ} {
               (rw (q .zero c l (and-cases (member rights c) (member (partners plan b) c) z e)) (omega arith))
 
   module _ {now : List (List ℕ)} {s : ℕ} (cs : ℕ) (w : LeftWalk rules wanted row left right b before now s cs) where
-    pub left-end : cs ≡ 0 → Grown row (countIn rules) (λ A. only wanted A (sideSum rules x y b A)) before now s
+    pub left-end : cs ≡ 0 → GrownAs row (countIn rules) (λ A. only wanted A (sideSum rules x y b A)) before now s
     left-end e = parts-end wanted part cs w e
 
     module _ (c : ℕ) (first : members cs ≡ c ∷ drop 1 (members cs)) where
@@ -153,7 +153,7 @@ module _ {rules plan : List (List ℕ)} {wanted row left right b rights : ℕ} {
       }
 
       pub left-step : {after : List (List ℕ)} {s′ s″ : ℕ} (next : ℕ) → members next ≡ drop 1 (members cs)
-          → Grown row (countIn rules) (λ A. only wanted A (tieSum rules (entry now left b * entry now right c) b c A)) now after s′
+          → GrownAs row (countIn rules) (λ A. only wanted A (tieSum rules (entry now left b * entry now right c) b c A)) now after s′
           → ((i : ℕ) → member s″ i ≡ (member s i || member s′ i)) → LeftWalk rules wanted row left right b before after s″ next
       left-step next rest g m = parts-step wanted part cs w c first next rest (rw same at g) m
 
@@ -181,7 +181,7 @@ module _ {rules plan : List (List ℕ)} {wanted row left right : ℕ} {sets : Li
       (λ A h. ap (λ (v : ℕ). only wanted A v) (sides-come (q .adds .table) A h xs ys))
 
   module _ {now : List (List ℕ)} {s : ℕ} (bs : ℕ) (w : SplitWalk rules wanted row left right before now s bs) where
-    pub split-end : bs ≡ 0 → Grown row (countIn rules) (λ A. only wanted A (pairSum rules xs ys A)) before now s
+    pub split-end : bs ≡ 0 → GrownAs row (countIn rules) (λ A. only wanted A (pairSum rules xs ys A)) before now s
     split-end e = parts-end wanted side bs w e
 
     module _ (b : ℕ) (first : members bs ≡ b ∷ drop 1 (members bs)) where
@@ -213,6 +213,6 @@ module _ {rules plan : List (List ℕ)} {wanted row left right : ℕ} {sets : Li
       }
 
       pub split-step : {after : List (List ℕ)} {s′ s″ : ℕ} (next : ℕ) → members next ≡ drop 1 (members bs)
-          → Grown row (countIn rules) (λ A. only wanted A (sideSum rules (entry now left b) (entry now right) b A)) now after s′
+          → GrownAs row (countIn rules) (λ A. only wanted A (sideSum rules (entry now left b) (entry now right) b A)) now after s′
           → ((i : ℕ) → member s″ i ≡ (member s i || member s′ i)) → SplitWalk rules wanted row left right before after s″ next
       split-step next rest g m = parts-step wanted side bs w b first next rest (grown-ext (λ A h. rw (same-side A)) g) m

@@ -16,7 +16,7 @@ use Rattle.counting.specs.Totals.{T}
 use Rattle.counting.specs.Inner.Counted.{Asked, Counted}
 use Rattle.counting.proofs.Asking.{asked-left, asked-right}
 use Rattle.charts.specs.Inner.Plan.{Cut}
-use Rattle.charts.specs.Inner.Planning.{at, Sided, Wanted, Cutting, Spots, Spotted, Placed, Plans, Built}
+use Rattle.charts.specs.Inner.Planning.{at, SidedAs, AllWantedAs, AllCutAs, Spots, SpottedAs, PlacedAs, Plans, BuiltAs}
 use Rattle.charts.proofs.Placing.{placed-rows}
 
 -- where a pair rule stands
@@ -34,7 +34,7 @@ pair-place {rules} t A x h m =
 
 module _ {rules totals : List (List ℕ)} {n N end lefts rights : ℕ} {cuts′ wanted′ partners′ : List ℕ}
     (c : Counted rules totals n) (eN : N ≡ countIn rules) (ee : end ≡ pairFrom rules (countIn rules))
-    (ws : Wanted totals N n wanted′) (ss : Sided rules end partners′ lefts rights) (ks : Cutting wanted′ lefts rights n cuts′) where
+    (ws : AllWantedAs totals N n wanted′) (ss : SidedAs rules end partners′ lefts rights) (ks : AllCutAs wanted′ lefts rights n cuts′) where
   -- left lengths lie inside
   pub spots-ask : (row : List ℕ) → length row ≡ 32 → ((i : ℕ) → at row i ≡ 0) → Spots cuts′ n row
   spots-ask row long none =
@@ -43,7 +43,7 @@ module _ {rules totals : List (List ℕ)} {n N end lefts rights : ℕ} {cuts′ 
   is-wanted : (A m : ℕ) → Asked rules n A m → 1 ≤ T (ruled rules) A m → member (at wanted′ m) A ≡ true
   is-wanted A m a h = ws .each m (a .some) (a .short) .has A (omega (arith, a .inside)) (omega (arith, c .right A m a))
 
-  assembled : {spots′ : List ℕ} → Spotted cuts′ n 1 spots′ → Cut rules (cuts′ ∷ spots′ ∷ wanted′ ∷ partners′ ∷ []) n
+  assembled : {spots′ : List ℕ} → SpottedAs cuts′ n 1 spots′ → Cut rules (cuts′ ∷ spots′ ∷ wanted′ ∷ partners′ ∷ []) n
   assembled ps =
       record {
         wants = is-wanted;
@@ -76,10 +76,10 @@ four-rows (x ∷ y ∷ z ∷ w ∷ []) a b d e h = refl
 four-rows (x ∷ y ∷ z ∷ w ∷ v ∷ l) a b d e h = absurd (omega arith)
 
 module _ (plan : List (List ℕ)) (long : length plan ≡ 4) (a b d e : List ℕ) {rules totals map after : List (List ℕ)} {n N end lefts rights : ℕ}
-    (p : Plans rules totals n plan map) (eN : N ≡ countIn rules) (ee : end ≡ pairFrom rules (countIn rules)) (ws : Wanted totals N n d)
-    (ss : Sided rules end e lefts rights) (ks : Cutting d lefts rights n a) (hn : at a 0 ≡ n) (ps : Spotted a n 1 b)
-    (rs : Placed b n (n + 1) map after) where
-  pub built : Built rules n map (set (set (set (set plan 0 a) 1 b) 2 d) 3 e) after
+    (p : Plans rules totals n plan map) (eN : N ≡ countIn rules) (ee : end ≡ pairFrom rules (countIn rules)) (ws : AllWantedAs totals N n d)
+    (ss : SidedAs rules end e lefts rights) (ks : AllCutAs d lefts rights n a) (hn : at a 0 ≡ n) (ps : SpottedAs a n 1 b)
+    (rs : PlacedAs b n (n + 1) map after) where
+  pub built : BuiltAs rules n map (set (set (set (set plan 0 a) 1 b) 2 d) 3 e) after
   built =
       rw (four-rows plan a b d e long)
       (record {

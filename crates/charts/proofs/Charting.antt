@@ -25,8 +25,8 @@ use Rattle.counting.proofs.Asking.{counted-rows, total-dead}
 use Rattle.charts.specs.Inner.Letters.{letterAt, weightBy}
 use Rattle.charts.specs.Inner.Maps.{rowAt, totalAt, Span}
 use Rattle.charts.specs.Inner.Plan.{cuts, spots, wanted, needed, noneRow, chartRow, room, Cut, Rowed}
-use Rattle.charts.specs.Inner.Chart.{Clean, Fills, Filled, Charted}
-use Rattle.charts.specs.Inner.Filling.{only, cutsSum, spanSum, Makes, Half, Spans, Spanned, Done, FilledTo, Lengthened, Lengthens}
+use Rattle.charts.specs.Inner.Chart.{Clean, Fills, Filled, ChartedAs}
+use Rattle.charts.specs.Inner.Filling.{only, cutsSum, spanSum, Makes, Half, Spans, SpannedAs, Done, FilledTo, LengthenedAs, Lengthens}
 use Rattle.charts.proofs.Totalling.{letter-le, cuts-total, leaf-total}
 
 -- ---- what filling asks
@@ -163,7 +163,7 @@ module _ {rules plan map : List (List ℕ)} {n m left : ℕ} {sets : List ℕ} {
         };
   }
 
-  module _ {sets′ : List ℕ} {totals′ : List (List ℕ)} (d : Spanned rules plan map p m sets totals sets′ totals′) where
+  module _ {sets′ : List ℕ} {totals′ : List (List ℕ)} (d : SpannedAs rules plan map p m sets totals sets′ totals′) where
     -- the span's row has its totals
     span-done : Done rules map n p m totals′
     span-done A a = d .made .here A (a .inside) ∙ is A a (ℕ-discrete m 1)
@@ -214,7 +214,7 @@ module _ {rules plan map : List (List ℕ)} {n m left : ℕ} {sets : List ℕ} {
 module _ {rules plan map : List (List ℕ)} {n : ℕ} where
   -- before the spans of the length 1
   pub lengths-start : {sets : List ℕ} {totals : List (List ℕ)} → Fills rules plan map n sets totals
-      → Lengthened rules plan map n 1 (spots plan 1) sets totals sets totals
+      → LengthenedAs rules plan map n 1 (spots plan 1) sets totals sets totals
   lengths-start q = record {
     filled = record {
       fills = q;
@@ -228,8 +228,8 @@ module _ {rules plan map : List (List ℕ)} {n : ℕ} where
 
   -- on to the next length
   pub lengths-next : (m : ℕ) {sets sets′ sets″ : List ℕ} {totals totals′ totals″ : List (List ℕ)}
-      → Lengthened rules plan map n m (spots plan m) sets totals sets′ totals′ → Lengthened rules plan map n m 0 sets′ totals′ sets″ totals″
-      → Lengthened rules plan map n (m + 1) (spots plan (m + 1)) sets totals sets″ totals″
+      → LengthenedAs rules plan map n m (spots plan m) sets totals sets′ totals′ → LengthenedAs rules plan map n m 0 sets′ totals′ sets″ totals″
+      → LengthenedAs rules plan map n (m + 1) (spots plan (m + 1)) sets totals sets″ totals″
   lengths-next m a b = record {
     filled = record {
       fills = b .filled .fills;
@@ -249,7 +249,7 @@ module _ {rules plan map : List (List ℕ)} {n : ℕ} where
 
   -- past the longest
   pub lengths-end : (m : ℕ) {sets sets′ : List ℕ} {totals totals′ : List (List ℕ)} → n < m
-      → Lengthened rules plan map n m (spots plan m) sets totals sets′ totals′ → Filled rules plan map n totals totals′
+      → LengthenedAs rules plan map n m (spots plan m) sets totals sets′ totals′ → Filled rules plan map n totals totals′
   lengths-end m {totals′ = totals′} past w =
       let q = w .filled .fills in
       let rows = q .planned .rows in
@@ -279,7 +279,7 @@ module _ {rules plan map : List (List ℕ)} {n : ℕ} where
 -- before the positions in `left`, whatever n the plan is for
 pub record LengthWalk (rules plan map : List (List ℕ)) (m left : ℕ) (sets : List ℕ) (totals : List (List ℕ)) (sets′ : List ℕ) (totals′ : List (List ℕ)) : Type 0 where
   pub among : (p : ℕ) → p ∈ members left → p ∈ members (spots plan m)
-  pub done : (n : ℕ) → Lengthens rules plan map n m sets totals → Lengthened rules plan map n m left sets totals sets′ totals′
+  pub done : (n : ℕ) → Lengthens rules plan map n m sets totals → LengthenedAs rules plan map n m left sets totals sets′ totals′
 
 module _ {rules plan map : List (List ℕ)} {m : ℕ} {sets : List ℕ} {totals : List (List ℕ)} where
   pub length-start : LengthWalk rules plan map m (spots plan m) sets totals sets totals
@@ -289,7 +289,7 @@ module _ {rules plan map : List (List ℕ)} {m : ℕ} {sets : List ℕ} {totals 
   }
 
   module _ {left : ℕ} {sets′ : List ℕ} {totals′ : List (List ℕ)} (w : LengthWalk rules plan map m left sets totals sets′ totals′) where
-    pub length-end : left ≡ 0 → (n : ℕ) → Lengthens rules plan map n m sets totals → Lengthened rules plan map n m 0 sets totals sets′ totals′
+    pub length-end : left ≡ 0 → (n : ℕ) → Lengthens rules plan map n m sets totals → LengthenedAs rules plan map n m 0 sets totals sets′ totals′
     length-end e n q = rw e at (w .done n q)
 
     module _ (p : ℕ) (first : members left ≡ p ∷ drop 1 (members left)) where
@@ -300,7 +300,7 @@ module _ {rules plan map : List (List ℕ)} {m : ℕ} {sets : List ℕ} {totals 
       length-asks n q = span-asks (w .done n q .filled) (q .some) (q .short) p (spot .0) (spot .1)
 
       pub length-step : {sets″ : List ℕ} {totals″ : List (List ℕ)} (next : ℕ) → members next ≡ drop 1 (members left)
-          → Spanned rules plan map p m sets′ totals′ sets″ totals″ → LengthWalk rules plan map m next sets totals sets″ totals″
+          → SpannedAs rules plan map p m sets′ totals′ sets″ totals″ → LengthWalk rules plan map m next sets totals sets″ totals″
       length-step next rest d = record {
         among = λ i j. w .among i (rw first (List·Memᴰ·tail (rw rest at j)));
         done = λ n q.
@@ -319,7 +319,7 @@ module _ {rules plan map : List (List ℕ)} {m : ℕ} {sets : List ℕ} {totals 
 pub record FillWalk (rules plan map : List (List ℕ)) (n m : ℕ) (sets : List ℕ) (totals : List (List ℕ)) (sets′ : List ℕ) (totals′ : List (List ℕ)) : Type 0 where
   pub some : 1 ≤ m
   pub short : m ≤ n + 1
-  pub done : Lengthened rules plan map n m (spots plan m) sets totals sets′ totals′
+  pub done : LengthenedAs rules plan map n m (spots plan m) sets totals sets′ totals′
 
 module _ {rules plan map : List (List ℕ)} {n : ℕ} {sets : List ℕ} {totals : List (List ℕ)} where
   pub fill-start : Fills rules plan map n sets totals → FillWalk rules plan map n 1 sets totals sets totals
@@ -329,9 +329,9 @@ module _ {rules plan map : List (List ℕ)} {n : ℕ} {sets : List ℕ} {totals 
     pub fill-asks : m ≤ n → Lengthens rules plan map n m sets′ totals′
     fill-asks h = record { some = w .some; short = h; filled = w .done .filled }
 
-    pub fill-step : m ≤ n → {sets″ : List ℕ} {totals″ : List (List ℕ)} → Lengthened rules plan map n m 0 sets′ totals′ sets″ totals″
+    pub fill-step : m ≤ n → {sets″ : List ℕ} {totals″ : List (List ℕ)} → LengthenedAs rules plan map n m 0 sets′ totals′ sets″ totals″
         → FillWalk rules plan map n (m + 1) sets totals sets″ totals″
     fill-step h d = record { some = omega arith; short = omega arith; done = lengths-next m (w .done) d }
 
-    pub fill-end : n < m → Charted rules plan map n totals sets′ totals′
+    pub fill-end : n < m → ChartedAs rules plan map n totals sets′ totals′
     fill-end h = record { filled = lengths-end m h (w .done); clean = w .done .filled .fills .clean }

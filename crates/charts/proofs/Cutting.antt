@@ -16,7 +16,7 @@ use Rattle.grammar.specs.Inner.Rules.{countIn}
 use Rattle.counting.specs.Refusals.{most}
 use Rattle.charts.specs.Inner.Maps.{rowAt}
 use Rattle.charts.specs.Inner.Plan.{cuts, wanted}
-use Rattle.charts.specs.Inner.Filling.{Clears, only, pairSum, cutSum, cutsSum, Grown, AddsSplit, Made, Half, Joins}
+use Rattle.charts.specs.Inner.Filling.{Clears, only, pairSum, cutSum, cutsSum, GrownAs, AddsSplit, MadeAs, Half, Joins}
 use Rattle.charts.proofs.Growing.{growing-start, grown-ext, Parts, parts-end, parts-fits, parts-step}
 use Rattle.charts.proofs.Making.{zeros, cleared, cleared-wide, made}
 
@@ -75,8 +75,8 @@ module _ {rules plan map : List (List ℕ)} {p m : ℕ} {sets : List ℕ} {befor
   blank-zero = cleared before (rowAt map p m) (q .makes .inside)
 
   blank-made : {after : List (List ℕ)} {s : ℕ}
-      → Grown (rowAt map p m) (countIn rules) (λ A. only (wanted plan m) A (cutsSum rules plan map blank p m A)) blank after s
-      → Made (rowAt map p m) (countIn rules) (λ A. only (wanted plan m) A (cutsSum rules plan map before p m A)) before after s
+      → GrownAs (rowAt map p m) (countIn rules) (λ A. only (wanted plan m) A (cutsSum rules plan map blank p m A)) blank after s
+      → MadeAs (rowAt map p m) (countIn rules) (λ A. only (wanted plan m) A (cutsSum rules plan map before p m A)) before after s
   blank-made g =
       made before (rowAt map p m) (q .makes .inside) (q .makes .table .few)
       (grown-ext (λ A h. rw (blank-sum A)) g)
@@ -100,8 +100,8 @@ module _ {rules plan map : List (List ℕ)} {p m : ℕ} {sets : List ℕ} {befor
       cuts-clear = rw (z, e) blank-zero
 
       pub cuts-made : {after : List (List ℕ)} {s : ℕ}
-          → Grown (rowAt map p m) (countIn rules) (λ A. only (wanted plan m) A (cutsSum rules plan map now p m A)) now after s
-          → Made (rowAt map p m) (countIn rules) (λ A. only (wanted plan m) A (cutsSum rules plan map before p m A)) before after s
+          → GrownAs (rowAt map p m) (countIn rules) (λ A. only (wanted plan m) A (cutsSum rules plan map now p m A)) now after s
+          → MadeAs (rowAt map p m) (countIn rules) (λ A. only (wanted plan m) A (cutsSum rules plan map before p m A)) before after s
       cuts-made = rw (z, e) blank-made
 
 -- ---- cut after cut, from a row of zeros
@@ -120,7 +120,7 @@ module _ {rules plan map : List (List ℕ)} {p m : ℕ} {sets : List ℕ} {befor
   cuts-start = record { among = λ k i. i; parts = growing-start (q .makes .wide) (λ A h. refl) }
 
   module _ {now : List (List ℕ)} {s ks : ℕ} (w : CutsWalk rules plan map p m before now s ks) where
-    pub cuts-end : ks ≡ 0 → Grown (rowAt map p m) (countIn rules) (λ A. only (wanted plan m) A (cutsSum rules plan map before p m A)) before now s
+    pub cuts-end : ks ≡ 0 → GrownAs (rowAt map p m) (countIn rules) (λ A. only (wanted plan m) A (cutsSum rules plan map before p m A)) before now s
     cuts-end e = parts-end (wanted plan m) part ks (w .parts) e
 
     module _ (k : ℕ) (first : members ks ≡ k ∷ drop 1 (members ks)) where
@@ -171,7 +171,7 @@ module _ {rules plan map : List (List ℕ)} {p m : ℕ} {sets : List ℕ} {befor
       }
 
       step : {after : List (List ℕ)} {s′ s″ : ℕ} (next : ℕ) → members next ≡ drop 1 (members ks)
-          → Grown (rowAt map p m) (countIn rules) (λ A. only (wanted plan m) A (cutSum rules map now p m A k)) now after s′
+          → GrownAs (rowAt map p m) (countIn rules) (λ A. only (wanted plan m) A (cutSum rules map now p m A k)) now after s′
           → ((i : ℕ) → member s″ i ≡ (member s i || member s′ i)) → CutsWalk rules plan map p m before after s″ next
       step next rest g u = record {
         among = λ i j. w .among i (rw first (List·Memᴰ·tail (rw rest at j)));
@@ -185,6 +185,6 @@ module _ {rules plan map : List (List ℕ)} {p m : ℕ} {sets : List ℕ} {befor
         cut-asks = rw (e, ex, ey) asks
 
         pub cut-step : {after : List (List ℕ)} {s′ s″ : ℕ} (next : ℕ) → members next ≡ drop 1 (members ks)
-            → Grown row (countIn rules) (λ A. only (wanted plan m) A (pairSum rules (entry now x) (entry now y) A)) now after s′
+            → GrownAs row (countIn rules) (λ A. only (wanted plan m) A (pairSum rules (entry now x) (entry now y) A)) now after s′
             → ((i : ℕ) → member s″ i ≡ (member s i || member s′ i)) → CutsWalk rules plan map p m before after s″ next
         cut-step next rest g u = step next rest (rw (e, ex, ey) at g) u

@@ -15,7 +15,7 @@ use Rattle.lists.specs.Inner.Tables.{entry}
 use Rattle.sets.specs.Inner.Sets.{member, members}
 use Rattle.sets.proofs.Loops.{with-more, with-new, with-only, none-member}
 use Rattle.grammar.specs.Inner.Rules.{leftAt, rightAt, countIn}
-use Rattle.charts.specs.Inner.Planning.{at, Sides, Sided, Wants, Wanted, Cuts, Cutting}
+use Rattle.charts.specs.Inner.Planning.{at, Sides, SidedAs, WantedAs, AllWantedAs, CutAs, AllCutAs}
 
 -- ---- a row of sets
 
@@ -54,16 +54,16 @@ sides-low {rules} s i h =
     let e = s .all in
     (omega arith, omega (arith, s .table .lefts i (omega arith)), omega (arith, s .table .rights i (omega arith)))
 
-pub sided-start : {rules : List (List ℕ)} {row : List ℕ} {lefts rights : ℕ} → length row ≡ 32 → Sided rules 0 row lefts rights
+pub sided-start : {rules : List (List ℕ)} {row : List ℕ} {lefts rights : ℕ} → length row ≡ 32 → SidedAs rules 0 row lefts rights
 sided-start long =
     record { long = long; pair = λ i h. absurd (omega arith); left = λ i h. absurd (omega arith); right = λ i h. absurd (omega arith) }
 
-module _ {rules : List (List ℕ)} {i : ℕ} {row : List ℕ} {lefts rights : ℕ} (s : Sided rules i row lefts rights)
+module _ {rules : List (List ℕ)} {i : ℕ} {row : List ℕ} {lefts rights : ℕ} (s : SidedAs rules i row lefts rights)
     (b c : ℕ) (eb : b ≡ leftAt rules i) (ec : c ≡ rightAt rules i) (low : b < 32) (x : ℕ)
     (wx : (d : ℕ) → member x d ≡ (member (at row b) d || eqb c d))
     (lefts′ : ℕ) (wl : (d : ℕ) → member lefts′ d ≡ (member lefts d || eqb b d))
     (rights′ : ℕ) (wr : (d : ℕ) → member rights′ d ≡ (member rights d || eqb c d)) where
-  pub sided-turn : Sided rules (i + 1) (set row b x) lefts′ rights′
+  pub sided-turn : SidedAs rules (i + 1) (set row b x) lefts′ rights′
   sided-turn =
       record {
         long = stored-long row (s .long) b x low;
@@ -76,11 +76,11 @@ module _ {rules : List (List ℕ)} {i : ℕ} {row : List ℕ} {lefts rights : �
 
 -- ---- wanted nonterminals
 
-pub wants-start : (totals : List (List ℕ)) (m s : ℕ) → members s ≡ [] → Wants totals 0 m s
+pub wants-start : (totals : List (List ℕ)) (m s : ℕ) → members s ≡ [] → WantedAs totals 0 m s
 wants-start totals m s e = record { has = λ A h t. absurd (omega arith); only = λ A h t. absurd (none-member s A e h t) }
 
-module _ {totals : List (List ℕ)} {a m s : ℕ} (w : Wants totals a m s) where
-  pub wants-put : (r : ℕ) → ((b : ℕ) → member r b ≡ (member s b || eqb a b)) → Wants totals (a + 1) m r
+module _ {totals : List (List ℕ)} {a m s : ℕ} (w : WantedAs totals a m s) where
+  pub wants-put : (r : ℕ) → ((b : ℕ) → member r b ≡ (member s b || eqb a b)) → WantedAs totals (a + 1) m r
   wants-put r e =
       record {
         has = below-more (λ A. 1 ≤ entry totals m A → member r A ≡ true) a (λ A h t. with-more s a r e A (w .has A h t)) (λ t. with-new s a r e a refl);
@@ -91,20 +91,20 @@ module _ {totals : List (List ℕ)} {a m s : ℕ} (w : Wants totals a m s) where
             ];
       }
 
-  pub wants-pass : entry totals m a ≡ 0 → Wants totals (a + 1) m s
+  pub wants-pass : entry totals m a ≡ 0 → WantedAs totals (a + 1) m s
   wants-pass z =
       record {
         has = below-more (λ A. 1 ≤ entry totals m A → member s A ≡ true) a (λ A h t. w .has A h t) (λ t. absurd (omega arith));
         only = λ A h t. omega (arith, w .only A h t);
       }
 
-pub wanted-start : {totals : List (List ℕ)} {N : ℕ} {row : List ℕ} → length row ≡ 32 → Wanted totals N (1 - 1) row
+pub wanted-start : {totals : List (List ℕ)} {N : ℕ} {row : List ℕ} → length row ≡ 32 → AllWantedAs totals N (1 - 1) row
 wanted-start long = record { long = long; each = λ m h l. absurd (omega arith) }
 
-pub wanted-turn : {totals : List (List ℕ)} {N m : ℕ} {row : List ℕ} {x : ℕ} → m < 32 → Wanted totals N (m - 1) row → Wants totals N m x
-    → Wanted totals N (m + 1 - 1) (set row m x)
+pub wanted-turn : {totals : List (List ℕ)} {N m : ℕ} {row : List ℕ} {x : ℕ} → m < 32 → AllWantedAs totals N (m - 1) row → WantedAs totals N m x
+    → AllWantedAs totals N (m + 1 - 1) (set row m x)
 wanted-turn {totals} {N} {m} {row} {x} low w h =
-    record { long = stored-long row (w .long) m x low; each = stored-each row (w .long) m x low (λ j s. Wants totals N j s) (w .each) h }
+    record { long = stored-long row (w .long) m x low; each = stored-each row (w .long) m x low (λ j s. WantedAs totals N j s) (w .each) h }
 
 -- ---- left lengths
 
@@ -143,27 +143,27 @@ module _ {wanted : List ℕ} {lefts rights m k s : ℕ} (w : CutsTo wanted lefts
         only = λ j h t. let q = w .only j h t in (q .0, omega (arith, q .1));
       }
 
-pub cuts-end : {wanted : List ℕ} {lefts rights m k s : ℕ} → CutsTo wanted lefts rights m k s → k ≡ m → Cuts wanted lefts rights m s
+pub cuts-end : {wanted : List ℕ} {lefts rights m k s : ℕ} → CutsTo wanted lefts rights m k s → k ≡ m → CutAs wanted lefts rights m s
 cuts-end w e =
     record {
       has = λ B C j some less a b c d. w .has j (omega arith) B C some a b c d;
       only = λ j u t. let q = w .only j u t in (q .0, omega (arith, q .1));
     }
 
-pub cutting-start : {wanted : List ℕ} {lefts rights : ℕ} {row : List ℕ} → length row ≡ 32 → Cutting wanted lefts rights (1 - 1) row
+pub cutting-start : {wanted : List ℕ} {lefts rights : ℕ} {row : List ℕ} → length row ≡ 32 → AllCutAs wanted lefts rights (1 - 1) row
 cutting-start long = record { long = long; each = λ m h l. absurd (omega arith) }
 
-pub cutting-turn : {wanted : List ℕ} {lefts rights m : ℕ} {row : List ℕ} {x : ℕ} → m < 32 → Cutting wanted lefts rights (m - 1) row
-    → Cuts wanted lefts rights m x → Cutting wanted lefts rights (m + 1 - 1) (set row m x)
+pub cutting-turn : {wanted : List ℕ} {lefts rights m : ℕ} {row : List ℕ} {x : ℕ} → m < 32 → AllCutAs wanted lefts rights (m - 1) row
+    → CutAs wanted lefts rights m x → AllCutAs wanted lefts rights (m + 1 - 1) (set row m x)
 cutting-turn {wanted} {lefts} {rights} {m} {row} {x} low w h =
-    record { long = stored-long row (w .long) m x low; each = stored-each row (w .long) m x low (λ j s. Cuts wanted lefts rights j s) (w .each) h }
+    record { long = stored-long row (w .long) m x low; each = stored-each row (w .long) m x low (λ j s. CutAs wanted lefts rights j s) (w .each) h }
 
 -- the row's first place, which no length has, is free for the plan's own length
-pub cutting-length : {wanted : List ℕ} {lefts rights n : ℕ} {row : List ℕ} → Cutting wanted lefts rights n row → (x : ℕ) → Cutting wanted lefts rights n (set row 0 x)
+pub cutting-length : {wanted : List ℕ} {lefts rights n : ℕ} {row : List ℕ} → AllCutAs wanted lefts rights n row → (x : ℕ) → AllCutAs wanted lefts rights n (set row 0 x)
 cutting-length {row = row} c x = record {
   long = length-set row 0 x ∙ c .long;
   each = λ m h l. rw (getD-set-other row 0 m x 0 (λ e. omega arith)) (c .each m h l);
 }
 
-pub length-held : {wanted : List ℕ} {lefts rights n : ℕ} {row : List ℕ} → Cutting wanted lefts rights n row → (x : ℕ) → at (set row 0 x) 0 ≡ x
+pub length-held : {wanted : List ℕ} {lefts rights n : ℕ} {row : List ℕ} → AllCutAs wanted lefts rights n row → (x : ℕ) → at (set row 0 x) 0 ≡ x
 length-held {row = row} c x = getD-set-same row 0 x 0 (omega (arith, c .long))

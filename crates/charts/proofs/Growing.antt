@@ -18,7 +18,7 @@ use Rattle.sets.specs.Inner.Sets.{member, members}
 use Rattle.sets.proofs.Lists.{sum-members}
 use Rattle.sets.proofs.Loops.{over}
 use Rattle.counting.specs.Refusals.{most}
-use Rattle.charts.specs.Inner.Filling.{Growing, Grown, only}
+use Rattle.charts.specs.Inner.Filling.{Growing, GrownAs, only}
 
 module _ {row count : ℕ} {f : ℕ → ℕ} {before : List (List ℕ)} where
   pub growing-start : {rest : ℕ → ℕ} {s : ℕ} → Wide before 32 → ((A : ℕ) → A < count → rest A ≡ f A) → Growing row count f before before rest s
@@ -40,11 +40,11 @@ module _ {row count : ℕ} {f : ℕ → ℕ} {before : List (List ℕ)} where
       covers = g .covers;
     }
 
-    pub growing-end : ((A : ℕ) → A < count → rest A ≡ 0) → Grown row count f before now s
+    pub growing-end : ((A : ℕ) → A < count → rest A ≡ 0) → GrownAs row count f before now s
     growing-end z = growing-same z
 
     -- a part more
-    pub growing-more : {h rest′ : ℕ → ℕ} {after : List (List ℕ)} {s′ s″ : ℕ} → Grown row count h now after s′
+    pub growing-more : {h rest′ : ℕ → ℕ} {after : List (List ℕ)} {s′ s″ : ℕ} → GrownAs row count h now after s′
         → ((A : ℕ) → A < count → rest A ≡ h A + rest′ A) → ((b : ℕ) → member s″ b ≡ (member s b || member s′ b))
         → Growing row count f before after rest′ s″
     growing-more {s′ = s′} q e m = record {
@@ -90,8 +90,8 @@ module _ {row count : ℕ} {f : ℕ → ℕ} {before : List (List ℕ)} where
     growing-fits A v h l k = omega (arith, g .due A h)
 
 -- the same by an equal end value
-pub grown-ext : {row count : ℕ} {f h : ℕ → ℕ} {before after : List (List ℕ)} {s : ℕ} → ((A : ℕ) → A < count → f A ≡ h A) → Grown row count f before after s
-    → Grown row count h before after s
+pub grown-ext : {row count : ℕ} {f h : ℕ → ℕ} {before after : List (List ℕ)} {s : ℕ} → ((A : ℕ) → A < count → f A ≡ h A) → GrownAs row count f before after s
+    → GrownAs row count h before after s
 grown-ext e g = record { long = g .long; wide = g .wide; due = λ A u. omega (arith, g .due A u, e A u); others = g .others; covers = g .covers }
 
 pub only-plus : (w A x y : ℕ) → only w A (x + y) ≡ only w A x + only w A y
@@ -112,7 +112,7 @@ module _ {row count : ℕ} {f : ℕ → ℕ} (w : ℕ) (part : ℕ → ℕ → �
       growing-start wide (λ A h. ap (λ (x : ℕ). only w A x) (sum-members left (λ i. part i A) (z A h)) ∙ e A h)
 
   module _ {now : List (List ℕ)} {s : ℕ} (left : ℕ) (g : Parts row count f w part before now s left) where
-    pub parts-end : left ≡ 0 → Grown row count f before now s
+    pub parts-end : left ≡ 0 → GrownAs row count f before now s
     parts-end e = growing-end g (λ A h. cond-none (member w A) (sumOver (λ i. part i A) (members left)) (ap (λ (l : List ℕ). sumOver (λ i. part i A) l) (over left e)))
 
     module _ (i : ℕ) (first : members left ≡ i ∷ drop 1 (members left)) where
@@ -125,7 +125,7 @@ module _ {row count : ℕ} {f : ℕ → ℕ} (w : ℕ) (part : ℕ → ℕ → �
       parts-fits A h m = growing-fits g A (only w A (part i A)) h (omega (arith, splits A)) m
 
       pub parts-step : {after : List (List ℕ)} {s′ s″ : ℕ} (next : ℕ) → members next ≡ drop 1 (members left)
-          → Grown row count (λ A. only w A (part i A)) now after s′ → ((b : ℕ) → member s″ b ≡ (member s b || member s′ b))
+          → GrownAs row count (λ A. only w A (part i A)) now after s′ → ((b : ℕ) → member s″ b ≡ (member s b || member s′ b))
           → Parts row count f w part before after s″ next
       parts-step next rest q m =
           growing-more g q (λ A h. splits A ∙ ap (λ (l : List ℕ). only w A (part i A) + only w A (sumOver (λ i. part i A) l)) (sym rest)) m

@@ -16,7 +16,7 @@ use Rattle.grammar.specs.Inner.Rules.{countIn, wordsIn}
 use Rattle.grammar.proofs.Ruling.{word-count}
 use Rattle.charts.specs.Inner.Letters.{any, weighed, letterAt, weightBy}
 use Rattle.charts.specs.Inner.Maps.{rowAt}
-use Rattle.charts.specs.Inner.Filling.{Clears, wordCount, wordTimes, leafSum, Grown, Clear, Made, Makes, only, cutsSum, spanSum, Joins, Spans, Spanned}
+use Rattle.charts.specs.Inner.Filling.{Clears, wordCount, wordTimes, leafSum, GrownAs, Clear, MadeAs, Makes, only, cutsSum, spanSum, Joins, Spans, SpannedAs}
 use Rattle.charts.specs.Inner.Plan.{wanted}
 
 abbrev pub zeros : List ℕ
@@ -30,8 +30,8 @@ module _ (before : List (List ℕ)) (row : ℕ) (inside : row < length before) w
   cleared-wide w = wide-row before 32 row zeros refl w
 
   -- what a row of zeros has grown to
-  pub made : {count : ℕ} {f : ℕ → ℕ} {after : List (List ℕ)} {s : ℕ} → count ≤ 32 → Grown row count f (set before row zeros) after s
-      → Made row count f before after s
+  pub made : {count : ℕ} {f : ℕ → ℕ} {after : List (List ℕ)} {s : ℕ} → count ≤ 32 → GrownAs row count f (set before row zeros) after s
+      → MadeAs row count f before after s
   made few g = record {
     long = g .long ∙ length-set before row zeros;
     wide = g .wide;
@@ -41,7 +41,7 @@ module _ (before : List (List ℕ)) (row : ℕ) (inside : row < length before) w
   }
 
 pub made-ext : {row count : ℕ} {f h : ℕ → ℕ} {before after : List (List ℕ)} {s : ℕ} → ((A : ℕ) → A < count → f A ≡ h A)
-    → Made row count f before after s → Made row count h before after s
+    → MadeAs row count f before after s → MadeAs row count h before after s
 made-ext e g = record { long = g .long; wide = g .wide; here = λ A u. g .here A u ∙ e A u; others = g .others; zero = g .zero }
 
 -- ---- a single position
@@ -72,13 +72,13 @@ module _ {rules map : List (List ℕ)} {p old : ℕ} {before : List (List ℕ)} 
           zeros = cleared before row inside;
         })
 
-    leaf-made : {f h : ℕ → ℕ} {after : List (List ℕ)} {s : ℕ} → ((A : ℕ) → A < countIn rules → f A ≡ h A) → Grown row (countIn rules) f now after s
-        → Made (rowAt map p 1) (countIn rules) h before after s
+    leaf-made : {f h : ℕ → ℕ} {after : List (List ℕ)} {s : ℕ} → ((A : ℕ) → A < countIn rules → f A ≡ h A) → GrownAs row (countIn rules) f now after s
+        → MadeAs (rowAt map p 1) (countIn rules) h before after s
     leaf-made all g = rw e at (made-ext all (made before row inside (q .table .few) (rw z at g)))
 
     -- any word counts for 1
-    pub leaf-any : letterAt map p ≡ any → {after : List (List ℕ)} {s : ℕ} → Grown row (countIn rules) (wordCount rules) now after s
-        → Made (rowAt map p 1) (countIn rules) (leafSum rules map p) before after s
+    pub leaf-any : letterAt map p ≡ any → {after : List (List ℕ)} {s : ℕ} → GrownAs row (countIn rules) (wordCount rules) now after s
+        → MadeAs (rowAt map p 1) (countIn rules) (leafSum rules map p) before after s
     leaf-any x g = leaf-made all g
       where
         one : (w : ℕ) → weightBy rules map p w ≡ 1
@@ -89,8 +89,8 @@ module _ {rules map : List (List ℕ)} {p old : ℕ} {before : List (List ℕ)} 
             sym (sum-ext (weightBy rules map p) (λ w. 1) (wordsIn rules A) (λ w m. one w) ∙ sum-one (wordsIn rules A) ∙ word-count rules A)
 
     -- one word does
-    pub leaf-word : (letterAt map p ≡ any → ⊥) → {after : List (List ℕ)} {s : ℕ} → Grown row (countIn rules) (wordTimes rules (letterAt map p)) now after s
-        → Made (rowAt map p 1) (countIn rules) (leafSum rules map p) before after s
+    pub leaf-word : (letterAt map p ≡ any → ⊥) → {after : List (List ℕ)} {s : ℕ} → GrownAs row (countIn rules) (wordTimes rules (letterAt map p)) now after s
+        → MadeAs (rowAt map p 1) (countIn rules) (leafSum rules map p) before after s
     leaf-word n g = leaf-made all g
       where
         one : (w : ℕ) → bit (eqb (letterAt map p) w) ≡ weightBy rules map p w
@@ -102,8 +102,8 @@ module _ {rules map : List (List ℕ)} {p old : ℕ} {before : List (List ℕ)} 
 module _ {rules plan map : List (List ℕ)} {p m : ℕ} {sets : List ℕ} {before : List (List ℕ)} (q : Spans rules plan map p m sets before) where
   -- a set is stored beside the row
   stored : (row : ℕ) → row ≡ rowAt map p m → {after : List (List ℕ)} {s : ℕ}
-      → Made (rowAt map p m) (countIn rules) (spanSum rules plan map before p m) before after s
-      → Spanned rules plan map p m sets before (set sets row s) after
+      → MadeAs (rowAt map p m) (countIn rules) (spanSum rules plan map before p m) before after s
+      → SpannedAs rules plan map p m sets before (set sets row s) after
   stored row e {after} {s} d =
       let is : getD (set sets row s) (rowAt map p m) 0 ≡ s = rw e (getD-set-same sets (rowAt map p m) s 0 (q .beside)) in
       record {
@@ -117,7 +117,7 @@ module _ {rules plan map : List (List ℕ)} {p m : ℕ} {sets : List ℕ} {befor
     span-leaf-asks row e = rw (e, one) (rw one at (q .makes))
 
     pub span-leaf : (row : ℕ) → row ≡ rowAt map p m → {after : List (List ℕ)} {s : ℕ}
-        → Made (rowAt map p 1) (countIn rules) (leafSum rules map p) before after s → Spanned rules plan map p m sets before (set sets row s) after
+        → MadeAs (rowAt map p 1) (countIn rules) (leafSum rules map p) before after s → SpannedAs rules plan map p m sets before (set sets row s) after
     span-leaf row e {after} {s} d = stored row e (made-ext (λ A h. sym (rw (eq-eqb m 1 one))) (rw (← one) at d))
 
   module _ (more : m ≡ 1 → ⊥) where
@@ -125,6 +125,6 @@ module _ {rules plan map : List (List ℕ)} {p m : ℕ} {sets : List ℕ} {befor
     span-cuts-asks = q .joins (omega (arith, q .makes .some, more))
 
     pub span-cuts : (row : ℕ) → row ≡ rowAt map p m → {after : List (List ℕ)} {s : ℕ}
-        → Made (rowAt map p m) (countIn rules) (λ A. only (wanted plan m) A (cutsSum rules plan map before p m A)) before after s
-        → Spanned rules plan map p m sets before (set sets row s) after
+        → MadeAs (rowAt map p m) (countIn rules) (λ A. only (wanted plan m) A (cutsSum rules plan map before p m A)) before after s
+        → SpannedAs rules plan map p m sets before (set sets row s) after
     span-cuts row e d = stored row e (made-ext (λ A h. sym (rw (ne-eqb m 1 more))) d)

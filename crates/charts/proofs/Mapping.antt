@@ -13,12 +13,12 @@ use Rattle.lists.proofs.Tables.{put-same, put-row, put-beside, wide-put}
 use Rattle.grammar.specs.Inner.Rules.{ruled}
 use Rattle.counting.specs.Totals.{total, T}
 use Rattle.counting.specs.Inner.Counted.{Asked, Counted}
-use Rattle.grammar.specs.Inner.Links.{Links}
+use Rattle.grammar.specs.Inner.Links.{LinkedAs}
 use Rattle.counting.proofs.Totals.{total-within, T-anywhere}
 use Rattle.counting.proofs.Asking.{counted-kept}
 use Rattle.charts.specs.Inner.Chart.{Blank, Clean}
 use Rattle.charts.specs.Inner.Letters.{any, letterAt, letterWeight, weightBy}
-use Rattle.charts.specs.Inner.Maps.{rowAt, totalAt, Span, Closed, Mapped, Everywhere, rowsFrom, plainMap, Spelt}
+use Rattle.charts.specs.Inner.Maps.{rowAt, totalAt, Span, Closed, Mapped, Everywhere, rowsFrom, plainMap, SpeltAs}
 use Rattle.charts.specs.Inner.Plan.{needed, chartRow, room, Planned}
 
 -- ---- the map of plain counts
@@ -65,7 +65,7 @@ spelt-turn {sentence} {k} {before} {map} w low byte =
       kept = λ r h. put-row map 0 k (getD sentence k 0) r (λ e. omega arith) ∙ w .kept r h;
     }
 
-pub spelt-end : {sentence : List ℕ} {k : ℕ} {before after : List (List ℕ)} → SpeltTo sentence k before after → k ≡ length sentence → Spelt sentence before after
+pub spelt-end : {sentence : List ℕ} {k : ℕ} {before after : List (List ℕ)} → SpeltTo sentence k before after → k ≡ length sentence → SpeltAs sentence before after
 spelt-end w e =
     record { long = w .long; wide = w .wide; letters = λ p h. w .letters p (omega arith); small = λ p h. w .small p (omega arith); kept = w .kept }
 
@@ -136,7 +136,7 @@ planned-same {map = map} {n = n} after same w =
     is p m s = ap (λ (l : List ℕ). getD l p 0) (same m (s .some))
 
 -- linking the rules leaves the counts
-pub linked-blank : {rules after totals : List (List ℕ)} {n : ℕ} → Links rules after → Blank rules totals n → Blank after totals n
+pub linked-blank : {rules after totals : List (List ℕ)} {n : ℕ} → LinkedAs rules after → Blank rules totals n → Blank after totals n
 linked-blank l b = record {
   counted = counted-kept (l .table .long) (l .table .wide) (l .rules-kept) (b .counted);
   zeros = b .zeros;

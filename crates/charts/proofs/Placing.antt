@@ -1,4 +1,4 @@
--- Rows of spans, length after length: those of a length begin where those of the shorter ones end, and the last end at the room for all.
+-- RowAs of spans, length after length: those of a length begin where those of the shorter ones end, and the last end at the room for all.
 -- So every span has a row of its own.
 -- Assumes nothing.
 use mathlib.Core.Path.{_≡_, refl, sym, ap, _∙_}
@@ -15,7 +15,7 @@ use Rattle.lists.proofs.Tables.{row-same, row-other, wide-row}
 use Rattle.sets.specs.Inner.Sets.{member}
 use Rattle.charts.specs.Inner.Maps.{rowAt, Span}
 use Rattle.charts.specs.Inner.Plan.{noneRow, chartRow, spansOf, room, needed, Rowed}
-use Rattle.charts.specs.Inner.Planning.{at, rowFrom, baseOf, Rows, Placed}
+use Rattle.charts.specs.Inner.Planning.{at, rowFrom, baseOf, RowAs, PlacedAs}
 
 -- ---- how many spans
 
@@ -65,10 +65,10 @@ module _ (n : ℕ) where
 
 -- ---- a row
 
-pub rows-start : {spots base : ℕ} {row : List ℕ} → length row ≡ 16 → Rows spots base 0 row
+pub rows-start : {spots base : ℕ} {row : List ℕ} → length row ≡ 16 → RowAs spots base 0 row
 rows-start long = record { long = long; each = λ p h. absurd (omega arith) }
 
-pub rows-turn : {spots base p x : ℕ} {row : List ℕ} → Rows spots base p row → p < 16 → x ≡ rowFrom spots base p → Rows spots base (p + 1) (set row p x)
+pub rows-turn : {spots base p x : ℕ} {row : List ℕ} → RowAs spots base p row → p < 16 → x ≡ rowFrom spots base p → RowAs spots base (p + 1) (set row p x)
 rows-turn {spots} {base} {p} {x} {row} r low e =
     record {
       long = length-set row p x ∙ r .long;
@@ -79,11 +79,11 @@ rows-turn {spots} {base} {p} {x} {row} r low e =
 
 -- ---- all rows
 
-pub placed-start : {spots : List ℕ} {n : ℕ} {map : List (List ℕ)} → length map ≡ 17 → Wide map 16 → Placed spots n 1 map map
+pub placed-start : {spots : List ℕ} {n : ℕ} {map : List (List ℕ)} → length map ≡ 17 → Wide map 16 → PlacedAs spots n 1 map map
 placed-start long wide = record { long = long; wide = wide; letters = refl; each = λ p j h l. absurd (omega arith) }
 
-pub placed-turn : {spots : List ℕ} {n m base : ℕ} {before map : List (List ℕ)} {row : List ℕ} → Placed spots n m before map → 1 ≤ m → m ≤ n → n ≤ 16
-    → base ≡ baseOf n m → Rows (at spots m) base (n - m + 1) row → Placed spots n (m + 1) before (set map m row)
+pub placed-turn : {spots : List ℕ} {n m base : ℕ} {before map : List (List ℕ)} {row : List ℕ} → PlacedAs spots n m before map → 1 ≤ m → m ≤ n → n ≤ 16
+    → base ≡ baseOf n m → RowAs (at spots m) base (n - m + 1) row → PlacedAs spots n (m + 1) before (set map m row)
 placed-turn {spots} {n} {m} {base} {before} {map} {row} w some short low e r =
     record {
       long = length-set map m row ∙ w .long;
@@ -108,7 +108,7 @@ row-none b x e = rw e
 row-some : (b : Bool) (x : ℕ) → b ≡ true → cond b x noneRow ≡ x
 row-some b x e = rw e
 
-module _ (plan : List (List ℕ)) {spots : List ℕ} {n : ℕ} {before map : List (List ℕ)} (w : Placed spots n (n + 1) before map) (is : getD plan 1 [] ≡ spots) where
+module _ (plan : List (List ℕ)) {spots : List ℕ} {n : ℕ} {before map : List (List ℕ)} (w : PlacedAs spots n (n + 1) before map) (is : getD plan 1 [] ≡ spots) where
   need : (p m : ℕ) → needed plan p m ≡ member (at spots m) p
   need p m = rw is
 

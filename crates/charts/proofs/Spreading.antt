@@ -17,7 +17,7 @@ use Rattle.sets.specs.Inner.Sets.{member, members}
 use Rattle.sets.proofs.Digits.{member-none}
 use Rattle.sets.proofs.Lists.{members-∈}
 use Rattle.sets.proofs.Loops.{turn-member, with-new, with-only, either-left, either-right, either-cases, moved-there, moved-back, none-member}
-use Rattle.charts.specs.Inner.Planning.{at, Halves, Inside, Spreads, Spread, Spots, Spotted}
+use Rattle.charts.specs.Inner.Planning.{at, Halves, Inside, Spreads, SpreadAs, Spots, SpottedAs}
 use Rattle.charts.proofs.Gathering.{stored-long, stored-same, stored-more}
 
 -- ---- one store
@@ -132,7 +132,7 @@ module _ {s m left : ℕ} {before row : List ℕ} (a : Spreads s m before) (w : 
             ]);
       }
 
-pub spreading-end : {s m left : ℕ} {before row : List ℕ} → Spreading s m left before row → left ≡ 0 → Spread s m before row
+pub spreading-end : {s m left : ℕ} {before row : List ℕ} → Spreading s m left before row → left ≡ 0 → SpreadAs s m before row
 spreading-end {left = left} w e =
     record {
       long = w .long;
@@ -145,7 +145,7 @@ spreading-end {left = left} w e =
 -- ---- length after length
 
 module _ {cuts : List ℕ} {n : ℕ} {row : List ℕ} (a : Spots cuts n row) where
-  pub spotted-start : (s x : ℕ) → members s ≡ [] → ((b : ℕ) → member x b ≡ (member s b || eqb 0 b)) → Spotted cuts n (n + 1) (set row n x)
+  pub spotted-start : (s x : ℕ) → members s ≡ [] → ((b : ℕ) → member x b ≡ (member s b || eqb 0 b)) → SpottedAs cuts n (n + 1) (set row n x)
   spotted-start s x none e =
       let low : n < 32 = omega (arith, a .short) in
       record {
@@ -162,7 +162,7 @@ module _ {cuts : List ℕ} {n : ℕ} {row : List ℕ} (a : Spots cuts n row) whe
       }
 
 -- the spans of m positions are as they should be for their halves to be added
-pub spotted-spreads : {cuts : List ℕ} {n : ℕ} {first row : List ℕ} {least m : ℕ} → Spots cuts n first → Spotted cuts n least row → 1 ≤ m → m ≤ n
+pub spotted-spreads : {cuts : List ℕ} {n : ℕ} {first row : List ℕ} {least m : ℕ} → Spots cuts n first → SpottedAs cuts n least row → 1 ≤ m → m ≤ n
     → Spreads (at cuts m) m row
 spotted-spreads {m = m} a w h l =
     record {
@@ -172,8 +172,8 @@ spotted-spreads {m = m} a w h l =
       low = λ p u t. omega (arith, w .inside .inside p m u h l t, a .short);
     }
 
-pub spotted-turn : {cuts : List ℕ} {n : ℕ} {first row after : List ℕ} {m : ℕ} → Spots cuts n first → Spotted cuts n (m + 1) row → m ≤ n
-    → Spread (at cuts m) m row after → Spotted cuts n m after
+pub spotted-turn : {cuts : List ℕ} {n : ℕ} {first row after : List ℕ} {m : ℕ} → Spots cuts n first → SpottedAs cuts n (m + 1) row → m ≤ n
+    → SpreadAs (at cuts m) m row after → SpottedAs cuts n m after
 spotted-turn {m = m} a w l s =
     record {
       long = s .long;
@@ -189,7 +189,7 @@ spotted-turn {m = m} a w l s =
     }
 
 -- spans of one position have no halves
-pub spotted-end : {cuts : List ℕ} {n : ℕ} {first row : List ℕ} {m : ℕ} → Spots cuts n first → Spotted cuts n (m + 1) row → m ≡ 1 → Spotted cuts n 1 row
+pub spotted-end : {cuts : List ℕ} {n : ℕ} {first row : List ℕ} {m : ℕ} → Spots cuts n first → SpottedAs cuts n (m + 1) row → m ≡ 1 → SpottedAs cuts n 1 row
 spotted-end a w e =
     record {
       long = w .long;

@@ -17,7 +17,7 @@ use Rattle.grammar.specs.Inner.Rules.{wordAt, wordFrom, pairFrom, countIn}
 use Rattle.grammar.specs.Inner.Links.{last, pickSum, both, bothAt, nextWord, wordOwner, withWord, nextPair, pairOwner, withPair, Keyed}
 use Rattle.grammar.proofs.Keyed.{Link, Rising, last-le, pick-none, pick-more, link-at, words-rise, pairs-rise, words-picked, pairs-picked}
 use Rattle.counting.specs.Refusals.{most}
-use Rattle.charts.specs.Inner.Filling.{only, tieSum, wordTimes, Growing, Grown, Adds, AddsPair, Clear}
+use Rattle.charts.specs.Inner.Filling.{only, tieSum, wordTimes, Growing, GrownAs, Adds, AddsPair, Clear}
 use Rattle.charts.proofs.Growing.{growing-start, growing-end, growing-same, growing-put, growing-fits}
 
 -- ---- along the rules of any table
@@ -34,7 +34,7 @@ module _ {key owner : ℕ → ℕ} {keeps : ℕ → Bool} {v x n row count : ℕ
       → Walking key owner keeps v x n row count f before before s l
   walk-start w e h = record { to = n; low = omega arith; at = e; growing = growing-start w h }
 
-  pub walk-end : {now : List (List ℕ)} {s l : ℕ} → l ≤ 0 → Walking key owner keeps v x n row count f before now s l → Grown row count f before now s
+  pub walk-end : {now : List (List ℕ)} {s l : ℕ} → l ≤ 0 → Walking key owner keeps v x n row count f before now s l → GrownAs row count f before now s
   walk-end h w =
       growing-end (w .growing)
       (λ A u. cond-none (keeps A) (pickSum key owner (λ i. v) x A (w .to)) (pick-none key owner (λ i. v) x A (w .to) (omega (arith, w .at))))

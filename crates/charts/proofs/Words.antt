@@ -12,7 +12,7 @@ use lib.ListN.{length}
 use Rattle.lists.specs.Inner.Tables.{entry, put}
 use Rattle.sets.specs.Inner.Sets.{member}
 use Rattle.grammar.specs.Inner.Rules.{countIn}
-use Rattle.charts.specs.Inner.Filling.{wordCount, Growing, Grown, Clear}
+use Rattle.charts.specs.Inner.Filling.{wordCount, Growing, GrownAs, Clear}
 use Rattle.charts.proofs.Growing.{growing-start, growing-end, growing-same, growing-put}
 
 -- before the nonterminal a
@@ -37,7 +37,7 @@ module _ {rules before : List (List ℕ)} {row : ℕ} (q : Clear rules before ro
   words-start = growing-start (q .wide) (λ A h. rw (le-leb 0 A (omega arith)))
 
   module _ {now : List (List ℕ)} {s : ℕ} (a : ℕ) (w : WordsFrom rules row before now s a) where
-    pub words-end : countIn rules ≤ a → Grown row (countIn rules) (wordCount rules) before now s
+    pub words-end : countIn rules ≤ a → GrownAs row (countIn rules) (wordCount rules) before now s
     words-end h = growing-end w (λ A u. rw (lt-leb a A (omega arith)))
 
     pub words-room : row < length now

@@ -6,8 +6,8 @@ ghost use Rattle.lists.specs.Inner.Tables.{entry};
 ghost use Rattle.grammar.specs.Inner.Rules.{countIn};
 ghost use Rattle.charts.specs.Inner.Maps.{rowAt};
 ghost use Rattle.charts.specs.Inner.Plan.{lengthIn, wanted};
-ghost use Rattle.charts.specs.Inner.Chart.{Fills, Charted};
-ghost use Rattle.charts.specs.Inner.Filling.{blanked, Clears, only, tieSum, sideSum, pairSum, cutsSum, wordCount, wordTimes, leafSum, Grown, Clear, AddsPair, AddsLeft, AddsSplit, Made, Makes, Joins, Spans, Spanned, Lengthens, Lengthened};
+ghost use Rattle.charts.specs.Inner.Chart.{Fills, ChartedAs};
+ghost use Rattle.charts.specs.Inner.Filling.{blanked, Clears, only, tieSum, sideSum, pairSum, cutsSum, wordCount, wordTimes, leafSum, GrownAs, Clear, AddsPair, AddsLeft, AddsSplit, MadeAs, Makes, Joins, Spans, SpannedAs, Lengthens, LengthenedAs};
 use crate::maps;
 use crate::plan;
 use crate::plan::CUTS;
@@ -36,7 +36,7 @@ fn clear(set: u32, row: usize, totals: &mut [[u64; 32]])
 // Any word: each nonterminal with as many as it has.
 fn add_words(rules: &[[u8; 256]], row: usize, totals: &mut [[u64; 32]]) -> u32
     requires { ⌜ Clear (now rules) (now totals) row ⌝ }
-    ensures { λ r. ⌜ Grown row (countIn (now (rules .entry))) (wordCount (now (rules .entry))) (now (totals .entry)) (now (totals .exit)) r ⌝ }
+    ensures { λ r. ⌜ GrownAs row (countIn (now (rules .entry))) (wordCount (now (rules .entry))) (now (totals .entry)) (now (totals .exit)) r ⌝ }
 {
     let count = rules::count(rules);
     let mut set = sets::none();
@@ -55,7 +55,7 @@ fn add_words(rules: &[[u8; 256]], row: usize, totals: &mut [[u64; 32]]) -> u32
 // The word x: no nonterminal has it twice, so no number has to be read.
 fn add_word(rules: &[[u8; 256]], x: usize, row: usize, totals: &mut [[u64; 32]]) -> u32
     requires { ⌜ Clear (now rules) (now totals) row × (x < 256) ⌝ }
-    ensures { λ r. ⌜ Grown row (countIn (now (rules .entry))) (wordTimes (now (rules .entry)) x) (now (totals .entry)) (now (totals .exit)) r ⌝ }
+    ensures { λ r. ⌜ GrownAs row (countIn (now (rules .entry))) (wordTimes (now (rules .entry)) x) (now (totals .entry)) (now (totals .exit)) r ⌝ }
 {
     let mut set = sets::none();
     let mut l = rules::link_at(rules, rules::WITH_WORD, x);
@@ -77,7 +77,7 @@ fn fill_leaf(
     totals: &mut [[u64; 32]],
 ) -> u32
     requires { ⌜ Makes (now rules) (now map) p 1 old (now totals) ⌝ }
-    ensures { λ r. ⌜ Made (rowAt (now (map .entry)) p 1) (countIn (now (rules .entry))) (leafSum (now (rules .entry)) (now (map .entry)) p) (now (totals .entry)) (now (totals .exit)) r ⌝ }
+    ensures { λ r. ⌜ MadeAs (rowAt (now (map .entry)) p 1) (countIn (now (rules .entry))) (leafSum (now (rules .entry)) (now (map .entry)) p) (now (totals .entry)) (now (totals .exit)) r ⌝ }
 {
     let row = maps::row_at(map, p, 1);
     clear(old, row, totals);
@@ -107,7 +107,7 @@ fn add_pair(
     totals: &mut [[u64; 32]],
 ) -> u32
     requires { ⌜ AddsPair (now rules) wanted (s .row) (s .left) (s .right) b c (now totals) ⌝ }
-    ensures { λ r. ⌜ Grown (s .row) (countIn (now (rules .entry))) (λ A. only wanted A (tieSum (now (rules .entry)) (entry (now (totals .entry)) (s .left) b * entry (now (totals .entry)) (s .right) c) b c A)) (now (totals .entry)) (now (totals .exit)) r ⌝ }
+    ensures { λ r. ⌜ GrownAs (s .row) (countIn (now (rules .entry))) (λ A. only wanted A (tieSum (now (rules .entry)) (entry (now (totals .entry)) (s .left) b * entry (now (totals .entry)) (s .right) c) b c A)) (now (totals .entry)) (now (totals .exit)) r ⌝ }
 {
     let row = s.row;
     let left = s.left;
@@ -138,7 +138,7 @@ fn add_left(
     totals: &mut [[u64; 32]],
 ) -> u32
     requires { ⌜ AddsLeft (now rules) (now plan) wanted (s .row) (s .left) (s .right) b rights (now totals) ⌝ }
-    ensures { λ r. ⌜ Grown (s .row) (countIn (now (rules .entry))) (λ A. only wanted A (sideSum (now (rules .entry)) (entry (now (totals .entry)) (s .left) b) (entry (now (totals .entry)) (s .right)) b A)) (now (totals .entry)) (now (totals .exit)) r ⌝ }
+    ensures { λ r. ⌜ GrownAs (s .row) (countIn (now (rules .entry))) (λ A. only wanted A (sideSum (now (rules .entry)) (entry (now (totals .entry)) (s .left) b) (entry (now (totals .entry)) (s .right)) b A)) (now (totals .entry)) (now (totals .exit)) r ⌝ }
 {
     let mut set = sets::none();
     let mut cs = sets::both(rights, plan[PARTNERS][b]);
@@ -160,7 +160,7 @@ fn add_split(
     totals: &mut [[u64; 32]],
 ) -> u32
     requires { ⌜ AddsSplit (now rules) (now plan) wanted (s .row) (s .left) (s .right) (now sets) (now totals) ⌝ }
-    ensures { λ r. ⌜ Grown (s .row) (countIn (now (rules .entry))) (λ A. only wanted A (pairSum (now (rules .entry)) (entry (now (totals .entry)) (s .left)) (entry (now (totals .entry)) (s .right)) A)) (now (totals .entry)) (now (totals .exit)) r ⌝ }
+    ensures { λ r. ⌜ GrownAs (s .row) (countIn (now (rules .entry))) (λ A. only wanted A (pairSum (now (rules .entry)) (entry (now (totals .entry)) (s .left)) (entry (now (totals .entry)) (s .right)) A)) (now (totals .entry)) (now (totals .exit)) r ⌝ }
 {
     let left = s.left;
     let right = s.right;
@@ -186,7 +186,7 @@ fn fill_cuts(
     totals: &mut [[u64; 32]],
 ) -> u32
     requires { ⌜ Joins (now rules) (now plan) (now map) p m (now sets) (now totals) ⌝ }
-    ensures { λ r. ⌜ Made (rowAt (now (map .entry)) p m) (countIn (now (rules .entry))) (λ A. only (wanted (now (plan .entry)) m) A (cutsSum (now (rules .entry)) (now (plan .entry)) (now (map .entry)) (now (totals .entry)) p m A)) (now (totals .entry)) (now (totals .exit)) r ⌝ }
+    ensures { λ r. ⌜ MadeAs (rowAt (now (map .entry)) p m) (countIn (now (rules .entry))) (λ A. only (wanted (now (plan .entry)) m) A (cutsSum (now (rules .entry)) (now (plan .entry)) (now (map .entry)) (now (totals .entry)) p m A)) (now (totals .entry)) (now (totals .exit)) r ⌝ }
 {
     let row = maps::row_at(map, p, m);
     clear(sets[row], row, totals);
@@ -219,7 +219,7 @@ fn fill_span(
     totals: &mut [[u64; 32]],
 )
     requires { ⌜ Spans (now rules) (now plan) (now map) p m (now sets) (now totals) ⌝ }
-    ensures { λ _. ⌜ Spanned (now (rules .entry)) (now (plan .entry)) (now (map .entry)) p m (now (sets .entry)) (now (totals .entry)) (now (sets .exit)) (now (totals .exit)) ⌝ }
+    ensures { λ _. ⌜ SpannedAs (now (rules .entry)) (now (plan .entry)) (now (map .entry)) p m (now (sets .entry)) (now (totals .entry)) (now (sets .exit)) (now (totals .exit)) ⌝ }
 {
     let row = maps::row_at(map, p, m);
     if m == 1 {
@@ -239,7 +239,7 @@ fn fill_length(
     totals: &mut [[u64; 32]],
 )
     requires { ⌜ ((n : ℕ) × Lengthens (now rules) (now plan) (now map) n m (now sets) (now totals)) ⌝ }
-    ensures { λ _. ⌜ ((n : ℕ) → Lengthens (now (rules .entry)) (now (plan .entry)) (now (map .entry)) n m (now (sets .entry)) (now (totals .entry)) → Lengthened (now (rules .entry)) (now (plan .entry)) (now (map .entry)) n m 0 (now (sets .entry)) (now (totals .entry)) (now (sets .exit)) (now (totals .exit))) ⌝ }
+    ensures { λ _. ⌜ ((n : ℕ) → Lengthens (now (rules .entry)) (now (plan .entry)) (now (map .entry)) n m (now (sets .entry)) (now (totals .entry)) → LengthenedAs (now (rules .entry)) (now (plan .entry)) (now (map .entry)) n m 0 (now (sets .entry)) (now (totals .entry)) (now (sets .exit)) (now (totals .exit))) ⌝ }
 {
     let mut left = plan[SPOTS][m];
     while left != 0 {
@@ -258,7 +258,7 @@ pub fn fill(
     totals: &mut [[u64; 32]],
 )
     requires { ⌜ Fills (now rules) (now plan) (now map) (lengthIn (now plan)) (now sets) (now totals) ⌝ }
-    ensures { λ _. ⌜ Charted (now (rules .entry)) (now (plan .entry)) (now (map .entry)) (lengthIn (now (plan .entry))) (now (totals .entry)) (now (sets .exit)) (now (totals .exit)) ⌝ }
+    ensures { λ _. ⌜ ChartedAs (now (rules .entry)) (now (plan .entry)) (now (map .entry)) (lengthIn (now (plan .entry))) (now (totals .entry)) (now (sets .exit)) (now (totals .exit)) ⌝ }
 {
     let n = plan::length(plan);
     let mut m = 1;

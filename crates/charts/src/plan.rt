@@ -6,12 +6,12 @@ ghost use lib.ListN.{length};
 ghost use Rattle.lists.specs.Inner.Tables.{Wide};
 ghost use Rattle.sets.specs.Inner.Sets.{member};
 ghost use Rattle.charts.specs.Inner.Plan.{lengthIn};
-ghost use Rattle.charts.specs.Inner.Planning.{Sides, Sided, Wants, Wanted, Cuts, Cutting, Spreads, Spread, Spots, Spotted, rowFrom, Rows, Placed, Plans, Built};
+ghost use Rattle.charts.specs.Inner.Planning.{Sides, SidedAs, WantedAs, AllWantedAs, CutAs, AllCutAs, Spreads, SpreadAs, Spots, SpottedAs, rowFrom, RowAs, PlacedAs, Plans, BuiltAs};
 use crate::maps::CHART;
 use crate::maps::NONE;
 use grammar::rules;
 
-// Rows of a plan. By length: the left lengths at which spans are cut, the positions of the needed spans, the nonterminals with a
+// RowAs of a plan. By length: the left lengths at which spans are cut, the positions of the needed spans, the nonterminals with a
 // derivation. By left nonterminal: its right ones.
 pub const CUTS: usize = 0;
 
@@ -39,7 +39,7 @@ struct PairSides {
 // The right nonterminals of each left one, from the first `end` pair rules.
 fn link(rules: &[[u8; 256]], end: usize, partners: &mut [u32; 32]) -> PairSides
     requires { ⌜ Sides (now rules) end (now partners) ⌝ }
-    ensures { λ s. ⌜ Sided (now (rules .entry)) end (now (partners .exit)) (s .lefts) (s .rights) ⌝ }
+    ensures { λ s. ⌜ SidedAs (now (rules .entry)) end (now (partners .exit)) (s .lefts) (s .rights) ⌝ }
 {
     let mut lefts = sets::none();
     let mut rights = sets::none();
@@ -58,7 +58,7 @@ fn link(rules: &[[u8; 256]], end: usize, partners: &mut [u32; 32]) -> PairSides
 // The nonterminals below `count` with a derivation of the length m.
 fn wanted_at(totals: &[[u64; 32]], count: usize, m: usize) -> u32
     requires { ⌜ (count ≤ 32) × (m ≤ 16) × (17 ≤ length (now totals)) ⌝ }
-    ensures { λ s. ⌜ Wants (now (totals .entry)) count m s ⌝ }
+    ensures { λ s. ⌜ WantedAs (now (totals .entry)) count m s ⌝ }
 {
     let mut s = sets::none();
     let mut a = 0;
@@ -73,7 +73,7 @@ fn wanted_at(totals: &[[u64; 32]], count: usize, m: usize) -> u32
 
 fn want(totals: &[[u64; 32]], count: usize, n: usize, wanted: &mut [u32; 32])
     requires { ⌜ (count ≤ 32) × (n ≤ 16) × (17 ≤ length (now totals)) × (length (now wanted) ≡ 32) ⌝ }
-    ensures { λ _. ⌜ Wanted (now (totals .entry)) count n (now (wanted .exit)) ⌝ }
+    ensures { λ _. ⌜ AllWantedAs (now (totals .entry)) count n (now (wanted .exit)) ⌝ }
 {
     let mut m = 1;
     while m <= n {
@@ -92,7 +92,7 @@ fn meets(s: u32, t: u32) -> bool
 // The left lengths at which a span of m positions can be cut.
 fn cuts_at(wanted: &[u32; 32], lefts: u32, rights: u32, m: usize) -> u32
     requires { ⌜ (1 ≤ m) × (m ≤ 16) ⌝ }
-    ensures { λ s. ⌜ Cuts (now (wanted .entry)) lefts rights m s ⌝ }
+    ensures { λ s. ⌜ CutAs (now (wanted .entry)) lefts rights m s ⌝ }
 {
     let mut s = sets::none();
     let mut k = 1;
@@ -109,7 +109,7 @@ fn cuts_at(wanted: &[u32; 32], lefts: u32, rights: u32, m: usize) -> u32
 
 fn cut(wanted: &[u32; 32], lefts: u32, rights: u32, n: usize, cuts: &mut [u32; 32])
     requires { ⌜ (n ≤ 16) × (length (now cuts) ≡ 32) ⌝ }
-    ensures { λ _. ⌜ Cutting (now (wanted .entry)) lefts rights n (now (cuts .exit)) ⌝ }
+    ensures { λ _. ⌜ AllCutAs (now (wanted .entry)) lefts rights n (now (cuts .exit)) ⌝ }
 {
     let mut m = 1;
     while m <= n {
@@ -121,7 +121,7 @@ fn cut(wanted: &[u32; 32], lefts: u32, rights: u32, n: usize, cuts: &mut [u32; 3
 // The halves of the needed spans of m positions, at each left length of `cuts`.
 fn spread(cuts: u32, m: usize, spots: &mut [u32; 32])
     requires { ⌜ Spreads cuts m (now spots) ⌝ }
-    ensures { λ _. ⌜ Spread cuts m (now (spots .entry)) (now (spots .exit)) ⌝ }
+    ensures { λ _. ⌜ SpreadAs cuts m (now (spots .entry)) (now (spots .exit)) ⌝ }
 {
     let here = spots[m];
     let mut left = cuts;
@@ -136,7 +136,7 @@ fn spread(cuts: u32, m: usize, spots: &mut [u32; 32])
 // The needed spans: the whole, and with a span its halves.
 fn spot(cuts: &[u32; 32], n: usize, spots: &mut [u32; 32])
     requires { ⌜ Spots (now cuts) n (now spots) ⌝ }
-    ensures { λ _. ⌜ Spotted (now (cuts .entry)) n 1 (now (spots .exit)) ⌝ }
+    ensures { λ _. ⌜ SpottedAs (now (cuts .entry)) n 1 (now (spots .exit)) ⌝ }
 {
     spots[n] = sets::with(sets::none(), 0);
     let mut m = n;
@@ -159,7 +159,7 @@ fn row_from(spots: u32, base: usize, p: usize) -> u16
 
 fn row(spots: u32, base: usize, end: usize, row: &mut [u16; 16])
     requires { ⌜ (base ≤ 154) × (end ≤ 16) × (length (now row) ≡ 16) ⌝ }
-    ensures { λ _. ⌜ Rows spots base end (now (row .exit)) ⌝ }
+    ensures { λ _. ⌜ RowAs spots base end (now (row .exit)) ⌝ }
 {
     let mut p = 0;
     while p < end {
@@ -171,7 +171,7 @@ fn row(spots: u32, base: usize, end: usize, row: &mut [u16; 16])
 // The rows of all spans: every length has as many as it has positions.
 fn place(spots: &[u32; 32], n: usize, map: &mut [[u16; 16]; 17])
     requires { ⌜ (n ≤ 16) × (length (now map) ≡ 17) × Wide (now map) 16 ⌝ }
-    ensures { λ _. ⌜ Placed (now (spots .entry)) n (n + 1) (now (map .entry)) (now (map .exit)) ⌝ }
+    ensures { λ _. ⌜ PlacedAs (now (spots .entry)) n (n + 1) (now (map .entry)) (now (map .exit)) ⌝ }
 {
     let mut rows = [0u16; 16];
     let mut base = CHART;
@@ -200,7 +200,7 @@ pub fn build(
     map: &mut [[u16; 16]; 17],
 )
     requires { ⌜ Plans (now rules) (now totals) n (now plan) (now map) ⌝ }
-    ensures { λ _. ⌜ Built (now (rules .entry)) n (now (map .entry)) (now (plan .exit)) (now (map .exit)) ⌝ }
+    ensures { λ _. ⌜ BuiltAs (now (rules .entry)) n (now (map .entry)) (now (plan .exit)) (now (map .exit)) ⌝ }
 {
     let count = rules::count(rules);
     let mut partners = [0u32; 32];

@@ -1,5 +1,5 @@
 // Everything that the sentences and patterns of a length share: the links of the rules, the plan, and the map of the chart.
-ghost use Rattle.charts.specs.Inner.Ready.{Readies, Readied};
+ghost use Rattle.charts.specs.Inner.Ready.{Readies, ReadiedAs};
 use crate::plan;
 use grammar::links;
 
@@ -11,7 +11,7 @@ pub fn ready(
     map: &mut [[u16; 16]; 17],
 )
     requires { ⌜ Readies (now rules) (now totals) n (now plan) (now map) ⌝ }
-    ensures { λ _. ⌜ Readied (now (rules .entry)) (now (rules .exit)) (now (plan .exit)) (now (map .exit)) (now (totals .entry)) n ⌝ }
+    ensures { λ _. ⌜ ReadiedAs (now (rules .entry)) (now (rules .exit)) (now (plan .exit)) (now (map .exit)) (now (totals .entry)) n ⌝ }
 {
     links::link(rules);
     plan::build(rules, totals, n, plan, map);

@@ -8,7 +8,7 @@ use lib.ListN.{length, getD}
 use Rattle.lists.specs.Joined.{_∈_, sumOver}
 use Rattle.grammar.specs.Chains.{Rule}
 use Rattle.grammar.specs.Inner.Rules.{countIn, pairsIn, Ruled}
-use Rattle.lists.specs.Inner.Tables.{Wide, Copied}
+use Rattle.lists.specs.Inner.Tables.{Wide, CopiedAs}
 use Rattle.lists.proofs.Tables.{copied-wide}
 use Rattle.grammar.proofs.Ruling.{pair-inside}
 use Rattle.grammar.proofs.Kept.{ruled-same, ruled-kept}
@@ -50,7 +50,7 @@ counted-rows c long wide same = record {
   longest = λ A m a h. c .longest A m a (rw (same 0 (omega arith)) at h);
 }
 
-pub counted-copied : {rules from before after : List (List ℕ)} {n : ℕ} → Counted rules from n → 17 ≤ length before → Wide before 32 → Copied (n + 1) from before after
+pub counted-copied : {rules from before after : List (List ℕ)} {n : ℕ} → Counted rules from n → 17 ≤ length before → Wide before 32 → CopiedAs (n + 1) from before after
     → Counted rules after n
 counted-copied c long wide q =
     counted-rows c (omega (arith, q .long)) (copied-wide (omega (arith, c .short, c .long)) (c .wide) wide q) (λ r h. q .rows r (omega arith))

@@ -17,7 +17,7 @@ use Rattle.counting.proofs.Totals.{pairTotal, split-part, total-more}
 use Rattle.counting.proofs.Sentences.{sentences-more}
 use Rattle.counting.proofs.Counts.{total-sum, T-sentences}
 use Rattle.lists.specs.Inner.Parts.{Passed}
-use Rattle.counting.specs.Inner.Owned.{halves, halvesTotal, ruleOf, ChosenAs}
+use Rattle.counting.specs.Inner.Owned.{halves, halvesTotal, ruleSentences, ChosenAs}
 use Rattle.lists.proofs.Parts.{passed-none, passed-size, passed-many, passed-more, passed-part}
 use Rattle.counting.proofs.Walks.{halves-total}
 
@@ -70,7 +70,7 @@ module _ (rules : ℕ → List Rule) where
 
 -- what the pair rules of A hold from the place `gone` on
 abbrev later : (rules : ℕ → List Rule) (A m gone : ℕ) → List (List ℕ)
-later rules A m gone = concatMap (λ x. ruleOf rules (x .0) (x .1) m) (drop gone (pairsOf (rules A)))
+later rules A m gone = concatMap (λ x. ruleSentences rules (x .0) (x .1) m) (drop gone (pairsOf (rules A)))
 
 -- to come are the left lengths of (B, C) from k on, then the pair rules of A from the place `gone` on
 pub record Choosing (rules : ℕ → List Rule) (v u : ℕ → ℕ → ℕ) (A p m t gone B C k before left : ℕ) : Type 0 where
@@ -102,7 +102,7 @@ module _ {rules : ℕ → List Rule} {v u : ℕ → ℕ → ℕ} {A p m t gone B
 
     -- its left lengths are next, without the first ones that hold nothing
     pub choosing-rule : (B′ C′ k′ : ℕ) → gone < length (pairsOf (rules A)) → (B′, C′) ≡ getD (pairsOf (rules A)) gone (0, 0) → k′ ≤ m
-        → ruleOf rules B′ C′ m ≡ splitList (sentences rules) B′ C′ k′ (m - k′) → Choosing rules v u A p m t (gone + 1) B′ C′ k′ before left
+        → ruleSentences rules B′ C′ m ≡ splitList (sentences rules) B′ C′ k′ (m - k′) → Choosing rules v u A p m t (gone + 1) B′ C′ k′ before left
     choosing-rule B′ C′ k′ more e h skip =
         let c : drop gone (pairsOf (rules A)) ≡ (B′, C′) ∷ drop (gone + 1) (pairsOf (rules A))
         = rw add-one (drop-cons (pairsOf (rules A)) gone (0, 0) more ∙ rw (← e)) in

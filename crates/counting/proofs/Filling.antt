@@ -23,9 +23,9 @@ use Rattle.counting.specs.Totals.{T}
 use Rattle.counting.specs.Refusals.{most, overflows}
 use Rattle.counting.specs.Inner.Counted.{countAt, longestAt}
 use Rattle.counting.specs.Inner.Filling.{
-  Says,
+  TalliedAs,
   Filling,
-  Filled,
+  FilledAs,
   partSum,
   Halves,
   RowTo,
@@ -33,7 +33,7 @@ use Rattle.counting.specs.Inner.Filling.{
   longer,
   stored,
   rowTooLarge,
-  RowFilled,
+  RowFilledAs,
   RowFilling,
 }
 use Rattle.counting.specs.declared.tallies.Tally.{Tally}
@@ -43,10 +43,10 @@ use Rattle.counting.proofs.PairSums.{part-le, part-none, part-end, part
 
 -- ---- the loop over a pair rule's left lengths
 
-says-fits : {n v : ℕ} {r : Tally} → r ≡ Fits v → Says n r → v ≡ n
+says-fits : {n v : ℕ} {r : Tally} → r ≡ Fits v → TalliedAs n r → v ≡ n
 says-fits e h = rw e at h
 
-says-over : {n : ℕ} {r : Tally} → r ≡ Over → Says n r → most < n
+says-over : {n : ℕ} {r : Tally} → r ≡ Over → TalliedAs n r → most < n
 says-over e h = rw e at h
 
 -- after the left length k, the sum is what it was with the products up to k
@@ -69,10 +69,10 @@ module _ {totals : List (List ℕ)} {B C m before : ℕ} (h : Halves totals B C 
       product : partSum (countAt totals) B C m (k + 1) ≡ partSum (countAt totals) B C m k + x * y
       product = rw (ex, ey, add-one k)
 
-      pub adding-step : {v : ℕ} {t : Tally} → t ≡ Fits v → Says (sum + x * y) t → Adding totals B C m before (k + 1) v
+      pub adding-step : {v : ℕ} {t : Tally} → t ≡ Fits v → TalliedAs (sum + x * y) t → Adding totals B C m before (k + 1) v
       adding-step e f = record { below = l; added = omega (arith, product, says-fits e f) }
 
-      pub adding-over : {t : Tally} → t ≡ Over → Says (sum + x * y) t → most < before + partSum (countAt totals) B C m (m - 1)
+      pub adding-over : {t : Tally} → t ≡ Over → TalliedAs (sum + x * y) t → most < before + partSum (countAt totals) B C m (m - 1)
       adding-over e f = omega (arith, product, part-le (countAt totals) B C m (k + 1) l, says-over e f)
 
 module _ {rules totals : List (List ℕ)} {m a : ℕ} (r : RowTo rules totals m a) {B C : ℕ} (hB : B < countIn rules) (hC : C < countIn rules) where
@@ -148,10 +148,10 @@ module _ {rules totals : List (List ℕ)} {m a : ℕ} (d : Deriving rules totals
             right-over = λ k u v. r .right C k (h .1) (omega arith) v ∙ r .longest C k (h .1) u v;
           }
 
-      pub summing-step : {v : ℕ} {t : Tally} → t ≡ Fits v → Says (sum + partSum (countAt totals) B C m (m - 1)) t → Summing rules a m (i + 1) v
+      pub summing-step : {v : ℕ} {t : Tally} → t ≡ Fits v → TalliedAs (sum + partSum (countAt totals) B C m (m - 1)) t → Summing rules a m (i + 1) v
       summing-step e f = record { from = omega arith; to = omega arith; due = omega (arith, step, says-fits e f) }
 
-      pub summing-over : {t : Tally} → t ≡ Over → Says (sum + partSum (countAt totals) B C m (m - 1)) t → most < T (ruled rules) a m
+      pub summing-over : {t : Tally} → t ≡ Over → TalliedAs (sum + partSum (countAt totals) B C m (m - 1)) t → most < T (ruled rules) a m
       summing-over e f = omega (arith, step, says-over e f)
 
 -- ---- what a store leaves
@@ -268,17 +268,17 @@ module _ {rules start : List (List ℕ)} {m : ℕ} (f : RowFilling rules start m
         }
 
     pub passed-fits : {before after : List (List ℕ)} {v : ℕ} {t : Tally} → Passed rules start before m a → after ≡ stored before a m v → v ≤ most
-        → t ≡ Fits v → Says (T (ruled rules) a m) t → Passed rules start after m (a + 1)
+        → t ≡ Fits v → TalliedAs (T (ruled rules) a m) t → Passed rules start after m (a + 1)
     passed-fits p s u e f = passed-step p s u (says-fits e f)
 
-    pub passed-over : {after : List (List ℕ)} {t : Tally} → Passed rules start after m a → t ≡ Over → Says (T (ruled rules) a m) t → RowFilled rules start after m false
+    pub passed-over : {after : List (List ℕ)} {t : Tally} → Passed rules start after m a → t ≡ Over → TalliedAs (T (ruled rules) a m) t → RowFilledAs rules start after m false
     passed-over p e s = record {
       says = ap not (sym (below-some (λ A. ltb most (T (ruled rules) A m)) (countIn rules) a (omega arith) (lt-ltb most (T (ruled rules) a m) (says-over e s))));
       row = λ z. absurd (false≢true z);
       kept = p .kept;
     }
 
-  pub passed-end : {after : List (List ℕ)} {a n : ℕ} → n ≡ countIn rules → n ≤ a → Passed rules start after m a → RowFilled rules start after m true
+  pub passed-end : {after : List (List ℕ)} {a n : ℕ} → n ≡ countIn rules → n ≤ a → Passed rules start after m a → RowFilledAs rules start after m true
   passed-end {after} {a} all l p =
       let z : a ≡ countIn rules = omega arith in
       record {
@@ -340,7 +340,7 @@ row-next {m = m} r = record {
 }
 
 module _ {rules start : List (List ℕ)} where
-  pub rising-step : {before after : List (List ℕ)} {m : ℕ} {b : Bool} → b ≡ true → RowFilled rules before after m b → Rising rules start before m
+  pub rising-step : {before after : List (List ℕ)} {m : ℕ} {b : Bool} → b ≡ true → RowFilledAs rules before after m b → Rising rules start before m
       → Rising rules start after (m + 1)
   rising-step {m = m} t d r = record {
     rows = row-next (d .row t);
@@ -352,7 +352,7 @@ module _ {rules start : List (List ℕ)} where
   }
 
   -- from the row 1 on
-  pub rising-first : {after : List (List ℕ)} → RowFilled rules start after 1 true → Rising rules after after 2
+  pub rising-first : {after : List (List ℕ)} → RowFilledAs rules start after 1 true → Rising rules after after 2
   rising-first d = record {
     rows = row-next (d .row refl);
     fit = λ k l u. let z : k ≡ 1 = omega arith in rw z (not-true (rowTooLarge rules 1) (sym (d .says)));
@@ -380,7 +380,7 @@ module _ {rules start : List (List ℕ)} {n : ℕ} (f : Filling rules n start) w
     pub rising-asks : 1 ≤ m → m ≤ n → RowFilling rules totals m
     rising-asks h l = record { table = f .table; some = h; short = omega (arith, f .short); rows = r .rows }
 
-    pub rising-over : {after : List (List ℕ)} {b : Bool} → 1 ≤ m → m ≤ n → b ≡ false → RowFilled rules totals after m b → Filled rules n start after false
+    pub rising-over : {after : List (List ℕ)} {b : Bool} → 1 ≤ m → m ≤ n → b ≡ false → RowFilledAs rules totals after m b → FilledAs rules n start after false
     unfolding overflows
     rising-over h l t d =
         let kept = kept-then k (kept-then (r .kept) (d .kept)) in
@@ -392,7 +392,7 @@ module _ {rules start : List (List ℕ)} {n : ℕ} (f : Filling rules n start) w
           rest = kept .rest;
         }
 
-    pub rising-end : n < m → Filled rules n start totals true
+    pub rising-end : n < m → FilledAs rules n start totals true
     unfolding overflows
     rising-end h =
         let kept = kept-then k (r .kept) in

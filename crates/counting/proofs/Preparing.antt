@@ -17,7 +17,7 @@ use Rattle.grammar.specs.Chains.{chain}
 use Rattle.grammar.specs.Inner.Rules.{startIn}
 use Rattle.grammar.specs.Refusals.{grammarRows, grammarRefusal, Accepted}
 use Rattle.grammar.specs.Answers.{refusalNumber, said, checkGrammar}
-use Rattle.grammar.specs.Inner.Reading.{Reads}
+use Rattle.grammar.specs.Inner.Reading.{ReadAs}
 use Rattle.grammar.specs.declared.checks.GrammarRefusal.{GrammarRefusal}
 use Rattle.grammar.specs.declared.checks.GrammarRefusal.the-variants.{TooShort, OutOfRange, WrongSize, BadRule, BadLink, MetTwice, OnNoChain, Repeated}
 use Rattle.grammar.specs.declared.checks.GrammarAnswer.{GrammarAnswer}
@@ -26,9 +26,9 @@ use Rattle.counting.specs.Totals.{T}
 use Rattle.counting.specs.Refusals.{tooLarge, openRows, preparedRows}
 use Rattle.lists.specs.Inner.Tables.{Kept}
 use Rattle.counting.specs.Inner.Counted.{countAt}
-use Rattle.counting.specs.Inner.Filling.{Filling, Filled}
+use Rattle.counting.specs.Inner.Filling.{Filling, FilledAs}
 use Rattle.counting.specs.Answers.{countNumber}
-use Rattle.counting.specs.Inner.Preparing.{Opens, Lent, Prepares}
+use Rattle.counting.specs.Inner.Preparing.{OpenedAs, Lent, PreparedAs}
 use Rattle.counting.specs.Answers as answers
 use Rattle.counting.specs.declared.prepare.CountRefusal.{CountRefusal}
 use Rattle.counting.specs.declared.prepare.CountRefusal.the-variants.{Grammar, Length, TooLarge}
@@ -63,7 +63,7 @@ refused-ready e = let q : _≡_ {A = ℕ} 0 1 = cc in omega arith
 past-grammar : (g : List ℕ) (n : ℕ) → Accepted g → firstThatApplies (openRows g n) ≡ firstThatApplies ((badLength n, 9) ∷ [])
 past-grammar g n ok = rows-pass (grammarRows g) _ refl ok
 
-module _ {g : List ℕ} {before after : List (List ℕ)} {a : GrammarAnswer} (h : Reads g before after a) where
+module _ {g : List ℕ} {before after : List (List ℕ)} {a : GrammarAnswer} (h : ReadAs g before after a) where
   read-number : said a .refusal ≡ grammarRefusal g
   unfolding checkGrammar
   read-number = ap (λ (x : Answer). x .refusal) (h .says) ∙ answer-number (grammarRefusal g) (nonterminals g ∷ words g ∷ []) [] []
@@ -77,24 +77,24 @@ module _ {g : List ℕ} {before after : List (List ℕ)} {a : GrammarAnswer} (h 
   -- ---- each answer of opening
 
   module _ {n : ℕ} where
-    open-refused : {r : CountRefusal} → firstThatApplies (openRows g n) ≡ countNumber r → Opens g n before after (Refused r)
+    open-refused : {r : CountRefusal} → firstThatApplies (openRows g n) ≡ countNumber r → OpenedAs g n before after (Refused r)
     open-refused e = record { refusal = sym e; ready = λ z. absurd (refused-ready z); kept = read-kept }
 
-    pub open-by-grammar : {r : GrammarRefusal} → a ≡ checked.Refused r → Opens g n before after (Refused (Grammar r))
+    pub open-by-grammar : {r : GrammarRefusal} → a ≡ checked.Refused r → OpenedAs g n before after (Refused (Grammar r))
     open-by-grammar {r} e =
         let k : grammarRefusal g ≡ refusalNumber r = sym read-number ∙ rw e in
         open-refused (rows-stop (grammarRows g) _ (omega (arith, grammar-number r)) ∙ k)
 
     module _ {N W : ℕ} (e : a ≡ checked.Accepted N W) where
-      pub open-too-short : n < 1 → Opens g n before after (Refused Length)
+      pub open-too-short : n < 1 → OpenedAs g n before after (Refused Length)
       unfolding badLength
       open-too-short l = open-refused (past-grammar g n (read-accepted e) ∙ row-applies 9 [] (within-low 1 16 n l))
 
-      pub open-too-long : 16 < n → Opens g n before after (Refused Length)
+      pub open-too-long : 16 < n → OpenedAs g n before after (Refused Length)
       unfolding badLength
       open-too-long l = open-refused (past-grammar g n (read-accepted e) ∙ row-applies 9 [] (within-high 1 16 n l))
 
-      pub open-ready : 1 ≤ n → n ≤ 16 → Opens g n before after Ready
+      pub open-ready : 1 ≤ n → n ≤ 16 → OpenedAs g n before after Ready
       unfolding badLength firstThatApplies
       open-ready l u = record {
         refusal = sym (past-grammar g n (read-accepted e) ∙ row-passed 9 [] (within-both 1 16 n l u));
@@ -104,8 +104,8 @@ module _ {g : List ℕ} {before after : List (List ℕ)} {a : GrammarAnswer} (h 
 
 -- ---- each answer of preparing
 
-module _ {g : List ℕ} {n : ℕ} {rules₀ rules totals₀ : List (List ℕ)} {p : Prepared} (lent : Lent rules₀ totals₀) (o : Opens g n rules₀ rules p) where
-  pub prepare-by-opening : {r : CountRefusal} → p ≡ Refused r → Prepares g n rules₀ rules totals₀ totals₀ (Refused r)
+module _ {g : List ℕ} {n : ℕ} {rules₀ rules totals₀ : List (List ℕ)} {p : Prepared} (lent : Lent rules₀ totals₀) (o : OpenedAs g n rules₀ rules p) where
+  pub prepare-by-opening : {r : CountRefusal} → p ≡ Refused r → PreparedAs g n rules₀ rules totals₀ totals₀ (Refused r)
   prepare-by-opening {r} e =
       let k : firstThatApplies (openRows g n) ≡ countNumber r = sym (o .refusal) ∙ rw e in
       record {
@@ -126,14 +126,14 @@ module _ {g : List ℕ} {n : ℕ} {rules₀ rules totals₀ : List (List ℕ)} {
         let q = o .ready e in
         record { table = q .holds .table; some = q .some; short = q .short; long = lent .long; wide = lent .wide }
 
-    module _ {totals : List (List ℕ)} {fits : Bool} (f : Filled rules n totals₀ totals fits) where
+    module _ {totals : List (List ℕ)} {fits : Bool} (f : FilledAs rules n totals₀ totals fits) where
       fits-says : fits ≡ not (tooLarge g n)
       fits-says = f .says ∙ sym (ap not (tabled-large (o .ready e .holds) n))
 
       totals-stay : Kept 17 32 totals₀ totals
       totals-stay = record { long = f .long; wide = f .wide; rest = f .rest }
 
-      pub prepare-too-large : fits ≡ false → Prepares g n rules₀ rules totals₀ totals (Refused TooLarge)
+      pub prepare-too-large : fits ≡ false → PreparedAs g n rules₀ rules totals₀ totals (Refused TooLarge)
       prepare-too-large z = record {
         refusal = sym (past-opening ∙ row-applies 10 [] (not-false (tooLarge g n) (sym fits-says ∙ z)));
         ready = λ z. absurd (refused-ready z);
@@ -141,7 +141,7 @@ module _ {g : List ℕ} {n : ℕ} {rules₀ rules totals₀ : List (List ℕ)} {
         totals-kept = totals-stay;
       }
 
-      pub prepare-ready : fits ≡ true → Prepares g n rules₀ rules totals₀ totals Ready
+      pub prepare-ready : fits ≡ true → PreparedAs g n rules₀ rules totals₀ totals Ready
       unfolding firstThatApplies
       prepare-ready z =
           let small = not-true (tooLarge g n) (sym fits-says ∙ z) in
@@ -154,7 +154,7 @@ module _ {g : List ℕ} {n : ℕ} {rules₀ rules totals₀ : List (List ℕ)} {
 
 -- ---- *Count*
 
-module _ {g : List ℕ} {n : ℕ} {rules₀ rules totals₀ totals : List (List ℕ)} {p : Prepared} (s : Prepares g n rules₀ rules totals₀ totals p) where
+module _ {g : List ℕ} {n : ℕ} {rules₀ rules totals₀ totals : List (List ℕ)} {p : Prepared} (s : PreparedAs g n rules₀ rules totals₀ totals p) where
   pub count-refused : {r : CountRefusal} → p ≡ Refused r → answers.said (counted.Refused r) ≡ answers.countOf g n
   unfolding answers.countOf
   count-refused {r} e =

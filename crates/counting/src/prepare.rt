@@ -2,7 +2,7 @@
 ghost use mathlib.Core.Path.{_≡_};
 ghost use Rattle.grammar.specs.Inner.Rules.{Roomy};
 ghost use Rattle.counting.specs.Answers.{countNumber};
-ghost use Rattle.counting.specs.Inner.Preparing.{Opens, Lent, Prepares};
+ghost use Rattle.counting.specs.Inner.Preparing.{OpenedAs, Lent, PreparedAs};
 use crate::tallies;
 use grammar::checks;
 use grammar::checks::GrammarAnswer;
@@ -33,7 +33,7 @@ pub fn refusal_number(r: CountRefusal) -> u8
 // 1 to 9.
 pub fn open(g: &[u8], n: u64, rules: &mut [[u8; 256]]) -> Prepared
     requires { ⌜ Roomy (now rules) ⌝ }
-    ensures { λ r. ⌜ Opens (now (g .entry)) n (now (rules .entry)) (now (rules .exit)) r ⌝ }
+    ensures { λ r. ⌜ OpenedAs (now (g .entry)) n (now (rules .entry)) (now (rules .exit)) r ⌝ }
 {
     let checked = checks::read(g, rules);
     match checked {
@@ -55,7 +55,7 @@ pub fn open(g: &[u8], n: u64, rules: &mut [[u8; 256]]) -> Prepared
 // 1 to 10.
 pub fn prepare(g: &[u8], n: u64, rules: &mut [[u8; 256]], totals: &mut [[u64; 32]]) -> Prepared
     requires { ⌜ Lent (now rules) (now totals) ⌝ }
-    ensures { λ r. ⌜ Prepares (now (g .entry)) n (now (rules .entry)) (now (rules .exit)) (now (totals .entry)) (now (totals .exit)) r ⌝ }
+    ensures { λ r. ⌜ PreparedAs (now (g .entry)) n (now (rules .entry)) (now (rules .exit)) (now (totals .entry)) (now (totals .exit)) r ⌝ }
 {
     let opened = open(g, n, rules);
     match opened {

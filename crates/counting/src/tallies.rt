@@ -3,11 +3,11 @@ ghost use mathlib.Core.Path.{_≡_};
 ghost use mathlib.Core.Bool.{true};
 ghost use Prim.Native.Nat.{_+_, _*_, _-_, _≤_, _<_};
 ghost use lib.ListN.{length};
-ghost use Rattle.lists.specs.Inner.Tables.{Copied};
+ghost use Rattle.lists.specs.Inner.Tables.{CopiedAs};
 ghost use Rattle.grammar.specs.Inner.Rules.{ruled};
 ghost use Rattle.counting.specs.Totals.{T};
 ghost use Rattle.counting.specs.Inner.Counted.{countAt, longestAt};
-ghost use Rattle.counting.specs.Inner.Filling.{Says, partSum, Halves, Deriving, longer, stored, RowFilling, RowFilled, Filling, Filled};
+ghost use Rattle.counting.specs.Inner.Filling.{TalliedAs, partSum, Halves, Deriving, longer, stored, RowFilling, RowFilledAs, Filling, FilledAs};
 use grammar::rules;
 
 // The longest length at which a nonterminal has a derivation; the rows 1 to 16 are those of their lengths.
@@ -38,7 +38,7 @@ pub fn longest_at(totals: &[[u64; 32]], a: usize) -> u64
 
 // A product more, where a factor has 2^32 or more. A factor of 0 comes first, however large the other.
 fn add_large(sum: u64, x: u64, y: u64) -> Tally
-    ensures { λ r. ⌜ Says (sum + x * y) r ⌝ }
+    ensures { λ r. ⌜ TalliedAs (sum + x * y) r ⌝ }
 {
     if x == 0 {
         return Tally::Fits(sum);
@@ -54,7 +54,7 @@ fn add_large(sum: u64, x: u64, y: u64) -> Tally
 
 // A product more. Where both factors are below 2^32 it fits, and there is no division.
 fn add_product(sum: u64, x: u64, y: u64) -> Tally
-    ensures { λ r. ⌜ Says (sum + x * y) r ⌝ }
+    ensures { λ r. ⌜ TalliedAs (sum + x * y) r ⌝ }
 {
     if 4294967295 < x {
         return add_large(sum, x, y);
@@ -85,7 +85,7 @@ fn above(longest: u64, m: usize) -> usize
 // the first left lengths, where the right half is longer than c's longest, and the last, which are above b's: their products are 0.
 fn add_pair(totals: &[[u64; 32]], b: usize, c: usize, m: usize, before: u64) -> Tally
     requires { ⌜ Halves (now totals) b c m ⌝ }
-    ensures { λ r. ⌜ Says (before + partSum (countAt (now (totals .entry))) b c m (m - 1)) r ⌝ }
+    ensures { λ r. ⌜ TalliedAs (before + partSum (countAt (now (totals .entry))) b c m (m - 1)) r ⌝ }
 {
     let last = m - 1 - above(longest_at(totals, b), m);
     let mut k = above(longest_at(totals, c), m);
@@ -106,7 +106,7 @@ fn add_pair(totals: &[[u64; 32]], b: usize, c: usize, m: usize, before: u64) -> 
 // T(a, m) for m of 2 or more, by the pair rules of a.
 fn derive(rules: &[[u8; 256]], totals: &[[u64; 32]], a: usize, m: usize) -> Tally
     requires { ⌜ Deriving (now rules) (now totals) m a ⌝ }
-    ensures { λ r. ⌜ Says (T (ruled (now (rules .entry))) a m) r ⌝ }
+    ensures { λ r. ⌜ TalliedAs (T (ruled (now (rules .entry))) a m) r ⌝ }
 {
     let end = rules::pairs_from(rules, a + 1);
     let mut i = rules::pairs_from(rules, a);
@@ -150,7 +150,7 @@ fn put(totals: &mut [[u64; 32]], a: usize, m: usize, v: u64)
 // The row 1, by the word rules; and the longest lengths anew.
 fn word_row(rules: &[[u8; 256]], totals: &mut [[u64; 32]])
     requires { ⌜ RowFilling (now rules) (now totals) 1 ⌝ }
-    ensures { λ _. ⌜ RowFilled (now (rules .entry)) (now (totals .entry)) (now (totals .exit)) 1 true ⌝ }
+    ensures { λ _. ⌜ RowFilledAs (now (rules .entry)) (now (totals .entry)) (now (totals .exit)) 1 true ⌝ }
 {
     let n = rules::count(rules);
     let mut a = 0;
@@ -165,7 +165,7 @@ fn word_row(rules: &[[u8; 256]], totals: &mut [[u64; 32]])
 // The row m, for m of 2 or more; false where some T in it is above 2^64 - 1.
 fn row(rules: &[[u8; 256]], m: usize, totals: &mut [[u64; 32]]) -> bool
     requires { ⌜ RowFilling (now rules) (now totals) m × (2 ≤ m) ⌝ }
-    ensures { λ r. ⌜ RowFilled (now (rules .entry)) (now (totals .entry)) (now (totals .exit)) m r ⌝ }
+    ensures { λ r. ⌜ RowFilledAs (now (rules .entry)) (now (totals .entry)) (now (totals .exit)) m r ⌝ }
 {
     let n = rules::count(rules);
     let mut a = 0;
@@ -185,7 +185,7 @@ fn row(rules: &[[u8; 256]], m: usize, totals: &mut [[u64; 32]]) -> bool
 // The rows from 1 to n, in a table that may hold anything; false where some T in them is above 2^64 - 1.
 pub fn fill(rules: &[[u8; 256]], n: usize, totals: &mut [[u64; 32]]) -> bool
     requires { ⌜ Filling (now rules) n (now totals) ⌝ }
-    ensures { λ r. ⌜ Filled (now (rules .entry)) n (now (totals .entry)) (now (totals .exit)) r ⌝ }
+    ensures { λ r. ⌜ FilledAs (now (rules .entry)) n (now (totals .entry)) (now (totals .exit)) r ⌝ }
 {
     word_row(rules, totals);
     let mut m = 2;
@@ -201,7 +201,7 @@ pub fn fill(rules: &[[u8; 256]], n: usize, totals: &mut [[u64; 32]]) -> bool
 // The counts up to the length n into a larger table.
 pub fn copy(from: &[[u64; 32]], n: usize, to: &mut [[u64; 32]])
     requires { ⌜ (n ≤ 16) × (17 ≤ length (now from)) × (17 ≤ length (now to)) ⌝ }
-    ensures { λ _. ⌜ Copied (n + 1) (now (from .entry)) (now (to .entry)) (now (to .exit)) ⌝ }
+    ensures { λ _. ⌜ CopiedAs (n + 1) (now (from .entry)) (now (to .entry)) (now (to .exit)) ⌝ }
 {
     let mut r = 0;
     while r <= n {

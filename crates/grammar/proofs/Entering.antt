@@ -29,7 +29,7 @@ use Rattle.grammar.specs.Chains.{Rule, word, pair, ruleOf, numbersFrom, 
 use Rattle.grammar.specs.Refusals.{metTwice}
 use Rattle.grammar.specs.Inner.Checks.{Readable}
 use Rattle.grammar.specs.Inner.Rules.{wordAt, leftAt, rightAt, wordFrom, pairFrom, wordsIn, pairsIn, Roomy}
-use Rattle.grammar.specs.Inner.Entering.{metBelow, before, Marked, Run, Entered, Kept, Prepares, Walked, Entering, Enters, Builds}
+use Rattle.grammar.specs.Inner.Entering.{metBelow, before, Marked, Run, Entered, Kept, PreparedAs, Walked, Entering, EnteredAs, BuiltAs}
 use Rattle.grammar.proofs.Walks.{Met}
 
 -- ---- the rules by kind
@@ -307,7 +307,7 @@ module _ {g seen₀ : List ℕ} {t₀ : List (List ℕ)} {a : ℕ} (s : Entering
     goes-on h k = met-step (nextOf g) (rules g) (v .left) at (omega (arith, done-few, v .enough)) h k
 
     -- a rule that has a mark is met a second time
-    pub walk-again : {j : ℕ} → j ≡ at → (getD seen j 0 ≡ 0 → ⊥) → Kept t₀ t → Enters g seen t₀ t a true
+    pub walk-again : {j : ℕ} → j ≡ at → (getD seen j 0 ≡ 0 → ⊥) → Kept t₀ t → EnteredAs g seen t₀ t a true
     walk-again ej n k = record { kept = k; twice = λ e. twice; walked = λ e. absurd (false≢true (sym e)) }
       where
         marked : 1 ≤ times at (v .done)
@@ -388,7 +388,7 @@ module _ {g seen₀ : List ℕ} {t₀ : List (List ℕ)} {a : ℕ} (s : Entering
         (simp (pairs-append, length-append) (omega (arith, v .pairs)))
 
     pub walk-end : {i : ℕ} → i ≡ a → isNumber (rules g) at ≡ false → Kept t₀ t
-        → Enters g seen t₀ (put (put t 3 (i + 1) w) 3 (64 + i + 1) p) a false
+        → EnteredAs g seen t₀ (put (put t 3 (i + 1) w) 3 (64 + i + 1) p) a false
     walk-end {i} ei e k =
         let over : numbersFrom g (v .left) at ≡ [] = met-none (nextOf g) (rules g) (v .left) at e in
         let all : v .done ≡ metBelow g (a + 1) = sym (append-nil (v .done)) ∙ rw over at (v .split) in
@@ -424,7 +424,7 @@ pairs-there t a l c h k =
 abbrev prepared : List (List ℕ) → (s n w : ℕ) → List (List ℕ)
 prepared t s n w = put (put (put (put (put t 3 0 0) 3 64 0) 3 128 s) 3 129 n) 3 130 w
 
-pub prepare-all : {g : List ℕ} {t : List (List ℕ)} {s n w : ℕ} → Roomy t → s ≡ start g → n ≡ nonterminals g → w ≡ words g → Prepares g t (prepared t s n w)
+pub prepare-all : {g : List ℕ} {t : List (List ℕ)} {s n w : ℕ} → Roomy t → s ≡ start g → n ≡ nonterminals g → w ≡ words g → PreparedAs g t (prepared t s n w)
 prepare-all {g} {t} {s} {n} {w} m es en ew = record {
   entered =
       record {
@@ -474,10 +474,10 @@ prepare-all {g} {t} {s} {n} {w} m es en ew = record {
     long : {u : List (List ℕ)} → Roomy u → length (getD u 3 []) ≡ 256
     long r = row-long r 3 (omega arith)
 
-pub build-start : {g : List ℕ} {old t : List (List ℕ)} → Prepares g old t → Walked g (replicate 256 0) t 0
+pub build-start : {g : List ℕ} {old t : List (List ℕ)} → PreparedAs g old t → Walked g (replicate 256 0) t 0
 build-start {g} o = record { marked = marks-none g; entered = o .entered }
 
-pub build-again : {g seen : List ℕ} {old t new : List (List ℕ)} {a : ℕ} → Kept old t → Enters g seen t new a true → Builds g old new true
+pub build-again : {g seen : List ℕ} {old t new : List (List ℕ)} {a : ℕ} → Kept old t → EnteredAs g seen t new a true → BuiltAs g old new true
 build-again k e =
     record {
       kept = kept-then k (e .kept);
@@ -487,7 +487,7 @@ build-again k e =
     }
 
 -- once all chains are walked
-pub build-end : {g seen : List ℕ} {old t : List (List ℕ)} → Readable g → Kept old t → Walked g seen t (nonterminals g) → Builds g old t false
+pub build-end : {g seen : List ℕ} {old t : List (List ℕ)} → Readable g → Kept old t → Walked g seen t (nonterminals g) → BuiltAs g old t false
 build-end {g} {seen} {old} {t} ok k walked =
     record {
       kept = k;

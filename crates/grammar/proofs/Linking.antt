@@ -15,8 +15,8 @@ use lib.ListN.{length, getD, set, length-set}
 use Rattle.lists.specs.Inner.Tables.{entry, put, Wide}
 use Rattle.lists.proofs.Tables.{put-same, put-row, put-beside, put-other-row, wide-put}
 use Rattle.grammar.specs.Inner.Rules.{wordAt, leftAt, rightAt, wordFrom, pairFrom, countIn}
-use Rattle.grammar.specs.Inner.Links.{last, bothAt, Keyed, Unlinked, Links}
-use Rattle.grammar.specs.Inner.Linking.{LinkedTo, Beside, LinksWords, LinksPairs, LinkedMore}
+use Rattle.grammar.specs.Inner.Links.{last, bothAt, Keyed, Unlinked, LinkedAs}
+use Rattle.grammar.specs.Inner.Linking.{LinkedTo, Beside, LinksWords, LinksPairs, LinkedMoreAs}
 use Rattle.grammar.proofs.Ruling.{rising, word-below, pair-below}
 use Rattle.grammar.proofs.Kept.{ruled-kept}
 
@@ -300,7 +300,7 @@ words-start {t} {a} s e = record {
 }
 
 module _ {old t : List (List ℕ)} {a i end : ℕ} (w : WordLoop old t a i) (last : end ≡ wordFrom old (a + 1)) where
-  pub words-end : end ≤ i → LinkedMore old t (wordFrom old (a + 1)) (pairFrom old a)
+  pub words-end : end ≤ i → LinkedMoreAs old t (wordFrom old (a + 1)) (pairFrom old a)
   words-end h = let e : i ≡ wordFrom old (a + 1) = omega (arith, w .upper) in record { linked = rw e at (w .linked); beside = w .beside }
 
   module _ (h : i < end) where
@@ -337,7 +337,7 @@ pairs-start {t} {a} s e = record {
 }
 
 module _ {old t : List (List ℕ)} {a i end : ℕ} (w : PairLoop old t a i) (last : end ≡ pairFrom old (a + 1)) where
-  pub pairs-end : end ≤ i → LinkedMore old t (wordFrom old (a + 1)) (pairFrom old (a + 1))
+  pub pairs-end : end ≤ i → LinkedMoreAs old t (wordFrom old (a + 1)) (pairFrom old (a + 1))
   pairs-end h = let e : i ≡ pairFrom old (a + 1) = omega (arith, w .upper) in record { linked = rw e at (w .linked); beside = w .beside }
 
   module _ (h : i < end) where
@@ -401,7 +401,7 @@ module _ {old t : List (List ℕ)} {a : ℕ} (w : LinkLoop old t a) where
   pub links-words : {n : ℕ} → n ≡ countIn old → a < n → LinksWords t a
   links-words e h = record { inside = rw (begin-kept old t (w .beside) 129) (omega arith); linked = w .linked }
 
-  module _ {mid : List (List ℕ)} (m : LinkedMore t mid (wordFrom t (a + 1)) (pairFrom t a)) where
+  module _ {mid : List (List ℕ)} (m : LinkedMoreAs t mid (wordFrom t (a + 1)) (pairFrom t a)) where
     pub links-pairs : {n : ℕ} → n ≡ countIn old → a < n → LinksPairs mid a
     links-pairs e h =
         let b = beside-beside (w .beside) (m .beside) in
@@ -410,7 +410,7 @@ module _ {old t : List (List ℕ)} {a : ℕ} (w : LinkLoop old t a) where
           linked = rw (begin-kept t mid (m .beside) (a + 1), begin-kept t mid (m .beside) (64 + a)) (m .linked);
         }
 
-    pub loop-next : {new : List (List ℕ)} {n : ℕ} → n ≡ countIn old → a < n → LinkedMore mid new (wordFrom mid (a + 1)) (pairFrom mid (a + 1))
+    pub loop-next : {new : List (List ℕ)} {n : ℕ} → n ≡ countIn old → a < n → LinkedMoreAs mid new (wordFrom mid (a + 1)) (pairFrom mid (a + 1))
         → LinkLoop old new (a + 1)
     loop-next {new} e h k = record {
       reached = omega arith;
@@ -418,7 +418,7 @@ module _ {old t : List (List ℕ)} {a : ℕ} (w : LinkLoop old t a) where
       beside = beside-beside (w .beside) (beside-beside (m .beside) (k .beside));
     }
 
-  pub loop-end : {n : ℕ} → n ≡ countIn old → n ≤ a → Links old t
+  pub loop-end : {n : ℕ} → n ≡ countIn old → n ≤ a → LinkedAs old t
   loop-end e h =
       let c : a ≡ countIn t = omega (arith, begin-kept old t (w .beside) 129, w .reached) in
       let l = rw c at (w .linked) in

@@ -21,7 +21,7 @@ use Rattle.grammar.specs.Refusals.{tooShort, wrongSize, headAbove, nextA
 use Rattle.grammar.specs.Inner.Rules.{Holds}
 use Rattle.grammar.specs.Inner.Entering.{Kept}
 use Rattle.grammar.specs.Answers.{refusalNumber, checkGrammar}
-use Rattle.grammar.specs.Inner.Reading.{Reads}
+use Rattle.grammar.specs.Inner.Reading.{ReadAs}
 use Rattle.grammar.specs.declared.checks.GrammarRefusal.{GrammarRefusal}
 use Rattle.grammar.specs.declared.checks.GrammarAnswer.the-variants.{Accepted, Refused}
 use Rattle.grammar.proofs.Entering.{below-inside}
@@ -31,7 +31,7 @@ abbrev pub Passed : List ℕ → ℕ → Type 0
 Passed g k = grammarRefusal g ≡ firstThatApplies (drop k (grammarRows g))
 
 module _ {g : List ℕ} {old new : List (List ℕ)} (kept : Kept old new) where
-  pub refused : (r : GrammarRefusal) → grammarRefusal g ≡ refusalNumber r → 0 < refusalNumber r → Reads g old new (Refused r)
+  pub refused : (r : GrammarRefusal) → grammarRefusal g ≡ refusalNumber r → 0 < refusalNumber r → ReadAs g old new (Refused r)
   unfolding checkGrammar
   refused r e h =
       record {
@@ -42,7 +42,7 @@ module _ {g : List ℕ} {old new : List (List ℕ)} (kept : Kept old new) where
         rest = kept .rest;
       }
 
-  pub accepted : Passed g 8 → Holds g new → Reads g old new (Accepted (nonterminals g) (words g))
+  pub accepted : Passed g 8 → Holds g new → ReadAs g old new (Accepted (nonterminals g) (words g))
   unfolding checkGrammar firstThatApplies
   accepted e i =
       record {

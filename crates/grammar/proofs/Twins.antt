@@ -20,8 +20,8 @@ use Rattle.lists.proofs.Tests.{or-true, or-left, or-right, some-never, some-sta
 use Rattle.lists.proofs.Linked.{met-inside}
 use Rattle.grammar.specs.Layout.{nonterminals, rules, headOf, aOf, bOf, nextOf}
 use Rattle.grammar.specs.Chains.{Rule, word, pair, ruleOf, chainNumbers, rest, chain, wordsOf, pairsOf}
-use Rattle.grammar.specs.Refusals.{alike, twins, repeated}
-use Rattle.grammar.specs.Inner.Checks.{Readable, beginsAt, entryAt, entriesFrom, entries, Stamping, Stamped}
+use Rattle.grammar.specs.Refusals.{alike, someAlike, repeated}
+use Rattle.grammar.specs.Inner.Checks.{Readable, beginsAt, entryAt, entriesFrom, entries, Stamping, StampedAs}
 use Rattle.grammar.specs.Inner.Rules.{leftAt, rightAt, pairFrom, wordsIn, pairsIn}
 use Rattle.grammar.specs.Inner.Links.{both}
 use Rattle.grammar.specs.Inner.Entering.{Sorted}
@@ -102,8 +102,8 @@ module _ (g : List ℕ) (ok : Readable g) where
   alike-rules r h (s ∷ l) k =
       rw (alike-same r s h (k s (List·Memᴰ·head refl)), alike-rules r h l (λ x m. k x (List·Memᴰ·tail m)))
 
-  twins-by-kind : (l : List ℕ) → Numbers l → twins g l ≡ repeatsByKind (map (ruleOf g) l)
-  unfolding twins
+  twins-by-kind : (l : List ℕ) → Numbers l → someAlike g l ≡ repeatsByKind (map (ruleOf g) l)
+  unfolding someAlike
   twins-by-kind [] h = refl
   twins-by-kind (r ∷ l) h =
       let more : Numbers l = λ x m. h x (List·Memᴰ·tail m) in
@@ -136,7 +136,7 @@ module _ {pairs : Bool} {t : List (List ℕ)} {a stamp : ℕ} where
       }
 
   module _ {stamps : List ℕ} {i to : ℕ} (v : Scanning pairs t a stamp stamps i) (last : to ≡ beginsAt pairs t (a + 1)) where
-    pub scan-end : to ≤ i → Stamped pairs t a stamp stamps false
+    pub scan-end : to ≤ i → StampedAs pairs t a stamp stamps false
     scan-end h =
         let e : beginsAt pairs t (a + 1) - i ≡ 0 = omega arith in
         record { same = sym (v .found ∙ rw e); long = v .long; used = v .used }
@@ -159,7 +159,7 @@ module _ {pairs : Bool} {t : List (List ℕ)} {a stamp : ℕ} where
             v .found
             ∙ rw (next, some-stamped (λ x. x) stamps e stamp (entriesFrom pairs t a (i + 1)) (omega (arith, v .long))) (simp or-assoc)
 
-        pub scan-hit : getD stamps e 0 ≡ stamp → Stamped pairs t a stamp stamps true
+        pub scan-hit : getD stamps e 0 ≡ stamp → StampedAs pairs t a stamp stamps true
         scan-hit z = record { same = sym (scan-on ∙ rw (eq-eqb (getD stamps e 0) stamp z)); long = v .long; used = v .used }
 
         pub scan-next : (getD stamps e 0 ≡ stamp → ⊥) → Scanning pairs t a stamp (set stamps e stamp) (i + 1)
@@ -175,7 +175,7 @@ module _ {pairs : Bool} {t : List (List ℕ)} {a stamp : ℕ} where
 
 -- two rules on the chain of A are alike
 abbrev twinned : List ℕ → ℕ → Bool
-twinned g A = twins g (chainNumbers g A)
+twinned g A = someAlike g (chainNumbers g A)
 
 module _ {g : List ℕ} {t : List (List ℕ)} {a : ℕ} (ok : Readable g) (x : Sorted g t) (inside : a < nonterminals g) where
   chain-twins : twinned g a ≡ repeatsByKind (chain g a)
@@ -207,7 +207,7 @@ module _ {g : List ℕ} {t : List (List ℕ)} {a : ℕ} (ok : Readable g) (x : S
         fresh = fresh;
       }
 
-  chain-said : {pairs : Bool} {stamp : ℕ} {stamps : List ℕ} {found b : Bool} → Stamped pairs t a stamp stamps found → found ≡ b
+  chain-said : {pairs : Bool} {stamp : ℕ} {stamps : List ℕ} {found b : Bool} → StampedAs pairs t a stamp stamps found → found ≡ b
       → repeats (kindOnly pairs (chain g a)) ≡ b
   chain-said {pairs} s e = sym (ap repeats (chain-entries pairs)) ∙ sym (s .same) ∙ e
 
@@ -241,16 +241,16 @@ module _ {g stamps : List ℕ} {t : List (List ℕ)} {stamp a : ℕ} (ok : Reada
   pub round-words : Stamping false t (a - 1) stamp stamps
   round-words = chain-ready ok x inside false (w .long) (w .fresh)
 
-  pub round-pairs : {mid : List ℕ} {found : Bool} → Stamped false t (a - 1) stamp mid found → Stamping true t (a - 1) (stamp + 1) mid
+  pub round-pairs : {mid : List ℕ} {found : Bool} → StampedAs false t (a - 1) stamp mid found → Stamping true t (a - 1) (stamp + 1) mid
   round-pairs s = chain-ready ok x inside true (s .long) (λ q. omega (arith, s .used q))
 
-  pub round-hit : {pairs : Bool} {now : ℕ} {after : List ℕ} {found : Bool} → Stamped pairs t (a - 1) now after found → found ≡ true → true ≡ repeated g
+  pub round-hit : {pairs : Bool} {now : ℕ} {after : List ℕ} {found : Bool} → StampedAs pairs t (a - 1) now after found → found ≡ true → true ≡ repeated g
   round-hit {pairs} s e =
       let hit = kind-repeats pairs (chain g (a - 1)) (chain-said ok x inside s e) in
       sym (w .found ∙ below-hit (twinned g) a some (chain-twins ok x inside ∙ hit))
 
-  pub round-next : {mid after : List ℕ} {found found′ : Bool} → Stamped false t (a - 1) stamp mid found → found ≡ false
-      → Stamped true t (a - 1) (stamp + 1) after found′ → found′ ≡ false → Rounds g after (stamp + 2) (a - 1)
+  pub round-next : {mid after : List ℕ} {found found′ : Bool} → StampedAs false t (a - 1) stamp mid found → found ≡ false
+      → StampedAs true t (a - 1) (stamp + 1) after found′ → found′ ≡ false → Rounds g after (stamp + 2) (a - 1)
   round-next s e s′ e′ =
       record {
         turn = omega (arith, w .turn);

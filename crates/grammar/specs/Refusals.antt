@@ -60,13 +60,13 @@ abbrev pub alike : List ℕ → ℕ → ℕ → Bool
 alike g r s = eqb (kindOf g r) (kindOf g s) && (eqb (aOf g r) (aOf g s) && eqb (bOf g r) (bOf g s))
 
 -- among the rules listed, two are alike
-unfoldable pub twins : List ℕ → List ℕ → Bool
-twins g [] = false
-twins g (r ∷ l) = someOf (alike g r) l || twins g l
+unfoldable pub someAlike : List ℕ → List ℕ → Bool
+someAlike g [] = false
+someAlike g (r ∷ l) = someOf (alike g r) l || someAlike g l
 
 -- "8. One chain holds two rules with the same kind, a and b."
 unfoldable pub repeated : List ℕ → Bool
-repeated g = someBelow (λ A. twins g (chainNumbers g A)) (nonterminals g)
+repeated g = someBelow (λ A. someAlike g (chainNumbers g A)) (nonterminals g)
 
 -- the lines 1 to 8, in their order
 abbrev pub grammarRows : List ℕ → List Row

@@ -7,9 +7,9 @@ ghost use Rattle.grammar.specs.Layout.{nonterminals};
 ghost use Rattle.grammar.specs.Refusals.{outOfRange, fits, headAbove, repeated};
 ghost use Rattle.grammar.specs.Inner.Rules.{Roomy};
 ghost use Rattle.grammar.specs.Inner.Entering.{Sorted};
-ghost use Rattle.grammar.specs.Inner.Checks.{Sized, Readable, Finds, beginsAt, entryAt, Stamping, Stamped};
+ghost use Rattle.grammar.specs.Inner.Checks.{Sized, Readable, FoundAs, beginsAt, entryAt, Stamping, StampedAs};
 ghost use Rattle.grammar.specs.Answers.{refusalNumber, said, checkGrammar};
-ghost use Rattle.grammar.specs.Inner.Reading.{Reads};
+ghost use Rattle.grammar.specs.Inner.Reading.{ReadAs};
 use crate::entries;
 use crate::rules;
 use crate::rules::wide;
@@ -100,7 +100,7 @@ pub struct Faults {
 // 4, and 5 of the nexts.
 fn faults_in(g: &[u8], n: usize, r: usize) -> Faults
     requires { ⌜ Sized (now g) n r ⌝ }
-    ensures { λ f. ⌜ Finds (now (g .entry)) (f .rule) (f .link) ⌝ }
+    ensures { λ f. ⌜ FoundAs (now (g .entry)) (f .rule) (f .link) ⌝ }
 {
     let mut link = false;
     let mut i = r;
@@ -158,7 +158,7 @@ fn entry(rules: &[[u8; 256]], pairs: bool, i: usize) -> usize
 // Whether two of the words of a are the same, or two of its pair rules: then the second finds the stamp of the first.
 fn some_same(rules: &[[u8; 256]], pairs: bool, a: usize, stamp: u8, stamps: &mut [u8; 1024]) -> bool
     requires { ⌜ Stamping pairs (now rules) a stamp (now stamps) ⌝ }
-    ensures { λ b. ⌜ Stamped pairs (now (rules .entry)) a stamp (now (stamps .exit)) b ⌝ }
+    ensures { λ b. ⌜ StampedAs pairs (now (rules .entry)) a stamp (now (stamps .exit)) b ⌝ }
 {
     let to = begins(rules, pairs, a + 1);
     let mut i = begins(rules, pairs, a);
@@ -197,7 +197,7 @@ fn some_twins(g: &[u8], rules: &[[u8; 256]]) -> bool
 // The refusals in their order. Past the last of them the rules are in the table, which may hold anything before.
 pub fn read(g: &[u8], rules: &mut [[u8; 256]]) -> GrammarAnswer
     requires { ⌜ Roomy (now rules) ⌝ }
-    ensures { λ r. ⌜ Reads (now (g .entry)) (now (rules .entry)) (now (rules .exit)) r ⌝ }
+    ensures { λ r. ⌜ ReadAs (now (g .entry)) (now (rules .entry)) (now (rules .exit)) r ⌝ }
 {
     if g.len() < 4 {
         return GrammarAnswer::Refused(GrammarRefusal::TooShort);

@@ -2,7 +2,7 @@
 ghost use Prim.Native.Nat.{_<_};
 ghost use Rattle.grammar.specs.Inner.Rules.{Roomy};
 ghost use Rattle.grammar.specs.Inner.Checks.{Readable};
-ghost use Rattle.grammar.specs.Inner.Entering.{Prepares, Entering, Enters, Builds};
+ghost use Rattle.grammar.specs.Inner.Entering.{PreparedAs, Entering, EnteredAs, BuiltAs};
 use crate::cursor::ChainCursor;
 use crate::cursor::Step;
 use crate::fields;
@@ -20,7 +20,7 @@ use crate::rules::wide;
 // No rule yet, and the grammar's own numbers.
 fn prepare(g: &[u8], rules: &mut [[u8; 256]])
     requires { ⌜ Roomy (now rules) ⌝ }
-    ensures { λ _. ⌜ Prepares (now (g .entry)) (now (rules .entry)) (now (rules .exit)) ⌝ }
+    ensures { λ _. ⌜ PreparedAs (now (g .entry)) (now (rules .entry)) (now (rules .exit)) ⌝ }
 {
     rules[BEGINS][0] = 0;
     rules[BEGINS][PAIRS] = 0;
@@ -32,7 +32,7 @@ fn prepare(g: &[u8], rules: &mut [[u8; 256]])
 // The rules of a, behind those of the nonterminals below it; whether one of them is met a second time.
 fn enter(g: &[u8], a: u8, seen: &mut [u8; 256], rules: &mut [[u8; 256]]) -> bool
     requires { ⌜ Entering (now g) (now seen) (now rules) a ⌝ }
-    ensures { λ b. ⌜ Enters (now (g .entry)) (now (seen .exit)) (now (rules .entry)) (now (rules .exit)) a b ⌝ }
+    ensures { λ b. ⌜ EnteredAs (now (g .entry)) (now (seen .exit)) (now (rules .entry)) (now (rules .exit)) a b ⌝ }
 {
     let n = wide(g[0]);
     let i = wide(a);
@@ -71,7 +71,7 @@ fn enter(g: &[u8], a: u8, seen: &mut [u8; 256], rules: &mut [[u8; 256]]) -> bool
 // The rules on all chains, in a table that may hold anything; whether a rule is met a second time.
 pub fn build(g: &[u8], rules: &mut [[u8; 256]]) -> bool
     requires { ⌜ Readable (now g) × Roomy (now rules) ⌝ }
-    ensures { λ b. ⌜ Builds (now (g .entry)) (now (rules .entry)) (now (rules .exit)) b ⌝ }
+    ensures { λ b. ⌜ BuiltAs (now (g .entry)) (now (rules .entry)) (now (rules .exit)) b ⌝ }
 {
     prepare(g, rules);
     let mut seen = [0u8; 256];

@@ -2,8 +2,8 @@
 // nonterminals.
 ghost use Prim.Native.Nat.{_+_, _<_};
 ghost use Rattle.grammar.specs.Inner.Rules.{wordFrom, pairFrom};
-ghost use Rattle.grammar.specs.Inner.Links.{Unlinked, Links};
-ghost use Rattle.grammar.specs.Inner.Linking.{LinksWords, LinksPairs, LinkedMore};
+ghost use Rattle.grammar.specs.Inner.Links.{Unlinked, LinkedAs};
+ghost use Rattle.grammar.specs.Inner.Linking.{LinksWords, LinksPairs, LinkedMoreAs};
 use crate::rules;
 use crate::rules::NEXT_PAIR;
 use crate::rules::NEXT_WORD;
@@ -16,7 +16,7 @@ use crate::rules::wide;
 // The word rules of a.
 fn link_words(rules: &mut [[u8; 256]], a: usize)
     requires { ⌜ LinksWords (now rules) a ⌝ }
-    ensures { λ _. ⌜ LinkedMore (now (rules .entry)) (now (rules .exit)) (wordFrom (now (rules .entry)) (a + 1)) (pairFrom (now (rules .entry)) a) ⌝ }
+    ensures { λ _. ⌜ LinkedMoreAs (now (rules .entry)) (now (rules .exit)) (wordFrom (now (rules .entry)) (a + 1)) (pairFrom (now (rules .entry)) a) ⌝ }
 {
     let end = rules::words_from(rules, a + 1);
     let mut i = rules::words_from(rules, a);
@@ -33,7 +33,7 @@ fn link_words(rules: &mut [[u8; 256]], a: usize)
 // The pair rules of a.
 fn link_pairs(rules: &mut [[u8; 256]], a: usize)
     requires { ⌜ LinksPairs (now rules) a ⌝ }
-    ensures { λ _. ⌜ LinkedMore (now (rules .entry)) (now (rules .exit)) (wordFrom (now (rules .entry)) (a + 1)) (pairFrom (now (rules .entry)) (a + 1)) ⌝ }
+    ensures { λ _. ⌜ LinkedMoreAs (now (rules .entry)) (now (rules .exit)) (wordFrom (now (rules .entry)) (a + 1)) (pairFrom (now (rules .entry)) (a + 1)) ⌝ }
 {
     let end = rules::pairs_from(rules, a + 1);
     let mut i = rules::pairs_from(rules, a);
@@ -52,7 +52,7 @@ fn link_pairs(rules: &mut [[u8; 256]], a: usize)
 // The links of all rules, in rows of zeros.
 pub fn link(rules: &mut [[u8; 256]])
     requires { ⌜ Unlinked (now rules) ⌝ }
-    ensures { λ _. ⌜ Links (now (rules .entry)) (now (rules .exit)) ⌝ }
+    ensures { λ _. ⌜ LinkedAs (now (rules .entry)) (now (rules .exit)) ⌝ }
 {
     let count = rules::count(rules);
     let mut a = 0;

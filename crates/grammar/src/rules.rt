@@ -2,7 +2,7 @@
 ghost use mathlib.Core.Path.{_≡_};
 ghost use Prim.Native.Nat.{_+_, _≤_, _<_};
 ghost use lib.ListN.{length};
-ghost use Rattle.lists.specs.Inner.Tables.{entry, Copied};
+ghost use Rattle.lists.specs.Inner.Tables.{entry, CopiedAs};
 ghost use Rattle.grammar.specs.Inner.Links.{both, withPair};
 ghost use Rattle.grammar.specs.Inner.Rules.{wordAt, leftAt, rightAt, wordFrom, pairFrom, startIn, countIn, widthIn};
 
@@ -123,7 +123,7 @@ pub fn pair_head(rules: &[[u8; 256]], b: usize, c: usize) -> usize
 // The rules of a table into a larger one.
 pub fn copy(from: &[[u8; 256]], to: &mut [[u8; 256]])
     requires { ⌜ (4 ≤ length (now from)) × (4 ≤ length (now to)) ⌝ }
-    ensures { λ _. ⌜ Copied 4 (now (from .entry)) (now (to .entry)) (now (to .exit)) ⌝ }
+    ensures { λ _. ⌜ CopiedAs 4 (now (from .entry)) (now (to .entry)) (now (to .exit)) ⌝ }
 {
     let mut r = 0;
     while r < 4 {

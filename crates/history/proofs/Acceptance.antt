@@ -14,7 +14,7 @@ use Rattle.lists.proofs.Tests.{within-facts, within-low, within-high, within-bo
 use Rattle.answers.specs.Answer.{firstThatApplies}
 use Rattle.answers.specs.Length.{badLength}
 use Rattle.answers.proofs.Refusals.{row-clear}
-use Rattle.history.specs.Layout.{recordsOf, headOf, recordAt, nextOf, lengthOf, wordsOf}
+use Rattle.history.specs.Layout.{recordsOf, headOf, recordAt, nextOf, lengthOf, recordWords}
 use Rattle.history.specs.Chain.{numbers}
 use Rattle.history.specs.Refusals.{badSize, someNonzero, misfit, badRecord, nextAbove, badLink, badChain, Accepted}
 use Rattle.history.specs.Inner.Checks.{Sized}
@@ -160,7 +160,7 @@ words-inside h ok r l m =
     let f = fits h (recordAt r) (k .fit r l m) in
     (f .short, omega (arith, f .short, k .sized .size))
 
-pub words-length : (h : List ℕ) → Accepted h → (r : ℕ) → 1 ≤ r → r ≤ recordsOf h → length (wordsOf h r) ≡ lengthOf h r
-unfolding wordsOf
+pub words-length : (h : List ℕ) → Accepted h → (r : ℕ) → 1 ≤ r → r ≤ recordsOf h → length (recordWords h r) ≡ lengthOf h r
+unfolding recordWords
 words-length h ok r l m =
     length-take-le (lengthOf h r) (drop (recordAt r + 4) h) (omega (arith, length-drop (recordAt r + 4) h, words-inside h ok r l m .1))

@@ -1,4 +1,4 @@
--- What a log does to a history's meaning: the bytes after it are an accepted history of K + 1 records, whose sentences are the new one and
+-- What a log does to a history's meaning: the bytes after it are an accepted history of K + 1 records, whose sentencesIn are the new one and
 -- then the old ones in their order. So the new sentence is heard, and what was heard still is.
 -- The argument: the bytes of the old records are as they were, so their fields are; the chain is the new record and then the old chain.
 -- Assumes nothing.
@@ -21,11 +21,11 @@ use Rattle.lists.proofs.Tests.{within-facts, within-both, or-left, or-right, or
 use Rattle.answers.specs.Answer.{firstThatApplies}
 use Rattle.answers.specs.Length.{badLength}
 use Rattle.answers.proofs.Refusals.{row-clear, rows-clear, answer-number}
-use Rattle.history.specs.Layout.{twoAt, recordsOf, headOf, recordAt, nextOf, lengthOf, wordsOf}
+use Rattle.history.specs.Layout.{twoAt, recordsOf, headOf, recordAt, nextOf, lengthOf, recordWords}
 use Rattle.history.specs.Chain.{numbersFrom, numbers}
 use Rattle.history.specs.Refusals.{badSize, misfit, badRecord, nextAbove, badLink, badChain, historyRows, Accepted}
-use Rattle.history.specs.Heard.{sentences, heard}
-use Rattle.history.specs.Writing.{put, twoBytes, recordBytes, appended}
+use Rattle.history.specs.Heard.{sentencesIn, heard}
+use Rattle.history.specs.Writing.{overwritten, twoBytes, recordBytes, appended}
 use Rattle.history.specs.Answers.{noRoom, appendRows, appendOf}
 use Rattle.history.proofs.Acceptance.{size-room, head-below, known, accept, words-inside, words-length}
 use Rattle.history.proofs.Chain.{numbers-inside, chain-length, chained, heard-sentences}
@@ -62,10 +62,10 @@ module _ (h s : List ℕ) (log : Logs h s) where
 
   -- with the record, and then with K
   abbrev first : List ℕ
-  first = put h (recordAt new) (recordBytes (headOf h) s)
+  first = overwritten h (recordAt new) (recordBytes (headOf h) s)
 
   abbrev second : List ℕ
-  second = put first 0 (twoBytes new)
+  second = overwritten first 0 (twoBytes new)
 
   record-there : length (recordBytes (headOf h) s) ≡ 20
   record-there = record-length (headOf h) s (log .short)
@@ -212,32 +212,32 @@ module _ (h s : List ℕ) (log : Logs h s) where
   pub accepted : Accepted (appended h s)
   accepted = accept (appended h s) (record { size = sized; records = fit; links = linked; chain = chained-still })
 
-  -- ---- the sentences
+  -- ---- the sentencesIn
 
-  old-words : (r : ℕ) → 1 ≤ r → r ≤ K → wordsOf (appended h s) r ≡ wordsOf h r
-  unfolding wordsOf
+  old-words : (r : ℕ) → 1 ≤ r → r ≤ K → recordWords (appended h s) r ≡ recordWords h r
+  unfolding recordWords
   old-words r l m =
       let n = words-length h (log .accepted) r l m in
       let f = words-inside h (log .accepted) r l m in
-      let e : lengthOf (appended h s) r ≡ length (wordsOf h r) = old-byte (recordAt r + 2) (omega arith) (omega arith) ∙ sym n in
+      let e : lengthOf (appended h s) r ≡ length (recordWords h r) = old-byte (recordAt r + 2) (omega arith) (omega arith) ∙ sym n in
       rw e
-      (part-is (appended h s) (wordsOf h r) (recordAt r + 4) (omega (arith, long, n, f .1))
+      (part-is (appended h s) (recordWords h r) (recordAt r + 4) (omega (arith, long, n, f .1))
       (λ i j.
       old-byte (recordAt r + 4 + i) (omega arith) (omega (arith, n, f .0))
       ∙ sym (getD-take (lengthOf h r) (drop (recordAt r + 4) h) i 0 (omega (arith, n)) ∙ getD-drop (recordAt r + 4) h i 0)))
 
-  new-words : wordsOf (appended h s) new ≡ s
-  unfolding wordsOf
+  new-words : recordWords (appended h s) new ≡ s
+  unfolding recordWords
   new-words =
       rw new-length
       (part-is (appended h s) s (recordAt new + 4) (omega (arith, long, log .room, log .short)) (λ i l. new-word i (omega (arith, log .short))))
 
-  told : sentences (appended h s) ≡ s ∷ sentences h
+  told : sentencesIn (appended h s) ≡ s ∷ sentencesIn h
   told =
-      ap (map (wordsOf (appended h s))) chain
+      ap (map (recordWords (appended h s))) chain
       ∙ rw (
         new-words,
-        map-ext (wordsOf (appended h s)) (wordsOf h) (numbers h)
+        map-ext (recordWords (appended h s)) (recordWords h) (numbers h)
             (λ r m. let q = numbers-inside h (headOf h) m in old-words r (q .0) (q .1)),
       )
 
@@ -265,12 +265,12 @@ logs h s e =
     below : (k : ℕ) → k ≤ 1000 → (k ≡ 1000 → ⊥) → k < 1000
     below k l n = omega arith
 
--- Where *Log* isn't refused: the bytes then are an accepted history, with one record more; its sentences are the new one and then the old
+-- Where *Log* isn't refused: the bytes then are an accepted history, with one record more; its sentencesIn are the new one and then the old
 -- ones; so a sentence is heard then exactly if it is the new one or was heard before.
 pub record Logged (h s : List ℕ) : Type 0 where
   pub accepted : Accepted (appended h s)
   pub count : recordsOf (appended h s) ≡ suc (recordsOf h)
-  pub sentences : sentences (appended h s) ≡ s ∷ sentences h
+  pub sentencesIn : sentencesIn (appended h s) ≡ s ∷ sentencesIn h
   pub heard : (t : List ℕ) → heard (appended h s) t ≡ (same s t || heard h t)
 
 pub logged : (h s : List ℕ) → appendOf h s .refusal ≡ 0 → Logged h s
@@ -279,7 +279,7 @@ logged h s e =
     record {
       accepted = accepted h s log;
       count = count h s log;
-      sentences = told h s log;
+      sentencesIn = told h s log;
       heard = λ t.
           heard-sentences (appended h s) (accepted h s log) t
           ∙ ap (someOf (λ u. same u t)) (told h s log)

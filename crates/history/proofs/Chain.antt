@@ -20,10 +20,10 @@ use Rattle.lists.proofs.Members.{upFrom-∈, ∈-upFrom}
 use Rattle.lists.proofs.Searches.{times-sum, times-full, ∈-times, times-distinct, distinct-times}
 use Rattle.lists.proofs.Linked.{met-zero, met-above, met-step, met-inside, met-free, met-walk, walk-distinct}
 use Rattle.lists.proofs.Tests.{both-ways, some-∈, ∈-some, to-clear, to-some, to-found}
-use Rattle.history.specs.Layout.{recordsOf, headOf, nextOf, wordsOf}
+use Rattle.history.specs.Layout.{recordsOf, headOf, nextOf, recordWords}
 use Rattle.history.specs.Chain.{numbersFrom, numbers}
 use Rattle.history.specs.Refusals.{badLink, badChain, Accepted}
-use Rattle.history.specs.Heard.{sentences, tells, heard}
+use Rattle.history.specs.Heard.{sentencesIn, tells, heard}
 use Rattle.history.proofs.Acceptance.{clear, known, link-head, link-next, each-once}
 
 module _ (h : List ℕ) where
@@ -143,18 +143,18 @@ module _ (h : List ℕ) (ok : Accepted h) where
 
   -- ---- heard: a sentence of the chain
 
-  pub heard-sentences : (s : List ℕ) → heard h s ≡ someOf (λ t. same t s) (sentences h)
+  pub heard-sentences : (s : List ℕ) → heard h s ≡ someOf (λ t. same t s) (sentencesIn h)
   unfolding heard
-  heard-sentences s = both-ways (heard h s) (someOf (λ t. same t s) (sentences h)) there back
+  heard-sentences s = both-ways (heard h s) (someOf (λ t. same t s) (sentencesIn h)) there back
     where
-      there : heard h s ≡ true → someOf (λ t. same t s) (sentences h) ≡ true
+      there : heard h s ≡ true → someOf (λ t. same t s) (sentencesIn h) ≡ true
       there e =
           let q = to-found (λ r. tells h r s) (recordsOf h) e in
-          some-∈ (λ t. same t s) (wordsOf h (q .0)) (sentences h) (Memᴰ·map (wordsOf h) (chained h ok .all (q .0) (q .1) (q .2))) (q .3)
+          some-∈ (λ t. same t s) (recordWords h (q .0)) (sentencesIn h) (Memᴰ·map (recordWords h) (chained h ok .all (q .0) (q .1) (q .2))) (q .3)
 
-      back : someOf (λ t. same t s) (sentences h) ≡ true → heard h s ≡ true
+      back : someOf (λ t. same t s) (sentencesIn h) ≡ true → heard h s ≡ true
       back e =
-          let q = ∈-some (λ t. same t s) (sentences h) e in
-          let r = Memᴰ·of-map (wordsOf h) (numbers h) (q .1) in
+          let q = ∈-some (λ t. same t s) (sentencesIn h) e in
+          let r = Memᴰ·of-map (recordWords h) (numbers h) (q .1) in
           let i = numbers-inside h (headOf h) (r .1) in
           to-some (λ k. tells h k s) (recordsOf h) (r .0) (i .0) (i .1) (rw (r .2) (q .2))

@@ -10,7 +10,7 @@ use borrow.Author.Tests.{leb-true, leb-false, le-leb, lt-leb}
 use lib.ListN.{length}
 use lib.Dec.{leb}
 use Rattle.lists.proofs.Tests.{within-facts}
-use Rattle.history.specs.Layout.{recordsOf, recordAt, nextOf, wordsOf}
+use Rattle.history.specs.Layout.{recordsOf, recordAt, nextOf, recordWords}
 use Rattle.history.specs.Chain.{numbersFrom}
 use Rattle.history.specs.Refusals.{Accepted}
 use Rattle.history.specs.Inner.Checks.{Inside}
@@ -32,11 +32,11 @@ module _ (h : List ℕ) (at : ℕ) where
 
   -- ---- what stands at a record, and at the end
 
-  pub words-here : isRecord h at ≡ true → wordsOf h at ≡ sentenceAt h at
-  words-here e = ap (λ (b : Bool). cond b (wordsOf h at) []) (sym e)
+  pub words-here : isRecord h at ≡ true → recordWords h at ≡ sentenceAt h at
+  words-here e = ap (λ (b : Bool). cond b (recordWords h at) []) (sym e)
 
   pub words-end : isRecord h at ≡ false → [] ≡ sentenceAt h at
-  words-end e = ap (λ (b : Bool). cond b (wordsOf h at) []) (sym e)
+  words-end e = ap (λ (b : Bool). cond b (recordWords h at) []) (sym e)
 
   pub next-here : isRecord h at ≡ true → nextOf h at ≡ nextAt h at
   next-here e = ap (λ (b : Bool). cond b (nextOf h at) 0) (sym e)
@@ -63,7 +63,7 @@ module _ (h : List ℕ) (at : ℕ) where
         go true true f g =
             absurd (false≢true (sym e ∙ sym (by-high (leb-true 1 at f)) ∙ g))
 
-    goes-on : isRecord h at ≡ true → (sentenceAt h at ≡ wordsOf h at) × (numbersFrom h at ≡ at ∷ numbersFrom h (nextAt h at))
+    goes-on : isRecord h at ≡ true → (sentenceAt h at ≡ recordWords h at) × (numbersFrom h at ≡ at ∷ numbersFrom h (nextAt h at))
     goes-on e =
         let i = inside e in
         (sym (words-here e), numbers-step h ok at (i .low) (i .high) ∙ ap (λ (r : ℕ). at ∷ numbersFrom h r) (next-here e))
@@ -75,9 +75,9 @@ module _ (h : List ℕ) (at : ℕ) where
         go true e = let s = some-word e in absurd (omega (arith, s, z))
         go false e = over e
 
-    pub read-record : (length (sentenceAt h at) ≡ 0 → ⊥) → (sentenceAt h at ≡ wordsOf h at) × (numbersFrom h at ≡ at ∷ numbersFrom h (nextAt h at))
+    pub read-record : (length (sentenceAt h at) ≡ 0 → ⊥) → (sentenceAt h at ≡ recordWords h at) × (numbersFrom h at ≡ at ∷ numbersFrom h (nextAt h at))
     read-record n = go (isRecord h at) refl
       where
-        go : (b : Bool) → isRecord h at ≡ b → (sentenceAt h at ≡ wordsOf h at) × (numbersFrom h at ≡ at ∷ numbersFrom h (nextAt h at))
+        go : (b : Bool) → isRecord h at ≡ b → (sentenceAt h at ≡ recordWords h at) × (numbersFrom h at ≡ at ∷ numbersFrom h (nextAt h at))
         go true e = goes-on e
         go false e = absurd (n (ap length (sym (words-end e))))

@@ -27,5 +27,5 @@ abbrev pub lengthOf : List ℕ → ℕ → ℕ
 lengthOf h r = getD h (recordAt r + 2) 0
 
 -- the words of record r: a sentence
-unfoldable pub wordsOf : List ℕ → ℕ → List ℕ
-wordsOf h r = take (lengthOf h r) (drop (recordAt r + 4) h)
+unfoldable pub recordWords : List ℕ → ℕ → List ℕ
+recordWords h r = take (lengthOf h r) (drop (recordAt r + 4) h)

@@ -6,8 +6,8 @@ use lib.ListN.{length, take, drop, replicate}
 use Rattle.history.specs.Layout.{recordsOf, headOf, recordAt}
 
 -- the bytes with bs in the place of as many from at on
-unfoldable pub put : (h : List ℕ) (at : ℕ) (bs : List ℕ) → List ℕ
-put h at bs = take at h ++ bs ++ drop (at + length bs) h
+unfoldable pub overwritten : (h : List ℕ) (at : ℕ) (bs : List ℕ) → List ℕ
+overwritten h at bs = take at h ++ bs ++ drop (at + length bs) h
 
 -- "Two-byte fields have the low byte first."
 abbrev pub twoBytes : ℕ → List ℕ
@@ -21,4 +21,4 @@ recordBytes next s = twoBytes next ++ (length s ∷ 0 ∷ (s ++ replicate (16 - 
 unfoldable pub appended : (h s : List ℕ) → List ℕ
 appended h s =
     let new = suc (recordsOf h) in
-    put (put (put h (recordAt new) (recordBytes (headOf h) s)) 0 (twoBytes new)) 2 (twoBytes new)
+    overwritten (overwritten (overwritten h (recordAt new) (recordBytes (headOf h) s)) 0 (twoBytes new)) 2 (twoBytes new)

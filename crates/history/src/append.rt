@@ -2,7 +2,7 @@
 ghost use mathlib.Core.Path.{_≡_};
 ghost use Prim.Native.Nat.{_+_, _≤_, _<_};
 ghost use lib.ListN.{length, getD};
-ghost use Rattle.history.specs.Writing.{put, twoBytes, recordBytes, appended};
+ghost use Rattle.history.specs.Writing.{overwritten, twoBytes, recordBytes, appended};
 ghost use Rattle.history.specs.Inner.Checks.{Room};
 ghost use Rattle.history.specs.Answers.{appendSaid, appendOf};
 use crate::checks;
@@ -39,7 +39,7 @@ fn record_byte(next: usize, s: &[u8], i: usize) -> u8
 
 fn put_record(h: &mut [u8], at: usize, next: usize, s: &[u8])
     requires { ⌜ (at + 20 ≤ length (now h)) × (next ≤ 65535) × (length (now s) ≤ 16) ⌝ }
-    ensures { λ _. ⌜ now (h .exit) ≡ put (now (h .entry)) at (recordBytes next (now (s .entry))) ⌝ }
+    ensures { λ _. ⌜ now (h .exit) ≡ overwritten (now (h .entry)) at (recordBytes next (now (s .entry))) ⌝ }
 {
     let mut i: usize = 0;
     while i < 20 {
@@ -50,7 +50,7 @@ fn put_record(h: &mut [u8], at: usize, next: usize, s: &[u8])
 
 fn put_two(h: &mut [u8], at: usize, x: usize)
     requires { ⌜ (at + 2 ≤ length (now h)) × (x ≤ 65535) ⌝ }
-    ensures { λ _. ⌜ now (h .exit) ≡ put (now (h .entry)) at (twoBytes x) ⌝ }
+    ensures { λ _. ⌜ now (h .exit) ≡ overwritten (now (h .entry)) at (twoBytes x) ⌝ }
 {
     h[at] = (x % 256) as u8;
     h[at + 1] = (x / 256) as u8;

@@ -4,7 +4,7 @@ ghost use mathlib.Core.Bool.{false};
 ghost use Prim.Native.Nat.{_+_, _-_, _≤_};
 ghost use lib.ListN.{length};
 ghost use Rattle.history.specs.Refusals.{badSize, someNonzero, misfit, badLink, badChain};
-ghost use Rattle.history.specs.Inner.Checks.{Sized, Tested};
+ghost use Rattle.history.specs.Inner.Checks.{Sized, TestedAs};
 ghost use Rattle.history.specs.Answers.{refusalNumber, said, checkHistory};
 use crate::records;
 
@@ -93,7 +93,7 @@ struct RecordTests {
 // 12 and 13. A bad record ends the pass; a far link doesn't, since a bad record may follow.
 fn test_records(h: &[u8], k: usize) -> RecordTests
     requires { ⌜ Sized (now h) k ⌝ }
-    ensures { λ t. ⌜ Tested (now (h .entry)) (t .bad) (t .far) ⌝ }
+    ensures { λ t. ⌜ TestedAs (now (h .entry)) (t .bad) (t .far) ⌝ }
 {
     let mut far = k < records::two_at(h, 2);
     let mut r: usize = 0;

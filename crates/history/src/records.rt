@@ -2,7 +2,7 @@
 ghost use mathlib.Core.Path.{_≡_};
 ghost use Prim.Native.Nat.{_+_, _≤_, _<_};
 ghost use lib.ListN.{length};
-ghost use Rattle.history.specs.Layout.{twoAt, recordAt, lengthOf, wordsOf};
+ghost use Rattle.history.specs.Layout.{twoAt, recordAt, lengthOf, recordWords};
 ghost use Rattle.history.specs.Refusals.{Accepted};
 ghost use Rattle.history.specs.Inner.Checks.{Inside};
 
@@ -41,7 +41,7 @@ fn length(h: &[u8], r: usize) -> usize
 // The sentence of record r.
 pub fn words(h: &[u8], r: usize) -> &[u8]
     requires { ⌜ Accepted (now h) × Inside (now h) r ⌝ }
-    ensures { λ s. ⌜ now s ≡ wordsOf (now (h .entry)) r ⌝ }
+    ensures { λ s. ⌜ now s ≡ recordWords (now (h .entry)) r ⌝ }
 {
     let at = record_at(r) + 4;
     let end = at + length(h, r);

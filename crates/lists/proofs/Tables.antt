@@ -7,7 +7,7 @@ use native.Mathlib.Omega.{arith}
 use native.Mathlib.Decide.{ℕ-discrete, decLt}
 use lib.ListN.{length, getD, set, replicate, length-set, length-replicate, getD-replicate}
 use lib.Seq.{getD-set-same, getD-set-other}
-use Rattle.lists.specs.Inner.Tables.{entry, put, Wide, Kept, Copied}
+use Rattle.lists.specs.Inner.Tables.{entry, put, Wide, Kept, CopiedAs}
 use Rattle.lists.proofs.Places.{getD-same}
 
 module _ (t : List (List ℕ)) where
@@ -81,10 +81,10 @@ module _ {first width : ℕ} where
 
 -- ---- rows copied, one after another
 
-pub copied-none : (from t : List (List ℕ)) → Copied 0 from t t
+pub copied-none : (from t : List (List ℕ)) → CopiedAs 0 from t t
 copied-none from t = record { long = refl; rows = λ r h. absurd (omega arith); rest = λ r h. refl }
 
-pub copied-more : {n : ℕ} {from before t : List (List ℕ)} → n < length before → Copied n from before t → Copied (n + 1) from before (set t n (getD from n []))
+pub copied-more : {n : ℕ} {from before t : List (List ℕ)} → n < length before → CopiedAs n from before t → CopiedAs (n + 1) from before (set t n (getD from n []))
 copied-more {n} {from} {before} {t} h c =
     let inside : n < length t = omega (arith, c .long) in
     record {
@@ -96,7 +96,7 @@ copied-more {n} {from} {before} {t} h c =
       rest = λ r l. row-other t n (getD from n []) r (λ e. omega arith) ∙ c .rest r (omega arith);
     }
 
-pub copied-wide : {n w : ℕ} {from before after : List (List ℕ)} → n ≤ length from → Wide from w → Wide before w → Copied n from before after → Wide after w
+pub copied-wide : {n w : ℕ} {from before after : List (List ℕ)} → n ≤ length from → Wide from w → Wide before w → CopiedAs n from before after → Wide after w
 copied-wide {n} k f b c = record {
   row = λ r h. elim (decLt r n) [
     | yes l ↦ ap length (c .rows r l) ∙ f .row r (omega arith)

@@ -9,7 +9,7 @@ use Rattle.answers.proofs.Refusals.{answer-accepted}
 use Rattle.lists.specs.Searched.{someBelow}
 use Rattle.lists.specs.Linked.{metFrom}
 use Rattle.grammar.specs.Chains.{word, pair, ruleOf, chainNumbers}
-use Rattle.grammar.specs.Refusals.{tooShort, outOfRange, wrongSize, fits, badRule, badLink, metTwice, onNoChain, twins, repeated, Accepted}
+use Rattle.grammar.specs.Refusals.{tooShort, outOfRange, wrongSize, fits, badRule, badLink, metTwice, onNoChain, someAlike, repeated, Accepted}
 use Rattle.grammar.specs.Answers.{checkGrammar}
 use Rattle.matrix.specs.Table.{table, accepted}
 
@@ -17,7 +17,7 @@ pub size : length table ≡ 229
 size = refl
 
 pub is-accepted : Accepted table
-unfolding firstThatApplies tooShort outOfRange wrongSize fits badRule badLink metTwice onNoChain twins repeated metFrom someBelow
+unfolding firstThatApplies tooShort outOfRange wrongSize fits badRule badLink metTwice onNoChain someAlike repeated metFrom someBelow
 is-accepted = refl
 
 -- "Rules 1 to 4 are 0 to (4, 1), 1 to (5, 2), 2 to (6, 3), 3 to (7, 8) [..]. Rules 5 to 54 are words 0 to 49 in order"

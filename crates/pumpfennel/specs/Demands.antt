@@ -59,8 +59,8 @@ pub record Demands : Type 0 where
   -- where no sentence of the length has two derivations, each unheard derivable sentence comes exactly once
   pub once : (g h : List ℕ) (a : Question) → Premises g h a → ((s : List ℕ) → length s ≡ a .length → Single g s)
       → (out : ℕ → List ℕ) → ((q : ℕ) → a .length ≤ length (out q)) → Once g h a out
-  -- "Accepted diaries that bar the same sentences of that length give the same left and the same answer to every draw, refused ones included":
-  -- with every grammar and every length
+  -- "For two such diaries that bar the same sentences of length n, *Left* gives the same figures. For every q, *Draw* gives the same": that they are
+  -- accepted suffices, with every grammar and length, refusals included
   pub alike : (g h h′ : List ℕ) (a : Question) → history.Accepted h → history.Accepted h′ → SameBarred g h h′ a → Alike g h h′ a
   -- the premises are no more than that *Left* isn't refused
   pub premises : (g h : List ℕ) (a : Question) → (Premises g h a ↔ (remainingTo g h a .refusal ≡ 0))

@@ -15,7 +15,7 @@ use Rattle.grammar.specs.Inner.Rules.{startIn, Holds}
 use Rattle.counting.specs.Refusals.{most, preparedRows}
 use Rattle.counting.specs.Inner.Counted.{Counted}
 use Rattle.counting.specs.Answers.{countNumber}
-use Rattle.counting.specs.Inner.Preparing.{preparedNumber, Prepares}
+use Rattle.counting.specs.Inner.Preparing.{preparedNumber, PreparedAs}
 use Rattle.counting.specs.declared.prepare.Prepared.{Prepared}
 use Rattle.counting.specs.declared.prepare.Prepared.the-variants.{Ready, Refused}
 use Rattle.counting.specs.declared.prepare.CountRefusal.{CountRefusal}
@@ -79,7 +79,7 @@ module _ (rules : List (List ℕ)) (s : List ℕ) where
 -- ---- for the grammar
 
 -- what preparing answers, by its case
-module _ {g : List ℕ} {n : ℕ} {rules₀ rules totals₀ totals : List (List ℕ)} {p : Prepared} (q : Prepares g n rules₀ rules totals₀ totals p) where
+module _ {g : List ℕ} {n : ℕ} {rules₀ rules totals₀ totals : List (List ℕ)} {p : Prepared} (q : PreparedAs g n rules₀ rules totals₀ totals p) where
   pub prepared-none : p ≡ Ready → firstThatApplies (preparedRows g n) ≡ 0
   prepared-none e = sym (q .refusal) ∙ ap preparedNumber e
 

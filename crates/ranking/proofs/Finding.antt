@@ -15,18 +15,18 @@ use Rattle.grammar.specs.Inner.Rules.{startIn, ruled}
 use Rattle.counting.specs.Inner.Owned.{OwnedAs}
 use Rattle.counting.specs.Inner.Counted.{countAt, Asked, Counted}
 use Rattle.grammar.proofs.Kept.{ruled-same}
-use Rattle.counting.specs.Inner.Preparing.{Prepares}
+use Rattle.counting.specs.Inner.Preparing.{PreparedAs}
 use Rattle.counting.specs.declared.prepare.Prepared.{Prepared}
 use Rattle.counting.specs.declared.prepare.Prepared.the-variants.{Ready as Passed}
 use Rattle.counting.proofs.Asking.{counted-copied}
 use Rattle.charts.proofs.Placing.{room-short, room-low}
 use Rattle.charts.specs.Inner.Letters.{letterAt, weightBy}
-use Rattle.charts.specs.Inner.Maps.{totalAt, Span, Mapped, Everywhere, Spelt}
+use Rattle.charts.specs.Inner.Maps.{totalAt, Span, Mapped, Everywhere, SpeltAs}
 use Rattle.charts.specs.Inner.Plan.{lengthIn, needed}
-use Rattle.charts.specs.Inner.Chart.{Fills, Filled, Charted}
+use Rattle.charts.specs.Inner.Chart.{Fills, Filled, ChartedAs}
 use Rattle.charts.specs.Inner.Ready.{Ready}
 use Rattle.charts.proofs.Mapping.{everywhere-total, everywhere-mapped, all-closed, planned-closed, planned-same}
-use Rattle.walk.specs.Inner.Sought.{Hand, Sought}
+use Rattle.walk.specs.Inner.Sought.{WalkTables, Sought}
 use Rattle.walk.specs.Inner.Steps.{Placed}
 use Rattle.ranking.specs.Inner.Inside.{totalIn, entryIn, readingsIn, numberIn, rankIn, WriteSought}
 use Rattle.ranking.specs.Inner.Ranking.{FindSought, Says, FoundAs, Roomy, NumberSought}
@@ -56,7 +56,7 @@ pub rest-kept : (n : ℕ) (out : List ℕ) → postOf 0 (n - 0) out ≡ drop n o
 rest-kept n out = rw sub-zero
 
 module _ {rules totals counts : List (List ℕ)} {n d : ℕ} {out : List ℕ} (w : WriteSought rules totals n d out) (e : Everywhere counts) where
-  abbrev give-hand : Hand rules totals counts counts n
+  abbrev give-hand : WalkTables rules totals counts counts n
   give-hand =
       let c = w .counted in
       let m = everywhere-mapped rules e c (λ p m. true) in
@@ -95,7 +95,7 @@ module _ {rules plan map counts : List (List ℕ)} {s sets : List ℕ} {totals :
   short = f .ready .blank .counted .short
 
   -- the letters are the sentence's
-  module _ {spelt : List (List ℕ)} (p : Spelt s map spelt) where
+  module _ {spelt : List (List ℕ)} (p : SpeltAs s map spelt) where
     ready-spelt : Ready rules plan spelt totals (length s)
     ready-spelt = record {
       blank = f .ready .blank;
@@ -117,7 +117,7 @@ module _ {rules plan map counts : List (List ℕ)} {s sets : List ℕ} {totals :
         })
 
     -- and the chart is filled
-    module _ {sets′ : List ℕ} {after : List (List ℕ)} (charted : Charted rules plan spelt (lengthIn plan) totals sets′ after) where
+    module _ {sets′ : List ℕ} {after : List (List ℕ)} (charted : ChartedAs rules plan spelt (lengthIn plan) totals sets′ after) where
       abbrev q : Filled rules plan spelt (lengthIn plan) totals after
       q = charted .filled
 
@@ -147,7 +147,7 @@ module _ {rules plan map counts : List (List ℕ)} {s sets : List ℕ} {totals :
       pub found-as : {o : Found} → Says rules s o → FoundAs rules plan spelt s sets′ after o
       found-as says = record { says = says; ready = ready-after; clean = rw (f .ready .planned .length) at (charted .clean) }
 
-      abbrev hand : Hand rules after spelt counts (length s)
+      abbrev hand : WalkTables rules after spelt counts (length s)
       hand = record {
         counted = counted;
         known = needed plan;
@@ -197,7 +197,7 @@ module _ {rules plan map counts : List (List ℕ)} {s sets : List ℕ} {totals :
 
 -- zeros where the links go, and above the counts, stay what they are
 pub prepared-sought : {g : List ℕ} {s : List ℕ} {rules₀ rules totals₀ totals : List (List ℕ)} → ((r i : ℕ) → entry rules₀ r i ≡ 0) → 13 ≤ length rules₀ → Roomy (length s) totals₀
-    → {r : Prepared} → Prepares g (length s) rules₀ rules totals₀ totals r → r ≡ Passed → NumberSought rules s totals
+    → {r : Prepared} → PreparedAs g (length s) rules₀ rules totals₀ totals r → r ≡ Passed → NumberSought rules s totals
 prepared-sought {s = s} {rules₀} {rules} {totals₀} {totals} zeros long t p e =
     let c = p .ready e .counted in
     let row : (r i : ℕ) → 4 ≤ r → entry rules r i ≡ 0 = λ r i h. ap (λ (l : List ℕ). getD l i 0) (p .rules-kept .rest r h) ∙ zeros r i in

@@ -38,12 +38,12 @@ use Rattle.ranking.proofs.Inside.{full-is, total-is, entry-is, readings-are, nu
 use Rattle.ranking.proofs.Answering.{left-of, refused-of, total-fits}
 use Rattle.ranking.proofs.Demand2.{listed-total}
 use Rattle.history.specs.Refusals as history
-use Rattle.history.specs.Layout.{recordsOf, headOf, wordsOf}
-use Rattle.history.specs.Heard.{sentences, heard}
+use Rattle.history.specs.Layout.{recordsOf, headOf, recordWords}
+use Rattle.history.specs.Heard.{sentencesIn, heard}
 use Rattle.history.proofs.Acceptance.{known}
 use Rattle.history.proofs.Chain.{numbers-zero}
 use Rattle.history.proofs.Outcome.{number-some}
-use Rattle.sorting.specs.Inner.Sorted.{Sorted}
+use Rattle.sorting.specs.Inner.Sorted.{SortedAs}
 use Rattle.sampling.specs.Question.{Question, plainly}
 use Rattle.sampling.specs.Unheard.{Entry, outside, ofLength, heardOf, leftOf, ambiguous}
 use Rattle.sampling.specs.Inner.Hearing.{barred, numbersIn, ambiguousIn, Holds}
@@ -81,7 +81,7 @@ part-few k n l h = omega (arith, length-take (k - 0) l)
 
 -- the numbers stand then at the front of the whole
 pub heard-sorted : (rules : List (List ℕ)) (h : List ℕ) (n : ℕ) (before part rest : List ℕ) (k m : ℕ) → Holds rules h n before (Numbers k)
-    → Sorted (take (k - 0) before) part m → Hold rules h n (part ++ rest) (Ready m)
+    → SortedAs (take (k - 0) before) part m → Hold rules h n (part ++ rest) (Ready m)
 heard-sorted rules h n before part rest k m c s =
     let z : k - 0 ≡ k = omega arith in
     let s′ = rw z at s in
@@ -93,7 +93,7 @@ heard-sorted rules h n before part rest k m c s =
 -- a history without records has no heard number
 pub none-heard : (rules : List (List ℕ)) (h : List ℕ) (n : ℕ) (numbers : List ℕ) → history.Accepted h → recordsOf h ≡ 0 → Recorded rules h n numbers (Ready 0)
 none-heard rules h n numbers diary none =
-    let e : sentences h ≡ [] = ap (map (wordsOf h)) (numbers-zero h diary (headOf h) (omega (arith, known h diary .head, none))) in
+    let e : sentencesIn h ≡ [] = ap (map (recordWords h)) (numbers-zero h diary (headOf h) (omega (arith, known h diary .head, none))) in
     (diary, omega arith, record { clear = rw e refl; rising = Pairwise.none; just = λ d. rw e ((λ m. m), λ m. m) })
 
 -- ---- 11 to 15, by the tables
@@ -136,21 +136,21 @@ module _ {g : List ℕ} {rules : List (List ℕ)} (t : grammar.Holds g rules) (h
   unfolding ambiguous
   ambiguous-is = some-ext (λ s. leb 2 (readingsIn rules s)) (λ s. leb 2 (readingsOf g s)) (ofLength n h) (λ s m. ap (leb 2) (readings-are t s))
 
-  numbers-are : concatMap (numbersIn rules n) (sentences h) ≡ concatMap (numbersOf g n) (sentences h)
-  numbers-are = concat-ext (numbersIn rules n) (numbersOf g n) (sentences h) (λ s m. rw (readings-are t s, number-is t s))
+  numbers-are : concatMap (numbersIn rules n) (sentencesIn h) ≡ concatMap (numbersOf g n) (sentencesIn h)
+  numbers-are = concat-ext (numbersIn rules n) (numbersOf g n) (sentencesIn h) (λ s m. rw (readings-are t s, number-is t s))
 
   -- a rising list of just the numbers that the records add is that of the struck places
   heard-barred : history.Accepted h → (l : List ℕ) → Heard rules h n l → l ≡ barred g h (plainly n)
   heard-barred diary l q =
-      let same : (x : ℕ) → (x ∈ l) ↔ (x ∈ concatMap (numbersOf g n) (sentences h)) = λ x. rw (← numbers-are) (q .just x) in
+      let same : (x : ℕ) → (x ∈ l) ↔ (x ∈ concatMap (numbersOf g n) (sentencesIn h)) = λ x. rw (← numbers-are) (q .just x) in
       collected g h n diary (sym ambiguous-is ∙ q .clear) l (q .rising)
       (λ d m.
-      let z = concat-∈ (numbersOf g n) (sentences h) (same d .0 m) in
+      let z = concat-∈ (numbersOf g n) (sentencesIn h) (same d .0 m) in
       let a = adds-∈ g n (z .0) d (z .2) in
-      (z .0, ∈-keep (λ s. eqb (length s) n) (sentences h) (z .0) (z .1) (eq-eqb (length (z .0)) n (a .0)), a .1, a .2))
+      (z .0, ∈-keep (λ s. eqb (length s) n) (sentencesIn h) (z .0) (z .1) (eq-eqb (length (z .0)) n (a .0)), a .1, a .2))
       (λ s m one.
-      let z = keep-∈ (λ s. eqb (length s) n) (sentences h) s m in
-      same (numberOf g s) .1 (∈-concat (numbersOf g n) s (sentences h) (z .0) (∈-adds g n s (eqb-true (length s) n (z .1)) one)))
+      let z = keep-∈ (λ s. eqb (length s) n) (sentencesIn h) s m in
+      same (numberOf g s) .1 (∈-concat (numbersOf g n) s (sentencesIn h) (z .0) (∈-adds g n s (eqb-true (length s) n (z .1)) one)))
 
 -- ---- 1 to 15
 

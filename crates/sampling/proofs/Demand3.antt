@@ -39,7 +39,7 @@ use Rattle.sampling.specs.Question.{plainly}
 use Rattle.sampling.specs.Unheard.{Entry, entriesFrom, outside, unheard, heardOf, leftOf, ambiguous}
 use Rattle.sampling.specs.Inner.Hearing.{barred}
 use Rattle.sampling.specs.Answers.{remainingRows, remainingOf, drawn, drawOf, remainingTo, drawTo}
-use Rattle.sampling.specs.Demand3.{Single, Premises, shown, put, refused, Demand3, Derivable, Once, SameBarred, Alike}
+use Rattle.sampling.specs.Demand3.{Single, Premises, shown, asShown, refused, Demand3, Derivable, Once, SameBarred, Alike}
 use Rattle.sampling.proofs.Barred.{listed-length, entry, kept, unheard-is, unheard-length, unheard-at, heard-length, heard-exactly, heard-left, left-length}
 use Rattle.sampling.proofs.Premises.{heard-single, premises-pass, pass-premises}
 
@@ -219,7 +219,7 @@ module _ (g h : List ℕ) (n : ℕ) (p : Premises g h (plainly n)) where
       ap (λ (a : Answer). take n (a .buffer)) (draw-accepted q out k l)
       ∙ take-at (sentence (drawn g h (plainly n) q .tree)) (drop n out) n (entry-long g h n q k)
 
-  draw-shown : (q : ℕ) (out : List ℕ) → q < length (unheard g h (plainly n)) → n ≤ length out → shown n (drawOf g h n q out) ≡ put (drawn g h (plainly n) q)
+  draw-shown : (q : ℕ) (out : List ℕ) → q < length (unheard g h (plainly n)) → n ≤ length out → shown n (drawOf g h n q out) ≡ asShown (drawn g h (plainly n) q)
   draw-shown q out k l = rw (draw-words q out k l, draw-accepted q out k l)
 
   draw-kept : (q : ℕ) (out : List ℕ) → drop n (drawOf g h n q out .buffer) ≡ drop n out
@@ -245,7 +245,7 @@ module _ (g h : List ℕ) (n : ℕ) (p : Premises g h (plainly n)) where
         left = remaining-is;
         figures = draw-figures;
         accepted = λ q out k l. ap (λ (a : Answer). a .refusal) (draw-accepted q out k l);
-        draws = λ out l. map-upFrom (λ q. shown n (drawOf g h n q (out q))) put 0 (unheard g h (plainly n)) (entry (0, leaf 0 0))
+        draws = λ out l. map-upFrom (λ q. shown n (drawOf g h n q (out q))) asShown 0 (unheard g h (plainly n)) (entry (0, leaf 0 0))
             (λ q k. let e : 0 + q ≡ q = omega arith in rw e (draw-shown q (out q) k (l q)));
         kept = draw-kept;
         beyond = λ q out b. draw-is q out ∙ from-beyond n q out (unheard g h (plainly n)) b;

@@ -17,7 +17,7 @@ use Rattle.answers.specs.Answer.{firstThatApplies}
 use Rattle.answers.specs.Length.{badLength}
 use Rattle.answers.proofs.Refusals.{row-applies, row-passed, rows-pass, answer-accepted, answer-refused}
 use Rattle.grammar.specs.Chains.{Rule, rest, chain}
-use Rattle.grammar.specs.Refusals.{tooShort, outOfRange, wrongSize, fits, badRule, badLink, metTwice, onNoChain, twins, repeated, Accepted}
+use Rattle.grammar.specs.Refusals.{tooShort, outOfRange, wrongSize, fits, badRule, badLink, metTwice, onNoChain, someAlike, repeated, Accepted}
 use Rattle.grammar.specs.Trees.{leaf, node, sentence}
 use Rattle.grammar.specs.FullList.{treesTo, trees}
 use Rattle.counting.specs.Totals.{splitSum, totalTo, total, T}
@@ -27,7 +27,7 @@ use Rattle.counting.proofs.Totals.{split-step, split-end, split-skip, T-one, T-
 use Rattle.counting.proofs.OneLength.{OneLength, words-alone}
 use Rattle.ranking.specs.Answers.{entryOf, unrankRows, unrankOf, numberOf, rankRows, rankOf}
 use Rattle.ranking.specs.Demand2.{told, written}
-use Rattle.history.specs.Layout.{twoAt, wordsOf}
+use Rattle.history.specs.Layout.{twoAt, recordWords}
 use Rattle.history.specs.Chain.{numbersFrom}
 use Rattle.history.specs.Heard.{heard}
 use Rattle.history.specs.Refusals as history
@@ -85,7 +85,7 @@ doubled-le m zero = let e : 0 + m ≡ m = omega arith in rw e (omega arith)
 doubled-le m (suc k) = let e : suc k + m ≡ suc (k + m) = omega arith in rw e (omega (arith, doubled-le m k))
 
 F-accepted : Accepted F
-unfolding firstThatApplies tooShort outOfRange wrongSize fits badRule badLink metTwice onNoChain twins repeated metFrom someBelow
+unfolding firstThatApplies tooShort outOfRange wrongSize fits badRule badLink metTwice onNoChain someAlike repeated metFrom someBelow
 F-accepted = refl
 
 F-counts : (A m : ℕ) → A < 2 → 1 ≤ m → m ≤ 16 → T (chain F) A m ≤ most
@@ -148,7 +148,7 @@ unfolding firstThatApplies history.badSize history.misfit history.badRecord hist
 heard01-accepted = refl
 
 heard01-clear : ambiguous F heard01 (plainly 2) ≡ false
-unfolding ambiguous twoAt wordsOf numbersFrom trees treesTo metFrom rest
+unfolding ambiguous twoAt recordWords numbersFrom trees treesTo metFrom rest
 heard01-clear = refl
 
 -- the premises of demand 3 hold of F, this history and length 2
@@ -164,7 +164,7 @@ example-premises =
     }
 
 heard-one : heardOf F heard01 (plainly 2) ≡ 1
-unfolding heardOf twoAt wordsOf numbersFrom trees treesTo metFrom rest
+unfolding heardOf twoAt recordWords numbersFrom trees treesTo metFrom rest
 heard-one = refl
 
 left-three : leftOf F heard01 (plainly 2) ≡ 3
@@ -175,7 +175,7 @@ unheard-three : unheard F heard01 (plainly 2)
     ∷ record { number = 2; tree = node 0 (leaf 1 1) (leaf 0 0) }
     ∷ record { number = 3; tree = node 0 (leaf 1 1) (leaf 1 1) }
     ∷ []
-unfolding unheard heard someBelow twoAt wordsOf trees treesTo metFrom rest
+unfolding unheard heard someBelow twoAt recordWords trees treesTo metFrom rest
 unheard-three = refl
 
 passes : firstThatApplies (remainingRows F heard01 (plainly 2)) ≡ 0
@@ -216,7 +216,7 @@ draw-beyond out =
 -- ---- the grammar G
 
 G-accepted : Accepted G
-unfolding firstThatApplies tooShort outOfRange wrongSize fits badRule badLink metTwice onNoChain twins repeated metFrom someBelow
+unfolding firstThatApplies tooShort outOfRange wrongSize fits badRule badLink metTwice onNoChain someAlike repeated metFrom someBelow
 G-accepted = refl
 
 G-totals : map (T (chain G) 0) (upFrom 1 4) ≡ 1 ∷ 1 ∷ 2 ∷ 5 ∷ []
@@ -269,11 +269,11 @@ examples =
 
 -- a sentence is heard in either exactly if it is 0 1
 said-once : (s : List ℕ) → heard heard01 s ≡ same (0 ∷ 1 ∷ []) s
-unfolding heard someBelow twoAt wordsOf
+unfolding heard someBelow twoAt recordWords
 said-once s = or-false (same (0 ∷ 1 ∷ []) s)
 
 said-twice : (s : List ℕ) → heard heardTwice s ≡ same (0 ∷ 1 ∷ []) s
-unfolding heard someBelow twoAt wordsOf
+unfolding heard someBelow twoAt recordWords
 said-twice s = go (same (0 ∷ 1 ∷ []) s)
   where
     go : (b : Bool) → (b || (b || false)) ≡ b

@@ -1,4 +1,4 @@
--- Collecting the heard numbers: what one sentence adds, and what is collected along the chain. The numbers so far, with what the sentences still
+-- Collecting the heard numbers: what one sentence adds, and what is collected along the chain. The numbers so far, with what the sentencesIn still
 -- to come add, are all of them.
 -- Assumes nothing.
 use mathlib.Core.Path.{_≡_, refl, sym, ap, _∙_}
@@ -19,11 +19,11 @@ use Rattle.ranking.specs.Inner.Ranking.{FindSought, Says, FoundAs}
 use Rattle.ranking.specs.declared.rank.Found.{Found}
 use Rattle.ranking.specs.declared.rank.Found.the-variants.{None, One, Many}
 use Rattle.ranking.specs.declared.unrank.DerivationNumber.{DerivationNumber}
-use Rattle.history.specs.Layout.{recordsOf, headOf, wordsOf}
+use Rattle.history.specs.Layout.{recordsOf, headOf, recordWords}
 use Rattle.history.specs.Chain.{numbersFrom}
 use Rattle.history.specs.Refusals.{Accepted}
 use Rattle.history.specs.Inner.Reading.{sentenceAt, nextAt}
-use Rattle.history.specs.Heard.{sentences}
+use Rattle.history.specs.Heard.{sentencesIn}
 use Rattle.history.proofs.Chain.{chained}
 use Rattle.history.proofs.Reading.{read-end, read-record}
 use Rattle.sampling.specs.Inner.Hearing.{numbersIn, manyIn, ambiguousIn, Tells, Adds, ToldAs, Holds, CollectedAs}
@@ -87,13 +87,13 @@ many-ambiguous rules n (s ∷ l) = go (eqb (length s) n) (many-ambiguous rules n
     go true ih = rw ih
     go false ih = ih
 
--- the sentences that a walk from the number r still tells
+-- the sentencesIn that a walk from the number r still tells
 abbrev pub toCome : (h : List ℕ) (r : ℕ) → List (List ℕ)
-toCome h r = map (wordsOf h) (numbersFrom h r)
+toCome h r = map (recordWords h) (numbersFrom h r)
 
 -- before the record `at`, with the first `count` numbers found
 pub record Collecting (rules : List (List ℕ)) (h : List ℕ) (n : ℕ) (numbers : List ℕ) (at count : ℕ) : Type 0 where
-  pub due : take count numbers ++ concatMap (numbersIn rules n) (toCome h at) ≡ concatMap (numbersIn rules n) (sentences h)
+  pub due : take count numbers ++ concatMap (numbersIn rules n) (toCome h at) ≡ concatMap (numbersIn rules n) (sentencesIn h)
   pub many : someOf (manyIn rules n) (toCome h at) ≡ ambiguousIn rules h n
   pub room : count + length (numbersFrom h at) ≤ recordsOf h
   pub long : recordsOf h ≤ length numbers
@@ -111,7 +111,7 @@ collect-start rules h n numbers diary long e =
     rw e
     (record {
       due = refl;
-      many = many-ambiguous rules n (sentences h);
+      many = many-ambiguous rules n (sentencesIn h);
       room = omega (arith, all);
       long = long;
     })
@@ -124,20 +124,20 @@ module _ (plan : List (List ℕ)) {rules : List (List ℕ)} {h : List ℕ} {numb
       let e = read-end h at diary (ap length (sym same) ∙ z) in
       record {
         holds = (
-          sym (w .many) ∙ ap (λ (l : List ℕ). someOf (manyIn rules n) (map (wordsOf h) l)) e,
+          sym (w .many) ∙ ap (λ (l : List ℕ). someOf (manyIn rules n) (map (recordWords h) l)) e,
           omega (arith, w .room),
-          sym (append-nil (take count numbers)) ∙ ap (λ (l : List ℕ). take count numbers ++ concatMap (numbersIn rules n) (map (wordsOf h) l)) (sym e) ∙ w .due,
+          sym (append-nil (take count numbers)) ∙ ap (λ (l : List ℕ). take count numbers ++ concatMap (numbersIn rules n) (map (recordWords h) l)) (sym e) ∙ w .due,
         );
       }
 
   -- a sentence more
   module _ {s : List ℕ} (r : Read h at s) where
     -- it is the first of those to come
-    step : (s ≡ wordsOf h at) × (numbersFrom h at ≡ at ∷ numbersFrom h (nextAt h at))
+    step : (s ≡ recordWords h at) × (numbersFrom h at ≡ at ∷ numbersFrom h (nextAt h at))
     step = let q = read-record h at (r .diary) (λ z. r .more (ap length (r .same) ∙ z)) in (r .same ∙ q .0, q .1)
 
     comes : toCome h at ≡ s ∷ toCome h (nextAt h at)
-    comes = ap (map (wordsOf h)) (step .1) ∙ ap (λ (x : List ℕ). x ∷ toCome h (nextAt h at)) (sym (step .0))
+    comes = ap (map (recordWords h)) (step .1) ∙ ap (λ (x : List ℕ). x ∷ toCome h (nextAt h at)) (sym (step .0))
 
     fewer : length (numbersFrom h at) ≡ suc (length (numbersFrom h (nextAt h at)))
     fewer = ap length (step .1)

@@ -7,7 +7,7 @@ use Prim.Native.Nat.{ℕ, zero, _+_, _/_, _%_, _≤_, _<_}
 use native.Mathlib.Omega.{arith}
 use lib.ListN.{length, getD, replicate, length-replicate}
 use lib.Dec.{leb}
-use Rattle.lists.specs.Inner.Tables.{entry, Wide, Copied}
+use Rattle.lists.specs.Inner.Tables.{entry, Wide, CopiedAs}
 use Rattle.lists.proofs.Sums.{concat-ext}
 use Rattle.lists.proofs.Tests.{some-ext}
 use Rattle.lists.proofs.Tables.{copied-wide, wide-made, made-entry}
@@ -17,10 +17,10 @@ use Rattle.counting.specs.Inner.Counted.{Counted}
 use Rattle.counting.proofs.Asking.{counted-copied, counted-kept}
 use Rattle.charts.specs.Inner.Maps.{Everywhere}
 use Rattle.charts.specs.Inner.Plan.{lengthIn}
-use Rattle.charts.specs.Inner.Ready.{Readies, Readied}
+use Rattle.charts.specs.Inner.Ready.{Readies, ReadiedAs}
 use Rattle.ranking.specs.Inner.Inside.{readingsIn}
 use Rattle.ranking.specs.Inner.Ranking.{Roomy}
-use Rattle.history.specs.Heard.{sentences}
+use Rattle.history.specs.Heard.{sentencesIn}
 use Rattle.sampling.specs.Unheard.{ofLength}
 use Rattle.sampling.specs.Inner.Hearing.{numbersIn, ambiguousIn, Collects, Holds, CollectedAs}
 use Rattle.sampling.specs.Inner.Preparing.{Hears}
@@ -36,7 +36,7 @@ module _ {rules plain : List (List ℕ)} {h : List ℕ} {n : ℕ} {numbers : Lis
   pub counts-asked : (n ≤ 16) × (17 ≤ length plain) × (17 ≤ length totals)
   counts-asked = (w .counted .short, w .counted .long, omega (arith, t .counts))
 
-  module _ {copied linked : List (List ℕ)} (c : Copied (n + 1) plain totals copied) (k : Copied 4 rules bare linked) where
+  module _ {copied linked : List (List ℕ)} (c : CopiedAs (n + 1) plain totals copied) (k : CopiedAs 4 rules bare linked) where
     counts : Counted rules copied n
     counts = counted-copied (w .counted) (counts-asked .2) (t .wide) c
 
@@ -72,7 +72,7 @@ module _ {rules plain : List (List ℕ)} {h : List ℕ} {n : ℕ} {numbers : Lis
           map-wide = d;
         }
 
-    module _ {after plan map : List (List ℕ)} (r : Readied linked after plan map copied n) where
+    module _ {after plan map : List (List ℕ)} (r : ReadiedAs linked after plan map copied n) where
       length-is : lengthIn plan ≡ n
       length-is = r .ready .planned .length
 
@@ -104,5 +104,5 @@ module _ {rules plain : List (List ℕ)} {h : List ℕ} {n : ℕ} {numbers : Lis
           ambiguity f g = some-ext (λ s. leb 2 (readingsIn after s)) (λ s. leb 2 (readingsIn rules s)) (ofLength n h) (λ s m. ap (leb 2) (readings f g s))
 
           kept : ruled after ≡ ruled rules → startIn after ≡ startIn rules → (d : Collected) → Holds after h n numbers′ d → Holds rules h n numbers′ d
-          kept f g (Numbers k) x = (sym (ambiguity f g) ∙ x .0, x .1, x .2 ∙ concat-ext (numbersIn after n) (numbersIn rules n) (sentences h) (λ s m. added f g s))
+          kept f g (Numbers k) x = (sym (ambiguity f g) ∙ x .0, x .1, x .2 ∙ concat-ext (numbersIn after n) (numbersIn rules n) (sentencesIn h) (λ s m. added f g s))
           kept f g Ambiguous x = sym (ambiguity f g) ∙ x

@@ -1,5 +1,5 @@
 -- Demand 3 (document 01, section 'The draws as one list') as one claim about the list of draws, for every grammar, history and length
--- that it names. The answers are `remainingTo` (*Left*) and `drawTo` (*Draw*) to a question; the calls put the question of a length, and the
+-- that it names. The answers are `remainingTo` (*Left*) and `drawTo` (*Draw*) to a question; the calls asShown the question of a length, and the
 -- code's contracts say that it answers just these.
 -- Assumes nothing: these are definitions.
 use mathlib.Core.Path.{_≡_}
@@ -53,9 +53,9 @@ numberIn a = getD (a .figures) 1 0
 abbrev pub shown : (n : ℕ) → Answer → Shown
 shown n a = record { number = numberIn a; words = take n (a .buffer) }
 
--- "each entry put as its derivation number and its sentence"
-abbrev pub put : Entry → Shown
-put e = record { number = e .number; words = sentence (e .tree) }
+-- "each entry asShown as its derivation number and its sentence"
+abbrev pub asShown : Entry → Shown
+asShown e = record { number = e .number; words = sentence (e .tree) }
 
 -- a refusal: its number, the figures 0 and the buffer as it was
 abbrev pub refused : (number : ℕ) (out : List ℕ) → Answer
@@ -75,7 +75,7 @@ pub record Demand3 (g h : List ℕ) (a : Question) : Type 0 where
   pub accepted : (q : ℕ) (out : List ℕ) → q < length (unheard g h a) → a .length ≤ length out → drawTo g h a q out .refusal ≡ 0
   -- "List what they answer [..]. That list equals the unheard list"
   pub draws : (out : ℕ → List ℕ) → ((q : ℕ) → a .length ≤ length (out q))
-      → map (λ q. shown (a .length) (drawTo g h a q (out q))) (upFrom 0 (length (unheard g h a))) ≡ map put (unheard g h a)
+      → map (λ q. shown (a .length) (drawTo g h a q (out q))) (upFrom 0 (length (unheard g h a))) ≡ map asShown (unheard g h a)
   -- "buffer bytes past the sentence keep their content", whatever is answered
   pub kept : (q : ℕ) (out : List ℕ) → drop (a .length) (drawTo g h a q out .buffer) ≡ drop (a .length) out
   -- "Every q from left to 2^64 - 1 is refused 16." Whatever the buffer.

@@ -2,7 +2,7 @@
 ghost use mathlib.Core.Path.{_≡_};
 ghost use Prim.Native.Nat.{_≤_};
 ghost use lib.ListN.{length};
-ghost use Rattle.sorting.specs.Inner.Sorted.{Sorted};
+ghost use Rattle.sorting.specs.Inner.Sorted.{SortedAs};
 ghost use Rattle.sampling.specs.Answers.{sampleNumber};
 ghost use Rattle.sampling.specs.Question.{asked};
 ghost use Rattle.ranking.specs.Inner.Ranking.{Roomy};
@@ -47,7 +47,7 @@ pub fn refusal_number(r: SampleRefusal) -> u8
 // Numbers of up to 1,000 records into rising order, each once; how many they are. A short history is spared the clearing of much room.
 fn order(numbers: &mut [u64]) -> usize
     requires { ⌜ length (now numbers) ≤ 1000 ⌝ }
-    ensures { λ c. ⌜ Sorted (now (numbers .entry)) (now (numbers .exit)) c ⌝ }
+    ensures { λ c. ⌜ SortedAs (now (numbers .entry)) (now (numbers .exit)) c ⌝ }
 {
     if numbers.len() <= 100 {
         let mut spare = [0u64; 100];

@@ -21,7 +21,7 @@ use Rattle.grammar.specs.Inner.Rules.{wordAt, wordFrom, wordsIn}
 use Rattle.grammar.proofs.Ruling.{word-count, word-here}
 use Rattle.counting.specs.Refusals.{most}
 use Rattle.charts.specs.Inner.Letters.{any, weighed}
-use Rattle.walk.specs.Inner.Steps.{byLetter, HasWord, WordPlace, WordSought, PickedAs, LeafAs}
+use Rattle.walk.specs.Inner.Steps.{byLetter, HasWord, WordPlacedAs, WordSought, PickedAs, LeafAs}
 
 -- ---- letters
 
@@ -102,7 +102,7 @@ module _ {rules : List (List ℕ)} {by to a t : ℕ} (s : WordSought rules by to
       some = ∈-times by words (omega (arith, many, s .ticket));
     }
 
-    pub word-picked : (f : to ≡ any) {i : ℕ} → WordPlace rules by a i → PickedAs rules by to a t by (i - wordFrom rules a) 1 1 0
+    pub word-picked : (f : to ≡ any) {i : ℕ} → WordPlacedAs rules by a i → PickedAs rules by to a t by (i - wordFrom rules a) 1 1 0
     word-picked f {i} h =
         let j = i - wordFrom rules a in
         let inside : j < length words = omega (arith, size, h .from, h .to) in

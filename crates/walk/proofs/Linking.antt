@@ -11,7 +11,7 @@ use Rattle.grammar.specs.Inner.Rules.{wordAt, wordFrom, countIn, wordsIn}
 use Rattle.grammar.specs.Inner.Links.{last, withWord, nextWord, wordOwner}
 use Rattle.grammar.proofs.Ruling.{word-below}
 use Rattle.grammar.proofs.Keyed.{Link, last-le, last-after, link-at, words-rise}
-use Rattle.walk.specs.Inner.Steps.{HasWord, WordPlace}
+use Rattle.walk.specs.Inner.Steps.{HasWord, WordPlacedAs}
 
 -- l leads to the last place below `below` with the word x, and x's place in a is below that, too
 pub record Linking (rules : List (List ℕ)) (x a l : ℕ) : Type 0 where
@@ -19,11 +19,11 @@ pub record Linking (rules : List (List ℕ)) (x a l : ℕ) : Type 0 where
   pub low : below ≤ wordFrom rules (countIn rules)
   pub link : l ≡ last (wordAt rules) x below
   pub place : ℕ
-  pub there : WordPlace rules x a place
+  pub there : WordPlacedAs rules x a place
   pub later : place < below
 
 module _ {rules : List (List ℕ)} {x a : ℕ} (h : HasWord rules x a) where
-  word-place : (i : ℕ) × WordPlace rules x a i
+  word-place : (i : ℕ) × WordPlacedAs rules x a i
   unfolding wordsIn
   word-place =
       let q = Memᴰ·of-map (wordAt rules) _ (h .some) in
@@ -52,7 +52,7 @@ module _ {rules : List (List ℕ)} {x a : ℕ} (h : HasWord rules x a) where
     pub linking-low : l ≤ 255
     linking-low = omega (arith, here .below, w .low, h .table .word-low (countIn rules) (omega arith))
 
-    pub linking-end : {o : ℕ} → o ≡ wordOwner rules l → o ≡ a → WordPlace rules x a (l - 1)
+    pub linking-end : {o : ℕ} → o ≡ wordOwner rules l → o ≡ a → WordPlacedAs rules x a (l - 1)
     linking-end e f =
         let z : wordOwner rules l ≡ a = sym e ∙ f in
         record { from = rw z at (here .owner-from); to = rw z at (here .owner-to); word = here .key-is }

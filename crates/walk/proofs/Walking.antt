@@ -31,7 +31,7 @@ use Rattle.counting.proofs.Choosers as loops
 use Rattle.charts.specs.Inner.Letters.{letterAt, weightBy}
 use Rattle.charts.specs.Inner.Maps.{totalAt, Span, Mapped}
 use Rattle.walk.specs.Inner.Sought.{Sought}
-use Rattle.walk.specs.Inner.Steps.{Placed, Cut, WordSought, LeafAs, HalvesSought, HalvesFound, scaled, Extends, ExtendedTo}
+use Rattle.walk.specs.Inner.Steps.{Placed, Cut, WordSought, LeafAs, HalvesSought, HalvesFoundAs, scaled, Extends, ExtendedAs}
 
 -- ---- a cut of a known span
 
@@ -272,7 +272,7 @@ module _ {rules totals choice measure : List (List ℕ)} {a p m t b c k before l
 module _ {rules choice measure : List (List ℕ)} {a p m t b c k before left : ℕ} where
   pub halves-owned : {words : List ℕ} {place measured weight offset : ℕ}
       → ChosenAs (ruled rules) (weightBy rules choice) (weightBy rules measure) a p m t b c k before left
-      → HalvesFound rules choice measure p m b c k before left words place measured weight offset
+      → HalvesFoundAs rules choice measure p m b c k before left words place measured weight offset
       → OwnedAs (ruled rules) (weightBy rules choice) (weightBy rules measure) a p m t words place measured weight offset
   halves-owned q h = rw (h .place-is) (walks.chosen-owned q (h .owned))
 
@@ -369,7 +369,7 @@ module _ {rules totals choice measure : List (List ℕ)} {a p m b c k before lef
           both-owned = rw rest-is (walks.halves-owned inside left-owned (rw (f′, rest-is) at r))
 
           pub halves-found : {z : ℕ} → z ≡ totalAt totals measure (p + k) c (m - k)
-              → HalvesFound rules choice measure p m b c k before left (words ++ words′) (before + n * z + measured * n′) (measured * measured′) (w * w′) (o′ * w + x % w)
+              → HalvesFoundAs rules choice measure p m b c k before left (words ++ words′) (before + n * z + measured * n′) (measured * measured′) (w * w′) (o′ * w + x % w)
           halves-found e′ =
               record {
                 inner = n * total (ruled rules) to (p + k) c (m - k) + measured * n′;
@@ -411,15 +411,15 @@ module _ (rules totals choice measure : List (List ℕ)) (p m b c k before left 
   pub record Along (done : List ℕ) (a p′ m′ b′ c′ k′ before′ left′ P M W O : ℕ) : Type 0 where
     pub sought : HalvesSought rules totals choice measure a p′ m′ b′ c′ k′ before′ left′
     pub room : Room rules choice measure a p′ m′ P M W O
-    pub found : {words : List ℕ} {n u w o : ℕ} → HalvesFound rules choice measure p′ m′ b′ c′ k′ before′ left′ words n u w o
-        → HalvesFound rules choice measure p m b c k before left (done ++ words) (P + M * n) (M * u) (W * w) (O + W * o)
+    pub found : {words : List ℕ} {n u w o : ℕ} → HalvesFoundAs rules choice measure p′ m′ b′ c′ k′ before′ left′ words n u w o
+        → HalvesFoundAs rules choice measure p m b c k before left (done ++ words) (P + M * n) (M * u) (W * w) (O + W * o)
 
   -- the same of a right half and its ticket
   pub record Behind (done : List ℕ) (a p′ m′ t P M W O : ℕ) : Type 0 where
     pub sought : Sought rules totals choice measure a p′ m′ t
     pub room : Room rules choice measure a p′ m′ P M W O
     pub found : {words : List ℕ} {n u w o : ℕ} → OwnedAs (ruled rules) (weightBy rules choice) (weightBy rules measure) a p′ m′ t words n u w o
-        → HalvesFound rules choice measure p m b c k before left (done ++ words) (P + M * n) (M * u) (W * w) (O + W * o)
+        → HalvesFoundAs rules choice measure p m b c k before left (done ++ words) (P + M * n) (M * u) (W * w) (O + W * o)
 
 pub along-start : {rules totals choice measure : List (List ℕ)} {a p m b c k before left : ℕ} → HalvesSought rules totals choice measure a p m b c k before left
     → Along rules totals choice measure p m b c k before left [] a p m b c k before left 0 1 1 0
@@ -493,7 +493,7 @@ module _
       }
 
   -- then the right half is sought
-  module _ {P′ M′ W′ O′ t : ℕ} (e : ExtendedTo P M W O before′ n u w z x P′ M′ W′ O′) (et : t ≡ x / w) where
+  module _ {P′ M′ W′ O′ t : ℕ} (e : ExtendedAs P M W O before′ n u w z x P′ M′ W′ O′) (et : t ≡ x / w) where
     right-room : Room rules choice measure c′ (p′ + k′) (m′ - k′) P′ M′ W′ O′
     right-room =
         record {
@@ -503,7 +503,7 @@ module _
         }
 
     right-found : {words′ : List ℕ} {n′ u′ w′ o′ : ℕ} → OwnedAs (ruled rules) (weightBy rules choice) (weightBy rules measure) c′ (p′ + k′) (m′ - k′) t words′ n′ u′ w′ o′
-        → HalvesFound rules choice measure p m b c k before left ((done ++ words) ++ words′) (P′ + M′ * n′) (M′ * u′) (W′ * w′) (O′ + W′ * o′)
+        → HalvesFoundAs rules choice measure p m b c k before left ((done ++ words) ++ words′) (P′ + M′ * n′) (M′ * u′) (W′ * w′) (O′ + W′ * o′)
     right-found {words′} {n′} {u′} {w′} {o′} r =
         let low : n′ + u′ ≤ z = rw (to-is s ez) (omega (arith, place-inside (r .owns), r .measure-is, total-sum (ruled rules) (weightBy rules measure) (p′ + k′) c′ (m′ - k′))) in
         let ep : P′ + M′ * n′ ≡ P + M * (before′ + n * z + u * n′) = rw (e .place-is, e .measured-is) (omega (arith, scaled-times M u z n′ (omega arith))) in
@@ -544,7 +544,7 @@ module _
           some = some;
         }
 
-    pub found-last : {P′ M′ W′ O′ : ℕ} → ExtendedTo P M W O 0 n u w 1 o P′ M′ W′ O′ → HalvesFound rules choice measure p m b c k before left (done ++ words) P′ M′ W′ O′
+    pub found-last : {P′ M′ W′ O′ : ℕ} → ExtendedAs P M W O 0 n u w 1 o P′ M′ W′ O′ → HalvesFoundAs rules choice measure p m b c k before left (done ++ words) P′ M′ W′ O′
     found-last {P′} {M′} {W′} {O′} e =
         let ep : P′ ≡ P + M * n = omega (arith, e .place-is) in
         let eo : O′ ≡ O + W * o = e .offset-is ∙ rw (mod-eq-of-lt (walks.owned-some r)) refl in

@@ -3,7 +3,7 @@ ghost use mathlib.Core.Path.{_≡_};
 ghost use Prim.Native.Nat.{_≤_, _<_};
 ghost use lib.ListN.{length};
 ghost use Rattle.charts.specs.Inner.Letters.{letterAt};
-ghost use Rattle.walk.specs.Inner.Steps.{byLetter, HasWord, WordPlace, WordSought, PickedAs, LeafAs};
+ghost use Rattle.walk.specs.Inner.Steps.{byLetter, HasWord, WordPlacedAs, WordSought, PickedAs, LeafAs};
 use crate::Found;
 use charts::maps::ANY;
 use charts::maps::LETTERS;
@@ -41,7 +41,7 @@ fn word_weight(rules: &[[u8; 256]], letter: u16, w: u8) -> u64
 // The place of the word x among the words of a, which has it: along the links of x.
 fn place_of(rules: &[[u8; 256]], x: usize, a: usize) -> usize
     requires { ⌜ HasWord (now rules) x a ⌝ }
-    ensures { λ r. ⌜ WordPlace (now (rules .entry)) x a r ⌝ }
+    ensures { λ r. ⌜ WordPlacedAs (now (rules .entry)) x a r ⌝ }
 {
     let mut l = rules::link_at(rules, WITH_WORD, x);
     while rules::link_at(rules, WORD_OWNER, l) != a {

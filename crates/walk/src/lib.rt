@@ -9,7 +9,7 @@ ghost use Rattle.counting.specs.Refusals.{most};
 ghost use Rattle.counting.specs.Inner.Owned.{OwnedAs};
 ghost use Rattle.charts.specs.Inner.Letters.{weightBy};
 ghost use Rattle.walk.specs.Inner.Sought.{Sought};
-ghost use Rattle.walk.specs.Inner.Steps.{HalvesSought, HalvesFound, scaled, Extends, ExtendedTo};
+ghost use Rattle.walk.specs.Inner.Steps.{HalvesSought, HalvesFoundAs, scaled, Extends, ExtendedAs};
 use crate::leaf::leaf;
 use crate::nodes::Node;
 use crate::nodes::total;
@@ -94,7 +94,7 @@ fn times(a: u64, b: u64, after: u64) -> u64
 // ticket.
 fn extend(found: Found, before: u64, part: Found, after: u64, x: u64) -> Found
     requires { ⌜ Extends (found .place) (found .measured) (found .weight) (found .offset) before (part .place) (part .measured) (part .weight) after x ⌝ }
-    ensures { λ r. ⌜ ExtendedTo (found .place) (found .measured) (found .weight) (found .offset) before (part .place) (part .measured) (part .weight) after x (r .place) (r .measured) (r .weight) (r .offset) ⌝ }
+    ensures { λ r. ⌜ ExtendedAs (found .place) (found .measured) (found .weight) (found .offset) before (part .place) (part .measured) (part .weight) after x (r .place) (r .measured) (r .weight) (r .offset) ⌝ }
 {
     Found {
         place: found.place + found.measured * (before + part.place * after),
@@ -116,7 +116,7 @@ fn halves(
     out: &mut [u8],
 ) -> Found
     requires { ⌜ HalvesSought (now rules) (now totals) (now choice) (now measure) (node .a) (node .p) (node .m) (pick .b) (pick .c) (pick .k) (pick .before) (pick .left) × (length (now out) ≡ node .m) ⌝ }
-    ensures { λ r. ⌜ HalvesFound (now (rules .entry)) (now (choice .entry)) (now (measure .entry)) (node .p) (node .m) (pick .b) (pick .c) (pick .k) (pick .before) (pick .left) (now (out .exit)) (r .place) (r .measured) (r .weight) (r .offset) ⌝ }
+    ensures { λ r. ⌜ HalvesFoundAs (now (rules .entry)) (now (choice .entry)) (now (measure .entry)) (node .p) (node .m) (pick .b) (pick .c) (pick .k) (pick .before) (pick .left) (now (out .exit)) (r .place) (r .measured) (r .weight) (r .offset) ⌝ }
 {
     let mut here = node;
     let mut chosen = pick;

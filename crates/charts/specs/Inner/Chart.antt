@@ -40,6 +40,6 @@ pub record Filled (rules plan map : List (List ℕ)) (n : ℕ) (before after : L
   pub mapped : Mapped rules after map n (needed plan)
 
 -- what filling promises: the chart, and its sets beside the rows
-pub record Charted (rules plan map : List (List ℕ)) (n : ℕ) (totals : List (List ℕ)) (sets′ : List ℕ) (totals′ : List (List ℕ)) : Type 0 where
+pub record ChartedAs (rules plan map : List (List ℕ)) (n : ℕ) (totals : List (List ℕ)) (sets′ : List ℕ) (totals′ : List (List ℕ)) : Type 0 where
   pub filled : Filled rules plan map n totals totals′
   pub clean : Clean n sets′ totals′

@@ -71,8 +71,8 @@ pub record Growing (row count : ℕ) (f : ℕ → ℕ) (before now : List (List 
   pub covers : (A : ℕ) → A < 32 → member set A ≡ false → entry now row A ≡ entry before row A
 
 -- it has grown
-abbrev pub Grown : (row count : ℕ) (f : ℕ → ℕ) (before after : List (List ℕ)) (set : ℕ) → Type 0
-Grown row count f before after set = Growing row count f before after (λ A. 0) set
+abbrev pub GrownAs : (row count : ℕ) (f : ℕ → ℕ) (before after : List (List ℕ)) (set : ℕ) → Type 0
+GrownAs row count f before after set = Growing row count f before after (λ A. 0) set
 
 -- what growing by f asks
 pub record Adds (rules totals : List (List ℕ)) (row : ℕ) (f : ℕ → ℕ) : Type 0 where
@@ -135,7 +135,7 @@ pub record AddsSplit (rules plan : List (List ℕ)) (wanted row left right : ℕ
 -- ---- a row that is made
 
 -- the row holds f below `count`, and is 0 outside the set; no other row has changed
-pub record Made (row count : ℕ) (f : ℕ → ℕ) (before after : List (List ℕ)) (set : ℕ) : Type 0 where
+pub record MadeAs (row count : ℕ) (f : ℕ → ℕ) (before after : List (List ℕ)) (set : ℕ) : Type 0 where
   pub long : length after ≡ length before
   pub wide : Wide after 32
   pub here : (A : ℕ) → A < count → entry after row A ≡ f A
@@ -185,8 +185,8 @@ abbrev pub spanSum : (rules plan map totals : List (List ℕ)) (p m A : ℕ) →
 spanSum rules plan map totals p m A = cond (eqb m 1) (leafSum rules map p A) (only (wanted plan m) A (cutsSum rules plan map totals p m A))
 
 -- it is made, and its set beside it
-pub record Spanned (rules plan map : List (List ℕ)) (p m : ℕ) (sets : List ℕ) (totals : List (List ℕ)) (sets′ : List ℕ) (totals′ : List (List ℕ)) : Type 0 where
-  pub made : Made (rowAt map p m) (countIn rules) (spanSum rules plan map totals p m) totals totals′ (getD sets′ (rowAt map p m) 0)
+pub record SpannedAs (rules plan map : List (List ℕ)) (p m : ℕ) (sets : List ℕ) (totals : List (List ℕ)) (sets′ : List ℕ) (totals′ : List (List ℕ)) : Type 0 where
+  pub made : MadeAs (rowAt map p m) (countIn rules) (spanSum rules plan map totals p m) totals totals′ (getD sets′ (rowAt map p m) 0)
   pub long : length sets′ ≡ length sets
   pub others : (r : ℕ) → (r ≡ rowAt map p m → ⊥) → getD sets′ r 0 ≡ getD sets r 0
 
@@ -209,7 +209,7 @@ pub record Lengthens (rules plan map : List (List ℕ)) (n m : ℕ) (sets : List
   pub filled : FilledTo rules plan map n m (spots plan m) sets totals
 
 -- they are filled but for those at the positions in `left`; the rows below the chart are as they were
-pub record Lengthened (rules plan map : List (List ℕ)) (n m left : ℕ) (sets : List ℕ) (totals : List (List ℕ)) (sets′ : List ℕ) (totals′ : List (List ℕ))
+pub record LengthenedAs (rules plan map : List (List ℕ)) (n m left : ℕ) (sets : List ℕ) (totals : List (List ℕ)) (sets′ : List ℕ) (totals′ : List (List ℕ))
     : Type 0 where
   pub filled : FilledTo rules plan map n m left sets′ totals′
   pub sets-long : length sets′ ≡ length sets

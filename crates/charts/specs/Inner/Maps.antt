@@ -59,7 +59,7 @@ abbrev pub plainMap : List (List ℕ)
 plainMap = sixteen any ∷ rowsFrom 1 16
 
 -- the map with a sentence's words as letters, below 256 each; the rows of spans are as they were
-pub record Spelt (sentence : List ℕ) (before after : List (List ℕ)) : Type 0 where
+pub record SpeltAs (sentence : List ℕ) (before after : List (List ℕ)) : Type 0 where
   pub long : length after ≡ 17
   pub wide : Wide after 16
   pub letters : (p : ℕ) → p < length sentence → letterAt after p ≡ getD sentence p 0

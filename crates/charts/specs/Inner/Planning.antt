@@ -23,7 +23,7 @@ pub record Sides (rules : List (List ℕ)) (end : ℕ) (row : List ℕ) : Type 0
   pub long : length row ≡ 32
 
 -- the first `end` pair rules: the right nonterminals of each left one, all the left ones, and all the right ones
-pub record Sided (rules : List (List ℕ)) (end : ℕ) (row : List ℕ) (lefts rights : ℕ) : Type 0 where
+pub record SidedAs (rules : List (List ℕ)) (end : ℕ) (row : List ℕ) (lefts rights : ℕ) : Type 0 where
   pub long : length row ≡ 32
   pub pair : (i : ℕ) → i < end → member (at row (leftAt rules i)) (rightAt rules i) ≡ true
   pub left : (i : ℕ) → i < end → member lefts (leftAt rules i) ≡ true
@@ -32,26 +32,26 @@ pub record Sided (rules : List (List ℕ)) (end : ℕ) (row : List ℕ) (lefts r
 -- ---- the nonterminals with a derivation
 
 -- of the length m, among the first N
-pub record Wants (totals : List (List ℕ)) (N m s : ℕ) : Type 0 where
+pub record WantedAs (totals : List (List ℕ)) (N m s : ℕ) : Type 0 where
   pub has : (A : ℕ) → A < N → 1 ≤ entry totals m A → member s A ≡ true
   pub only : (A : ℕ) → A < 32 → member s A ≡ true → A < N
 
 -- of each length up to n
-pub record Wanted (totals : List (List ℕ)) (N n : ℕ) (row : List ℕ) : Type 0 where
+pub record AllWantedAs (totals : List (List ℕ)) (N n : ℕ) (row : List ℕ) : Type 0 where
   pub long : length row ≡ 32
-  pub each : (m : ℕ) → 1 ≤ m → m ≤ n → Wants totals N m (at row m)
+  pub each : (m : ℕ) → 1 ≤ m → m ≤ n → WantedAs totals N m (at row m)
 
 -- ---- left lengths
 
 -- of the length m: those where both halves' lengths have some nonterminal, and none outside
-pub record Cuts (wanted : List ℕ) (lefts rights m s : ℕ) : Type 0 where
+pub record CutAs (wanted : List ℕ) (lefts rights m s : ℕ) : Type 0 where
   pub has : (B C k : ℕ) → 1 ≤ k → k < m → member lefts B ≡ true → member (at wanted k) B ≡ true → member rights C ≡ true
       → member (at wanted (m - k)) C ≡ true → member s k ≡ true
   pub only : (k : ℕ) → k < 32 → member s k ≡ true → (1 ≤ k) × (k < m)
 
-pub record Cutting (wanted : List ℕ) (lefts rights n : ℕ) (row : List ℕ) : Type 0 where
+pub record AllCutAs (wanted : List ℕ) (lefts rights n : ℕ) (row : List ℕ) : Type 0 where
   pub long : length row ≡ 32
-  pub each : (m : ℕ) → 1 ≤ m → m ≤ n → Cuts wanted lefts rights m (at row m)
+  pub each : (m : ℕ) → 1 ≤ m → m ≤ n → CutAs wanted lefts rights m (at row m)
 
 -- ---- needed spans
 
@@ -71,7 +71,7 @@ pub record Spreads (s m : ℕ) (row : List ℕ) : Type 0 where
   pub low : (p : ℕ) → p < 32 → member (at row m) p ≡ true → p ≤ 16
 
 -- no span is lost, and those of m positions or more are as they were
-pub record Spread (s m : ℕ) (before after : List ℕ) : Type 0 where
+pub record SpreadAs (s m : ℕ) (before after : List ℕ) : Type 0 where
   pub long : length after ≡ 32
   pub more : (p j : ℕ) → member (at before j) p ≡ true → member (at after j) p ≡ true
   pub same : (j : ℕ) → m ≤ j → at after j ≡ at before j
@@ -87,7 +87,7 @@ pub record Spots (cuts : List ℕ) (n : ℕ) (row : List ℕ) : Type 0 where
   pub none : (i : ℕ) → at row i ≡ 0
 
 -- the whole, and with a span of `least` positions or more its halves
-pub record Spotted (cuts : List ℕ) (n least : ℕ) (row : List ℕ) : Type 0 where
+pub record SpottedAs (cuts : List ℕ) (n least : ℕ) (row : List ℕ) : Type 0 where
   pub long : length row ≡ 32
   pub whole : member (at row n) 0 ≡ true
   pub halves : (p m k : ℕ) → least ≤ m → m ≤ n → p < 32 → k < 32 → member (at cuts m) k ≡ true → member (at row m) p ≡ true → Halves row p m k
@@ -104,12 +104,12 @@ abbrev pub baseOf : (n m : ℕ) → ℕ
 baseOf n m = chartRow + (spansOf n - spansOf (n + 1 - m))
 
 -- the rows of the first `end` spans of a length
-pub record Rows (spots base end : ℕ) (row : List ℕ) : Type 0 where
+pub record RowAs (spots base end : ℕ) (row : List ℕ) : Type 0 where
   pub long : length row ≡ 16
   pub each : (p : ℕ) → p < end → getD row p 0 ≡ rowFrom spots base p
 
 -- the rows of the spans of fewer than m positions; the letters are as they were
-pub record Placed (spots : List ℕ) (n m : ℕ) (before after : List (List ℕ)) : Type 0 where
+pub record PlacedAs (spots : List ℕ) (n m : ℕ) (before after : List (List ℕ)) : Type 0 where
   pub long : length after ≡ 17
   pub wide : Wide after 16
   pub letters : getD after 0 [] ≡ getD before 0 []
@@ -125,7 +125,7 @@ pub record Plans (rules totals : List (List ℕ)) (n : ℕ) (plan map : List (Li
   pub map-wide : Wide map 16
 
 -- what it promises: the plan, the map's rows, and its letters as they were
-pub record Built (rules : List (List ℕ)) (n : ℕ) (before plan map : List (List ℕ)) : Type 0 where
+pub record BuiltAs (rules : List (List ℕ)) (n : ℕ) (before plan map : List (List ℕ)) : Type 0 where
   pub planned : Planned rules plan map n
   pub letters : getD map 0 [] ≡ getD before 0 []
   pub map-long : length map ≡ 17

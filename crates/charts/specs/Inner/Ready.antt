@@ -26,6 +26,6 @@ pub record Readies (rules totals : List (List ℕ)) (n : ℕ) (plan map : List (
   pub map-wide : Wide map 16
 
 -- what it leaves: that, and the same rules
-pub record Readied (rules after plan map totals : List (List ℕ)) (n : ℕ) : Type 0 where
+pub record ReadiedAs (rules after plan map totals : List (List ℕ)) (n : ℕ) : Type 0 where
   pub ready : Ready after plan map totals n
   pub kept : (r : ℕ) → r < 4 → getD after r [] ≡ getD rules r []

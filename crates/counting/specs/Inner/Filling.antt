@@ -17,9 +17,9 @@ use Rattle.counting.specs.declared.tallies.Tally.{Tally}
 use Rattle.counting.specs.declared.tallies.Tally.the-variants.{Fits, Over}
 
 -- a number, or that it is above 2^64 - 1
-abbrev pub Says : ℕ → Tally → Type 0
-Says n (Fits v) = v ≡ n
-Says n Over = most < n
+abbrev pub TalliedAs : ℕ → Tally → Type 0
+TalliedAs n (Fits v) = v ≡ n
+TalliedAs n Over = most < n
 
 -- ---- the whole table
 
@@ -32,7 +32,7 @@ pub record Filling (rules : List (List ℕ)) (n : ℕ) (totals : List (List ℕ)
   pub wide : Wide totals 32
 
 -- what it promises: whether all counts fit, and then the counts; the rows from 17 on stay
-pub record Filled (rules : List (List ℕ)) (n : ℕ) (before after : List (List ℕ)) (fits : Bool) : Type 0 where
+pub record FilledAs (rules : List (List ℕ)) (n : ℕ) (before after : List (List ℕ)) (fits : Bool) : Type 0 where
   pub says : fits ≡ not (overflows (ruled rules) (λ p w. 1) (countIn rules) n)
   pub counted : fits ≡ true → Counted rules after n
   pub long : length after ≡ length before
@@ -96,7 +96,7 @@ pub record RowFilling (rules totals : List (List ℕ)) (m : ℕ) : Type 0 where
   pub rows : RowTo rules totals m 0
 
 -- what it promises: whether all its counts fit, and then the row
-pub record RowFilled (rules before after : List (List ℕ)) (m : ℕ) (fits : Bool) : Type 0 where
+pub record RowFilledAs (rules before after : List (List ℕ)) (m : ℕ) (fits : Bool) : Type 0 where
   pub says : fits ≡ not (rowTooLarge rules m)
   pub row : fits ≡ true → RowTo rules after m (countIn rules)
   pub kept : Kept 17 32 before after

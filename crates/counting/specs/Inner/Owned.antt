@@ -21,8 +21,8 @@ module _ (rules : ℕ → List Rule) where
   halvesTotal v B C p m k = total rules v p B k * total rules v (p + k) C (m - k)
 
   -- those of all left lengths
-  abbrev pub ruleOf : (B C m : ℕ) → List (List ℕ)
-  ruleOf B C m = splitList (sentences rules) B C 1 (m - 1)
+  abbrev pub ruleSentences : (B C m : ℕ) → List (List ℕ)
+  ruleSentences B C m = splitList (sentences rules) B C 1 (m - 1)
 
 -- `left` is a ticket of two halves
 pub record InHalves (rules : ℕ → List Rule) (v : ℕ → ℕ → ℕ) (B C p m k left : ℕ) : Type 0 where

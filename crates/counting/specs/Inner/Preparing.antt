@@ -29,7 +29,7 @@ pub record Opened (g : List ℕ) (n : ℕ) (rules : List (List ℕ)) : Type 0 wh
   pub short : n ≤ 16
 
 -- what opening a grammar with a length answers: the refusal, or the rules; the rows from 4 on stay
-pub record Opens (g : List ℕ) (n : ℕ) (before after : List (List ℕ)) (r : Prepared) : Type 0 where
+pub record OpenedAs (g : List ℕ) (n : ℕ) (before after : List (List ℕ)) (r : Prepared) : Type 0 where
   pub refusal : preparedNumber r ≡ firstThatApplies (openRows g n)
   pub ready : r ≡ Ready → Opened g n after
   pub kept : Kept 4 256 before after
@@ -49,7 +49,7 @@ pub record Tabled (g : List ℕ) (n : ℕ) (rules totals : List (List ℕ)) : Ty
   pub counted : Counted rules totals n
 
 -- what preparing a grammar and a length answers: the refusal, or the tables; the rows that are not theirs stay
-pub record Prepares (g : List ℕ) (n : ℕ) (rules₀ rules totals₀ totals : List (List ℕ)) (r : Prepared) : Type 0 where
+pub record PreparedAs (g : List ℕ) (n : ℕ) (rules₀ rules totals₀ totals : List (List ℕ)) (r : Prepared) : Type 0 where
   pub refusal : preparedNumber r ≡ firstThatApplies (preparedRows g n)
   pub ready : r ≡ Ready → Tabled g n rules totals
   pub rules-kept : Kept 4 256 rules₀ rules

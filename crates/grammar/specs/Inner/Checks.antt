@@ -29,7 +29,7 @@ pub record Readable (g : List ℕ) : Type 0 where
 -- ---- 4, and 5 of the nexts
 
 -- whether some rule does not fit, and if all fit, whether some next is above R
-pub record Finds (g : List ℕ) (rule link : Bool) : Type 0 where
+pub record FoundAs (g : List ℕ) (rule link : Bool) : Type 0 where
   pub bad : rule ≡ badRule g
   pub far : rule ≡ false → link ≡ someTo (nextAbove g) (rules g)
 
@@ -61,7 +61,7 @@ pub record Stamping (pairs : Bool) (rules : List (List ℕ)) (a stamp : ℕ) (st
   pub fresh : (q : ℕ) → getD stamps q 0 < stamp
 
 -- after it: whether two of them are the same, and there is no later stamp
-pub record Stamped (pairs : Bool) (rules : List (List ℕ)) (a stamp : ℕ) (stamps : List ℕ) (found : Bool) : Type 0 where
+pub record StampedAs (pairs : Bool) (rules : List (List ℕ)) (a stamp : ℕ) (stamps : List ℕ) (found : Bool) : Type 0 where
   pub same : found ≡ repeats (entries pairs rules a)
   pub long : length stamps ≡ 1024
   pub used : (q : ℕ) → getD stamps q 0 ≤ stamp

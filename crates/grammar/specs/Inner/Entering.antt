@@ -52,7 +52,7 @@ abbrev pub Kept : (old new : List (List ℕ)) → Type 0
 Kept old new = tables.Kept 4 256 old new
 
 -- before any chain is walked
-pub record Prepares (g : List ℕ) (old new : List (List ℕ)) : Type 0 where
+pub record PreparedAs (g : List ℕ) (old new : List (List ℕ)) : Type 0 where
   pub entered : Entered g new [] 0
   pub kept : Kept old new
 
@@ -68,7 +68,7 @@ pub record Entering (g seen : List ℕ) (rules : List (List ℕ)) (a : ℕ) : Ty
   pub walked : Walked g seen rules a
 
 -- what it answers: whether a rule is met a second time; if none is, the chain of a is walked too
-pub record Enters (g seen : List ℕ) (old new : List (List ℕ)) (a : ℕ) (again : Bool) : Type 0 where
+pub record EnteredAs (g seen : List ℕ) (old new : List (List ℕ)) (a : ℕ) (again : Bool) : Type 0 where
   pub kept : Kept old new
   pub twice : again ≡ true → metTwice g ≡ true
   pub walked : again ≡ false → Walked g seen new (a + 1)
@@ -89,7 +89,7 @@ pub record Sorted (g : List ℕ) (rules : List (List ℕ)) : Type 0 where
   pub pairs-are : (a : ℕ) → a < nonterminals g → pairsIn rules a ≡ pairsOf (chain g a)
 
 -- what walking all chains answers: whether a rule is met a second time; if none is, the table has as many rules as are met
-pub record Builds (g : List ℕ) (old new : List (List ℕ)) (again : Bool) : Type 0 where
+pub record BuiltAs (g : List ℕ) (old new : List (List ℕ)) (again : Bool) : Type 0 where
   pub kept : Kept old new
   pub says : again ≡ metTwice g
   pub sorted : again ≡ false → Sorted g new

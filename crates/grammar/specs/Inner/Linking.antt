@@ -30,6 +30,6 @@ pub record LinksPairs (rules : List (List ℕ)) (a : ℕ) : Type 0 where
   pub linked : LinkedTo rules (wordFrom rules (a + 1)) (pairFrom rules a)
 
 -- after it: the rules below the places i and j are linked
-pub record LinkedMore (old new : List (List ℕ)) (i j : ℕ) : Type 0 where
+pub record LinkedMoreAs (old new : List (List ℕ)) (i j : ℕ) : Type 0 where
   pub linked : LinkedTo new i j
   pub beside : Beside old new

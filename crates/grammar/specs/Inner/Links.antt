@@ -68,7 +68,7 @@ pub record Unlinked (rules : List (List ℕ)) : Type 0 where
   pub no-pairs : (x : ℕ) → x < 1024 → withPair rules x ≡ 0
 
 -- and what it leaves: the links, with all that was there besides
-pub record Links (before after : List (List ℕ)) : Type 0 where
+pub record LinkedAs (before after : List (List ℕ)) : Type 0 where
   pub long : length after ≡ length before
   pub table : Ruled after
   pub linked : Linked after

@@ -15,7 +15,7 @@ pub record Sized (h : List ℕ) (k : ℕ) : Type 0 where
   pub size : 4 + 20 * k ≤ length h
 
 -- `bad` is whether 12 applies, and where it doesn't, `far` is whether 13 does
-pub record Tested (h : List ℕ) (bad far : Bool) : Type 0 where
+pub record TestedAs (h : List ℕ) (bad far : Bool) : Type 0 where
   pub records : bad ≡ badRecord h
   pub links : bad ≡ false → far ≡ badLink h
 

@@ -6,7 +6,7 @@ use mathlib.Core.Bool.{Bool, cond}
 use mathlib.Core.List.{List, []}
 use Prim.Native.Nat.{ℕ}
 use Rattle.lists.specs.Searched.{within}
-use Rattle.history.specs.Layout.{recordsOf, nextOf, wordsOf}
+use Rattle.history.specs.Layout.{recordsOf, nextOf, recordWords}
 
 -- `at` is the number of a record
 abbrev pub isRecord : (h : List ℕ) (at : ℕ) → Bool
@@ -14,7 +14,7 @@ isRecord h at = within 1 (recordsOf h) at
 
 -- the record's sentence, of 1 to 16 words; none at the end
 abbrev pub sentenceAt : (h : List ℕ) (at : ℕ) → List ℕ
-sentenceAt h at = cond (isRecord h at) (wordsOf h at) []
+sentenceAt h at = cond (isRecord h at) (recordWords h at) []
 
 -- the number of the record after it; 0 at the end
 abbrev pub nextAt : (h : List ℕ) (at : ℕ) → ℕ

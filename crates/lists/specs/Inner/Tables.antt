@@ -24,7 +24,7 @@ pub record Kept (first width : ℕ) (before after : List (List ℕ)) : Type 0 wh
   pub rest : (r : ℕ) → first ≤ r → getD after r [] ≡ getD before r []
 
 -- the first n rows of `from` are now those of a table, and its others as they were
-pub record Copied (n : ℕ) (from before after : List (List ℕ)) : Type 0 where
+pub record CopiedAs (n : ℕ) (from before after : List (List ℕ)) : Type 0 where
   pub long : length after ≡ length before
   pub rows : (r : ℕ) → r < n → getD after r [] ≡ getD from r []
   pub rest : (r : ℕ) → n ≤ r → getD after r [] ≡ getD before r []

@@ -18,7 +18,7 @@ use Rattle.ranking.specs.Answers.{fullList}
 use Rattle.ranking.specs.Inner.Inside.{readingsIn, numberIn}
 use Rattle.history.specs.Layout.{recordsOf}
 use Rattle.history.specs.Refusals.{Accepted}
-use Rattle.history.specs.Heard.{sentences}
+use Rattle.history.specs.Heard.{sentencesIn}
 use Rattle.sampling.specs.Question.{Question}
 use Rattle.sampling.specs.Unheard.{outside, ofLength}
 use Rattle.ranking.specs.declared.rank.Found.{Found}
@@ -44,7 +44,7 @@ ambiguousIn rules h n = someOf (λ s. leb 2 (readingsIn rules s)) (ofLength n h)
 
 -- ---- one sentence
 
--- the tables for sentences of the plan's length
+-- the tables for sentencesIn of the plan's length
 pub record Tells (rules plan map counts : List (List ℕ)) (sets : List ℕ) (totals : List (List ℕ)) : Type 0 where
   pub ready : Ready rules plan map totals (lengthIn plan)
   pub everywhere : Everywhere counts
@@ -61,7 +61,7 @@ pub record ToldAs (rules plan map : List (List ℕ)) (s sets : List ℕ) (totals
   pub ready : Ready rules plan map totals (lengthIn plan)
   pub clean : Clean (lengthIn plan) sets totals
 
--- ---- all sentences
+-- ---- all sentencesIn
 
 pub record Collects (rules plan map counts : List (List ℕ)) (h : List ℕ) (totals : List (List ℕ)) (numbers : List ℕ) : Type 0 where
   pub ready : Ready rules plan map totals (lengthIn plan)
@@ -72,7 +72,7 @@ pub record Collects (rules plan map counts : List (List ℕ)) (h : List ℕ) (to
 
 -- the numbers along the chain, or that a sentence has two or more derivations
 abbrev pub Holds : (rules : List (List ℕ)) (h : List ℕ) (n : ℕ) (numbers : List ℕ) → Collected → Type 0
-Holds rules h n numbers (Numbers k) = (ambiguousIn rules h n ≡ false) × (k ≤ recordsOf h) × (take k numbers ≡ concatMap (numbersIn rules n) (sentences h))
+Holds rules h n numbers (Numbers k) = (ambiguousIn rules h n ≡ false) × (k ≤ recordsOf h) × (take k numbers ≡ concatMap (numbersIn rules n) (sentencesIn h))
 Holds rules h n numbers Ambiguous = ambiguousIn rules h n ≡ true
 
 pub record CollectedAs (rules plan : List (List ℕ)) (h : List ℕ) (numbers : List ℕ) (c : Collected) : Type 0 where

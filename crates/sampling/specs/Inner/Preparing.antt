@@ -15,7 +15,7 @@ use Rattle.counting.specs.Inner.Preparing as tables
 use Rattle.counting.specs.Inner.Preparing.{Tabled}
 use Rattle.history.specs.Layout.{recordsOf}
 use Rattle.history.specs.Refusals.{historyRows, Accepted}
-use Rattle.history.specs.Heard.{sentences}
+use Rattle.history.specs.Heard.{sentencesIn}
 use Rattle.sampling.specs.Question.{Question}
 use Rattle.sampling.specs.Inner.Hearing.{barred, numbersIn, ambiguousIn}
 use Rattle.sampling.specs.Unheard.{ambiguous}
@@ -40,11 +40,11 @@ pub record Hears (rules plain : List (List ℕ)) (h : List ℕ) (n : ℕ) (numbe
   pub diary : Accepted h
   pub room : recordsOf h ≤ length numbers
 
--- the numbers of a history's sentences, rising, each once
+-- the numbers of a history's sentencesIn, rising, each once
 pub record Heard (rules : List (List ℕ)) (h : List ℕ) (n : ℕ) (heard : List ℕ) : Type 0 where
   pub clear : ambiguousIn rules h n ≡ false
   pub rising : Pairwise _<_ heard
-  pub just : (d : ℕ) → (d ∈ heard) ↔ (d ∈ concatMap (numbersIn rules n) (sentences h))
+  pub just : (d : ℕ) → (d ∈ heard) ↔ (d ∈ concatMap (numbersIn rules n) (sentencesIn h))
 
 -- these; or that line 15 applies
 abbrev pub Hold : (rules : List (List ℕ)) (h : List ℕ) (n : ℕ) (numbers : List ℕ) → Sampled → Type 0

@@ -15,7 +15,7 @@ use Rattle.charts.specs.Inner.Letters.{any, weighed, letterAt, weightBy}
 use Rattle.charts.specs.Inner.Maps.{Span, Closed, Mapped}
 
 -- what every step has at hand: the counts up to n, and the totals of choice and measure over the known spans of n positions
-pub record Hand (rules totals choice measure : List (List ℕ)) (n : ℕ) : Type 0 where
+pub record WalkTables (rules totals choice measure : List (List ℕ)) (n : ℕ) : Type 0 where
   pub counted : Counted rules totals n
   pub known : ℕ → ℕ → Bool
   pub closed : Closed rules n known
@@ -29,7 +29,7 @@ pub record Hand (rules totals choice measure : List (List ℕ)) (n : ℕ) : Type
 -- a ticket of the nonterminal a over the m positions from p on
 pub record Sought (rules totals choice measure : List (List ℕ)) (a p m t : ℕ) : Type 0 where
   pub n : ℕ
-  pub hand : Hand rules totals choice measure n
+  pub hand : WalkTables rules totals choice measure n
   pub asked : Asked rules n a m
   pub span : Span n p m
   pub known : hand .known p m ≡ true

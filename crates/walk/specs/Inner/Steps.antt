@@ -48,7 +48,7 @@ pub record HasWord (rules : List (List ℕ)) (x a : ℕ) : Type 0 where
   pub some : x ∈ wordsIn rules a
 
 -- at i stands the word x of a
-pub record WordPlace (rules : List (List ℕ)) (x a i : ℕ) : Type 0 where
+pub record WordPlacedAs (rules : List (List ℕ)) (x a i : ℕ) : Type 0 where
   pub from : wordFrom rules a ≤ i
   pub to : i < wordFrom rules (a + 1)
   pub word : wordAt rules i ≡ x
@@ -82,7 +82,7 @@ pub record HalvesSought (rules totals choice measure : List (List ℕ)) (a p m b
   pub sought : Sought rules totals choice measure a p m whole
   pub chosen : ChosenAs (ruled rules) (weightBy rules choice) (weightBy rules measure) a p m whole b c k before left
 
-pub record HalvesFound (rules choice measure : List (List ℕ)) (p m b c k before left : ℕ) (words : List ℕ) (place measured weight offset : ℕ) : Type 0 where
+pub record HalvesFoundAs (rules choice measure : List (List ℕ)) (p m b c k before left : ℕ) (words : List ℕ) (place measured weight offset : ℕ) : Type 0 where
   pub inner : ℕ
   pub place-is : place ≡ before + inner
   pub owned : HalvesAs (ruled rules) (weightBy rules choice) (weightBy rules measure) b c p m k left words inner measured weight offset
@@ -104,7 +104,7 @@ pub record Extends (place measured weight offset before place′ measured′ wei
   pub some : 0 < weight′
 
 -- where what comes next stands, and what it is counted by
-pub record ExtendedTo (place measured weight offset before place′ measured′ weight′ after x place″ measured″ weight″ offset″ : ℕ) : Type 0 where
+pub record ExtendedAs (place measured weight offset before place′ measured′ weight′ after x place″ measured″ weight″ offset″ : ℕ) : Type 0 where
   pub place-is : place″ ≡ place + measured * (before + place′ * after)
   pub measured-is : measured″ ≡ scaled measured measured′ after
   pub weight-is : weight″ ≡ weight * weight′

@@ -3,13 +3,13 @@
 use mathlib.Core.Path.{_≡_}
 use Prim.Native.Nat.{_+_, _-_, _≤_}
 use native.Mathlib.Omega.{arith}
-use Rattle.charts.specs.Inner.Planning.{Cutting}
+use Rattle.charts.specs.Inner.Planning.{AllCutAs}
 use Rattle.charts.proofs.Gathering.{cutting-start, cutting-turn}
 use Rattle.charts.proofs.plan.cut.Statement.{statement}
 use Rattle.charts.proofs.plan.cut.Tie as tie
 
 abbrev Inv-loop : tie.InvT-loop
-Inv-loop wanted lefts rights n cuts₀ m₀ cuts m = (1 ≤ m) × (m ≤ n + 1) × Cutting wanted lefts rights (m - 1) cuts
+Inv-loop wanted lefts rights n cuts₀ m₀ cuts m = (1 ≤ m) × (m ≤ n + 1) × AllCutAs wanted lefts rights (m - 1) cuts
 
 abbrev μ-loop : tie.MeasureT-loop
 μ-loop wanted lefts rights n cuts₀ m₀ cuts m = n + 1 - m

@@ -6,13 +6,13 @@ use native.Mathlib.Omega.{arith}
 use borrow.Author.Needs.{needs}
 use denote.Ref.{now}
 use Rattle.grammar.specs.Inner.Rules.{leftAt, rightAt}
-use Rattle.charts.specs.Inner.Planning.{Sided}
+use Rattle.charts.specs.Inner.Planning.{SidedAs}
 use Rattle.charts.proofs.Gathering.{sides-low, sided-start, sided-turn}
 use Rattle.charts.proofs.plan.link.Statement.{statement}
 use Rattle.charts.proofs.plan.link.Tie as tie
 
 abbrev Inv-loop : tie.InvT-loop
-Inv-loop rules end partners₀ lefts₀ rights₀ i₀ partners lefts rights i = (i ≤ end) × Sided rules i partners lefts rights
+Inv-loop rules end partners₀ lefts₀ rights₀ i₀ partners lefts rights i = (i ≤ end) × SidedAs rules i partners lefts rights
 
 abbrev μ-loop : tie.MeasureT-loop
 μ-loop rules end partners₀ lefts₀ rights₀ i₀ partners lefts rights i = end - i

@@ -5,13 +5,13 @@ use mathlib.Core.Path.{_≡_, refl, sym}
 use Prim.Native.Nat.{_+_, _-_, _≤_}
 use native.Mathlib.Omega.{arith}
 use lib.ListN.{length}
-use Rattle.charts.specs.Inner.Planning.{baseOf, Placed}
+use Rattle.charts.specs.Inner.Planning.{baseOf, PlacedAs}
 use Rattle.charts.proofs.Placing.{base-first, base-next, base-low, placed-start, placed-turn}
 use Rattle.charts.proofs.plan.place.Statement.{statement}
 use Rattle.charts.proofs.plan.place.Tie as tie
 
 abbrev Inv-loop : tie.InvT-loop
-Inv-loop spots n map₀ rows₀ base₀ m₀ map rows base m = (1 ≤ m) × (m ≤ n + 1) × (base ≡ baseOf n m) × (length rows ≡ 16) × Placed spots n m map₀ map
+Inv-loop spots n map₀ rows₀ base₀ m₀ map rows base m = (1 ≤ m) × (m ≤ n + 1) × (base ≡ baseOf n m) × (length rows ≡ 16) × PlacedAs spots n m map₀ map
 
 abbrev μ-loop : tie.MeasureT-loop
 μ-loop spots n map₀ rows₀ base₀ m₀ map rows base m = n + 1 - m

@@ -3,13 +3,13 @@
 use mathlib.Core.Path.{_≡_}
 use Prim.Native.Nat.{_-_, _≤_}
 use native.Mathlib.Omega.{arith}
-use Rattle.charts.specs.Inner.Planning.{Rows}
+use Rattle.charts.specs.Inner.Planning.{RowAs}
 use Rattle.charts.proofs.Placing.{rows-start, rows-turn}
 use Rattle.charts.proofs.plan.row.Statement.{statement}
 use Rattle.charts.proofs.plan.row.Tie as tie
 
 abbrev Inv-loop : tie.InvT-loop
-Inv-loop spots base end row₀ p₀ row p = (p ≤ end) × Rows spots base p row
+Inv-loop spots base end row₀ p₀ row p = (p ≤ end) × RowAs spots base p row
 
 abbrev μ-loop : tie.MeasureT-loop
 μ-loop spots base end row₀ p₀ row p = end - p

@@ -5,13 +5,13 @@ use mathlib.Core.Path.{_≡_}
 use Prim.Native.Nat.{_+_, _-_, _≤_}
 use native.Mathlib.Omega.{arith}
 use borrow.Author.Needs.{needs}
-use Rattle.charts.specs.Inner.Planning.{Spotted}
+use Rattle.charts.specs.Inner.Planning.{SpottedAs}
 use Rattle.charts.proofs.Spreading.{spotted-start, spotted-spreads, spotted-turn, spotted-end}
 use Rattle.charts.proofs.plan.spot.Statement.{statement}
 use Rattle.charts.proofs.plan.spot.Tie as tie
 
 abbrev Inv-loop : tie.InvT-loop
-Inv-loop cuts n spots₀ m₀ spots m = (1 ≤ m) × (m ≤ n) × Spotted cuts n (m + 1) spots
+Inv-loop cuts n spots₀ m₀ spots m = (1 ≤ m) × (m ≤ n) × SpottedAs cuts n (m + 1) spots
 
 abbrev μ-loop : tie.MeasureT-loop
 μ-loop cuts n spots₀ m₀ spots m = m

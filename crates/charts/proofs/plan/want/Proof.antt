@@ -3,13 +3,13 @@
 use mathlib.Core.Path.{_≡_}
 use Prim.Native.Nat.{_+_, _-_, _≤_}
 use native.Mathlib.Omega.{arith}
-use Rattle.charts.specs.Inner.Planning.{Wanted}
+use Rattle.charts.specs.Inner.Planning.{AllWantedAs}
 use Rattle.charts.proofs.Gathering.{wanted-start, wanted-turn}
 use Rattle.charts.proofs.plan.want.Statement.{statement}
 use Rattle.charts.proofs.plan.want.Tie as tie
 
 abbrev Inv-loop : tie.InvT-loop
-Inv-loop totals count n wanted₀ m₀ wanted m = (1 ≤ m) × (m ≤ n + 1) × Wanted totals count (m - 1) wanted
+Inv-loop totals count n wanted₀ m₀ wanted m = (1 ≤ m) × (m ≤ n + 1) × AllWantedAs totals count (m - 1) wanted
 
 abbrev μ-loop : tie.MeasureT-loop
 μ-loop totals count n wanted₀ m₀ wanted m = n + 1 - m

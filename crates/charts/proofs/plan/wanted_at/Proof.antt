@@ -6,13 +6,13 @@ use mathlib.Core.Logic.{⊎-elim}
 use Prim.Native.Nat.{_-_, _≤_}
 use native.Mathlib.Omega.{arith}
 use borrow.Author.Needs.{needs}
-use Rattle.charts.specs.Inner.Planning.{Wants}
+use Rattle.charts.specs.Inner.Planning.{WantedAs}
 use Rattle.charts.proofs.Gathering.{wants-start, wants-put, wants-pass}
 use Rattle.charts.proofs.plan.wanted_at.Statement.{statement}
 use Rattle.charts.proofs.plan.wanted_at.Tie as tie
 
 abbrev Inv-loop : tie.InvT-loop
-Inv-loop totals count m s₀ a₀ s a = (a ≤ count) × Wants totals a m s
+Inv-loop totals count m s₀ a₀ s a = (a ≤ count) × WantedAs totals a m s
 
 abbrev μ-loop : tie.MeasureT-loop
 μ-loop totals count m s₀ a₀ s a = count - a

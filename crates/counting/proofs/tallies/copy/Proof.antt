@@ -3,13 +3,13 @@
 use mathlib.Core.Path.{_≡_}
 use Prim.Native.Nat.{_+_, _-_, _≤_}
 use native.Mathlib.Omega.{arith}
-use Rattle.lists.specs.Inner.Tables.{Copied}
+use Rattle.lists.specs.Inner.Tables.{CopiedAs}
 use Rattle.lists.proofs.Tables.{copied-none, copied-more}
 use Rattle.counting.proofs.tallies.copy.Statement.{statement}
 use Rattle.counting.proofs.tallies.copy.Tie as tie
 
 abbrev Inv-loop : tie.InvT-loop
-Inv-loop from n to₀ r₀ to r = Copied r from to₀ to × (r ≤ n + 1)
+Inv-loop from n to₀ r₀ to r = CopiedAs r from to₀ to × (r ≤ n + 1)
 
 abbrev μ-loop : tie.MeasureT-loop
 μ-loop from n to₀ r₀ to r = n + 1 - r

@@ -3,13 +3,13 @@
 use mathlib.Core.Path.{_≡_}
 use Prim.Native.Nat.{_-_, _≤_}
 use native.Mathlib.Omega.{arith}
-use Rattle.lists.specs.Inner.Tables.{Copied}
+use Rattle.lists.specs.Inner.Tables.{CopiedAs}
 use Rattle.lists.proofs.Tables.{copied-none, copied-more}
 use Rattle.grammar.proofs.rules.copy.Statement.{statement}
 use Rattle.grammar.proofs.rules.copy.Tie as tie
 
 abbrev Inv-loop : tie.InvT-loop
-Inv-loop from to₀ r₀ to r = Copied r from to₀ to × (r ≤ 4)
+Inv-loop from to₀ r₀ to r = CopiedAs r from to₀ to × (r ≤ 4)
 
 abbrev μ-loop : tie.MeasureT-loop
 μ-loop from to₀ r₀ to r = 4 - r

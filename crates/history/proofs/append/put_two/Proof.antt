@@ -5,7 +5,7 @@ use native.Mathlib.Numerals.{add-one}
 use denote.Ref.{now}
 use lib.ListN.{length-set}
 use lib.Seq.{sets-eq}
-use Rattle.history.specs.Writing.{put, twoBytes}
+use Rattle.history.specs.Writing.{overwritten, twoBytes}
 use borrow.Author.Needs.{needs}
 use Rattle.history.proofs.append.put_two.Statement.{statement}
 use Rattle.history.proofs.append.put_two.Tie as tie
@@ -29,7 +29,7 @@ same-length : tie.Need-same-length
 same-length c = search needs
 
 returns : tie.Need-returns
-unfolding put
+unfolding overwritten
 returns c = rw (add-one (c .args .at)) (sets-eq (twoBytes (c .args .x)) (now (c .args .h)) (c .args .at) (omega arith))
 
 pub put-two-spec : {M : Type 1} → statement M

@@ -12,7 +12,7 @@ use Rattle.lists.specs.Searched.{someBelow, someTo}
 use Rattle.lists.proofs.Tests.{or-true, to-hit, to-miss, to-some}
 use Rattle.history.specs.Layout.{recordsOf, headOf, recordAt, twoAt}
 use Rattle.history.specs.Refusals.{misfit, nextAbove, badRecord, badLink}
-use Rattle.history.specs.Inner.Checks.{Sized, Tested}
+use Rattle.history.specs.Inner.Checks.{Sized, TestedAs}
 use Rattle.history.proofs.checks.test_records.Statement.{statement}
 use Rattle.history.proofs.checks.test_records.Tie as tie
 
@@ -29,7 +29,7 @@ module _ (h : List ℕ) {k : ℕ} (s : Sized h k) where
   none e = record { high = omega arith; fit = refl; links = sym (or-false (ltb (recordsOf h) (headOf h)) ∙ cc (s .count)) }
 
   -- after the last
-  all : {far : Bool} {r : ℕ} → Past h far r → k ≤ r → Tested h false far
+  all : {far : Bool} {r : ℕ} → Past h far r → k ≤ r → TestedAs h false far
   unfolding badRecord badLink
   all {r = r} p l =
       let e : r ≡ recordsOf h = omega (arith, s .count, p .high) in
@@ -37,7 +37,7 @@ module _ (h : List ℕ) {k : ℕ} (s : Sized h k) where
 
   -- the next record, which stands at i
   module _ {r i : ℕ} (l : r < k) (e : i ≡ recordAt (r + 1)) where
-    bad : {far : Bool} → misfit h i ≡ true → Tested h true far
+    bad : {far : Bool} → misfit h i ≡ true → TestedAs h true far
     unfolding badRecord
     bad m =
         record {

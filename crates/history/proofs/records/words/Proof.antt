@@ -6,14 +6,14 @@ use Prim.Native.Nat.{ℕ, _+_, _-_}
 use native.Mathlib.Omega.{arith}
 use denote.Ref.{now}
 use lib.ListN.{length, take, drop}
-use Rattle.history.specs.Layout.{recordAt, lengthOf, wordsOf}
+use Rattle.history.specs.Layout.{recordAt, lengthOf, recordWords}
 use Rattle.history.proofs.Acceptance.{known, words-inside}
 use borrow.Author.Needs.{needs}
 use Rattle.history.proofs.records.words.Statement.{statement}
 use Rattle.history.proofs.records.words.Tie as tie
 
-words-are : (h : List ℕ) (r : ℕ) {at n : ℕ} → at ≡ recordAt r → n ≡ lengthOf h r → take (at + 4 + n - (at + 4)) (drop (at + 4) h) ≡ wordsOf h r
-unfolding wordsOf
+words-are : (h : List ℕ) (r : ℕ) {at n : ℕ} → at ≡ recordAt r → n ≡ lengthOf h r → take (at + 4 + n - (at + 4)) (drop (at + 4) h) ≡ recordWords h r
+unfolding recordWords
 words-are h r {at} {n} e f =
     let m : at + 4 + n - (at + 4) ≡ lengthOf h r = omega arith in
     ap (λ (k : ℕ). take k (drop (at + 4) h)) m ∙ ap (λ (i : ℕ). take (lengthOf h r) (drop (i + 4) h)) e
