@@ -18,7 +18,7 @@ use Rattle.counting.proofs.Totals.{total-within, T-anywhere}
 use Rattle.counting.proofs.Asking.{counted-kept}
 use Rattle.charts.specs.Inner.Chart.{Blank, Clean}
 use Rattle.charts.specs.Inner.Letters.{any, letterAt, letterWeight, weightBy}
-use Rattle.charts.specs.Inner.Maps.{rowAt, totalAt, Span, Closed, Mapped, Everywhere, rowsFrom, plainMap, SpeltAs}
+use Rattle.charts.specs.Inner.Maps.{rowAt, totalAt, Span, Closed, Mapped, Everywhere, rowsFrom, countsMap, LetteredAs}
 use Rattle.charts.specs.Inner.Plan.{needed, chartRow, room, Planned}
 
 -- ---- the map of plain counts
@@ -29,30 +29,30 @@ rows-from k zero i p h l = absurd (omega arith)
 rows-from k (suc n) zero p h l = getD-replicate 16 p k 0 l ∙ omega arith
 rows-from k (suc n) (suc i) p h l = omega (arith, rows-from (suc k) n i p (omega arith) l)
 
-plain-row : (p m : ℕ) → p < 16 → 1 ≤ m → m ≤ 16 → rowAt plainMap p m ≡ m
-plain-row p zero h s l = absurd (omega arith)
-plain-row p (suc m) h s l = omega (arith, rows-from 1 16 m p (omega arith) h)
+counts-row : (p m : ℕ) → p < 16 → 1 ≤ m → m ≤ 16 → rowAt countsMap p m ≡ m
+counts-row p zero h s l = absurd (omega arith)
+counts-row p (suc m) h s l = omega (arith, rows-from 1 16 m p (omega arith) h)
 
-pub plain-map : Everywhere plainMap
-plain-map = record { row = plain-row; letter = λ p h. getD-replicate 16 p any 0 h }
+pub counts-map : Everywhere countsMap
+counts-map = record { row = counts-row; letter = λ p h. getD-replicate 16 p any 0 h }
 
 -- ---- letters
 
 -- the first p words are there
-pub record SpeltTo (sentence : List ℕ) (k : ℕ) (before after : List (List ℕ)) : Type 0 where
+pub record LetteredTo (sentence : List ℕ) (k : ℕ) (before after : List (List ℕ)) : Type 0 where
   pub long : length after ≡ 17
   pub wide : Wide after 16
   pub letters : (p : ℕ) → p < k → letterAt after p ≡ getD sentence p 0
   pub small : (p : ℕ) → p < k → letterAt after p < 256
   pub kept : (r : ℕ) → 1 ≤ r → getD after r [] ≡ getD before r []
 
-pub spelt-start : {sentence : List ℕ} {map : List (List ℕ)} → length map ≡ 17 → Wide map 16 → SpeltTo sentence 0 map map
-spelt-start long wide =
+pub lettered-start : {sentence : List ℕ} {map : List (List ℕ)} → length map ≡ 17 → Wide map 16 → LetteredTo sentence 0 map map
+lettered-start long wide =
     record { long = long; wide = wide; letters = λ p h. absurd (omega arith); small = λ p h. absurd (omega arith); kept = λ r h. refl }
 
-pub spelt-turn : {sentence : List ℕ} {k : ℕ} {before map : List (List ℕ)} → SpeltTo sentence k before map → k < 16 → getD sentence k 0 < 256
-    → SpeltTo sentence (k + 1) before (put map 0 k (getD sentence k 0))
-spelt-turn {sentence} {k} {before} {map} w low byte =
+pub lettered-turn : {sentence : List ℕ} {k : ℕ} {before map : List (List ℕ)} → LetteredTo sentence k before map → k < 16 → getD sentence k 0 < 256
+    → LetteredTo sentence (k + 1) before (put map 0 k (getD sentence k 0))
+lettered-turn {sentence} {k} {before} {map} w low byte =
     let first : 0 < length map = omega (arith, w .long) in
     let here : letterAt (put map 0 k (getD sentence k 0)) k ≡ getD sentence k 0 = put-same map 0 k (getD sentence k 0) first (omega (arith, w .wide .row 0 first)) in
     record {
@@ -65,8 +65,8 @@ spelt-turn {sentence} {k} {before} {map} w low byte =
       kept = λ r h. put-row map 0 k (getD sentence k 0) r (λ e. omega arith) ∙ w .kept r h;
     }
 
-pub spelt-end : {sentence : List ℕ} {k : ℕ} {before after : List (List ℕ)} → SpeltTo sentence k before after → k ≡ length sentence → SpeltAs sentence before after
-spelt-end w e =
+pub lettered-end : {sentence : List ℕ} {k : ℕ} {before after : List (List ℕ)} → LetteredTo sentence k before after → k ≡ length sentence → LetteredAs sentence before after
+lettered-end w e =
     record { long = w .long; wide = w .wide; letters = λ p h. w .letters p (omega arith); small = λ p h. w .small p (omega arith); kept = w .kept }
 
 -- ---- plain counts

@@ -3,7 +3,7 @@ ghost use mathlib.Core.Path.{_≡_};
 ghost use Prim.Native.Nat.{_≤_, _<_};
 ghost use lib.ListN.{length};
 ghost use Rattle.lists.specs.Inner.Tables.{Wide};
-ghost use Rattle.charts.specs.Inner.Maps.{rowAt, SpeltAs};
+ghost use Rattle.charts.specs.Inner.Maps.{rowAt, LetteredAs};
 
 // Rows of the table of totals: of zeros, and the first of a chart. Those below are the counts'.
 pub const NONE: usize = 17;
@@ -53,9 +53,9 @@ pub fn row_at(map: &[[u16; 16]; 17], p: usize, m: usize) -> usize
 }
 
 // The words of a sentence as letters.
-pub fn spell(sentence: &[u8], map: &mut [[u16; 16]; 17])
+pub fn set_letters(sentence: &[u8], map: &mut [[u16; 16]; 17])
     requires { ⌜ (length (now sentence) ≤ 16) × (length (now map) ≡ 17) × Wide (now map) 16 ⌝ }
-    ensures { λ _. ⌜ SpeltAs (now (sentence .entry)) (now (map .entry)) (now (map .exit)) ⌝ }
+    ensures { λ _. ⌜ LetteredAs (now (sentence .entry)) (now (map .entry)) (now (map .exit)) ⌝ }
 {
     let mut p = 0;
     while p < sentence.len() {

@@ -73,9 +73,9 @@ abbrev later : (rules : ℕ → List Rule) (A m gone : ℕ) → List (List ℕ)
 later rules A m gone = concatMap (λ x. ruleSentences rules (x .0) (x .1) m) (drop gone (pairsOf (rules A)))
 
 -- to come are the left lengths of (B, C) from k on, then the pair rules of A from the place `gone` on
-pub record Choosing (rules : ℕ → List Rule) (v u : ℕ → ℕ → ℕ) (A p m t gone B C k before left : ℕ) : Type 0 where
+pub record Choosing (rules : ℕ → List Rule) (v u : ℕ → ℕ → ℕ) (A p m t gone B C k before rest : ℕ) : Type 0 where
   pub high : k ≤ m
-  pub passed : Passed (weight v p) (weight u p) (sentences rules A m) (splitList (sentences rules) B C k (m - k) ++ later rules A m gone) t before left
+  pub passed : Passed (weight v p) (weight u p) (sentences rules A m) (splitList (sentences rules) B C k (m - k) ++ later rules A m gone) t before rest
 
 -- at first no left length, then all rules
 pub choosing-start : (rules : ℕ → List Rule) (v u : ℕ → ℕ → ℕ) (A p m t B C : ℕ) → 2 ≤ m → Choosing rules v u A p m t 0 B C m 0 t
@@ -83,10 +83,10 @@ choosing-start rules v u A p m t B C h =
     let e : m - m ≡ 0 = omega arith in
     record { high = omega arith; passed = rw (e, ← sentences-more rules A m h) (passed-none (weight v p) (weight u p) (sentences rules A m) t) }
 
-module _ {rules : ℕ → List Rule} {v u : ℕ → ℕ → ℕ} {A p m t gone B C k before left : ℕ} (w : Choosing rules v u A p m t gone B C k before left) where
+module _ {rules : ℕ → List Rule} {v u : ℕ → ℕ → ℕ} {A p m t gone B C k before rest : ℕ} (w : Choosing rules v u A p m t gone B C k before rest) where
   -- no left length of (B, C) is to come that holds something
   module _ (none : splitList (sentences rules) B C k (m - k) ≡ []) where
-    at-rules : Passed (weight v p) (weight u p) (sentences rules A m) (later rules A m gone) t before left
+    at-rules : Passed (weight v p) (weight u p) (sentences rules A m) (later rules A m gone) t before rest
     at-rules = rw none at (w .passed)
 
     -- while t is a ticket, a rule is left
@@ -102,7 +102,7 @@ module _ {rules : ℕ → List Rule} {v u : ℕ → ℕ → ℕ} {A p m t gone B
 
     -- its left lengths are next, without the first ones that hold nothing
     pub choosing-rule : (B′ C′ k′ : ℕ) → gone < length (pairsOf (rules A)) → (B′, C′) ≡ getD (pairsOf (rules A)) gone (0, 0) → k′ ≤ m
-        → ruleSentences rules B′ C′ m ≡ splitList (sentences rules) B′ C′ k′ (m - k′) → Choosing rules v u A p m t (gone + 1) B′ C′ k′ before left
+        → ruleSentences rules B′ C′ m ≡ splitList (sentences rules) B′ C′ k′ (m - k′) → Choosing rules v u A p m t (gone + 1) B′ C′ k′ before rest
     choosing-rule B′ C′ k′ more e h skip =
         let c : drop gone (pairsOf (rules A)) ≡ (B′, C′) ∷ drop (gone + 1) (pairsOf (rules A))
         = rw add-one (drop-cons (pairsOf (rules A)) gone (0, 0) more ∙ rw (← e)) in
@@ -110,7 +110,7 @@ module _ {rules : ℕ → List Rule} {v u : ℕ → ℕ → ℕ} {A p m t gone B
 
   module _ (h : k < m) where
     entered : Passed (weight v p) (weight u p) (sentences rules A m)
-        (halves rules B C k m ++ (splitList (sentences rules) B C (k + 1) (m - (k + 1)) ++ later rules A m gone)) t before left
+        (halves rules B C k m ++ (splitList (sentences rules) B C (k + 1) (m - (k + 1)) ++ later rules A m gone)) t before rest
     entered =
         let s = append-assoc (halves rules B C k m) (splitList (sentences rules) B C (k + 1) (m - (k + 1))) (later rules A m gone) in
         rw (← s, ← list-step rules B C k m h) (w .passed)
@@ -126,7 +126,7 @@ module _ {rules : ℕ → List Rule} {v u : ℕ → ℕ → ℕ} {A p m t gone B
           total-sum rules u p A m,
         )
 
-    pub choosing-found : 1 ≤ k → (B, C) ∈ pairsOf (rules A) → left < halvesTotal rules v B C p m k → ChosenAs rules v u A p m t B C k before left
+    pub choosing-found : 1 ≤ k → (B, C) ∈ pairsOf (rules A) → rest < halvesTotal rules v B C p m k → ChosenAs rules v u A p m t B C k before rest
     choosing-found o i l =
         record {
           rule = i;
@@ -136,12 +136,12 @@ module _ {rules : ℕ → List Rule} {v u : ℕ → ℕ → ℕ} {A p m t gone B
               (omega (arith, halves-total rules v B C p m k));
         }
 
-    pub choosing-next : halvesTotal rules v B C p m k ≤ left
-        → Choosing rules v u A p m t gone B C (k + 1) (before + halvesTotal rules u B C p m k) (left - halvesTotal rules v B C p m k)
+    pub choosing-next : halvesTotal rules v B C p m k ≤ rest
+        → Choosing rules v u A p m t gone B C (k + 1) (before + halvesTotal rules u B C p m k) (rest - halvesTotal rules v B C p m k)
     choosing-next l =
         record {
           high = omega arith;
           passed = passed-more (halves rules B C k m) (splitList (sentences rules) B C (k + 1) (m - (k + 1)) ++ later rules A m gone) entered
-              (before + halvesTotal rules u B C p m k) (left - halvesTotal rules v B C p m k)
+              (before + halvesTotal rules u B C p m k) (rest - halvesTotal rules v B C p m k)
               (omega (arith, halves-total rules u B C p m k)) (omega (arith, halves-total rules v B C p m k));
         }

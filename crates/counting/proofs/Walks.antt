@@ -54,32 +54,32 @@ module _ {rules : ℕ → List Rule} {v u : ℕ → ℕ → ℕ} {A p m t : ℕ}
 
 -- ---- two halves: the quotient by the right half's total is the left half's ticket; what is left, by the left half's weight, the right half's
 
-module _ {rules : ℕ → List Rule} {v : ℕ → ℕ → ℕ} {B C p m k left : ℕ} (h : InHalves rules v B C p m k left) where
+module _ {rules : ℕ → List Rule} {v : ℕ → ℕ → ℕ} {B C p m k rest : ℕ} (h : InHalves rules v B C p m k rest) where
   pub right-some : 0 < total rules v (p + k) C (m - k)
-  right-some = product-some (total rules v p B k) (total rules v (p + k) C (m - k)) left (h .inside)
+  right-some = product-some (total rules v p B k) (total rules v (p + k) C (m - k)) rest (h .inside)
 
-  pub left-ticket : left / total rules v (p + k) C (m - k) < total rules v p B k
-  left-ticket = product-left (total rules v p B k) (total rules v (p + k) C (m - k)) left (h .inside)
+  pub left-ticket : rest / total rules v (p + k) C (m - k) < total rules v p B k
+  left-ticket = product-left (total rules v p B k) (total rules v (p + k) C (m - k)) rest (h .inside)
 
-  module _ {u : ℕ → ℕ → ℕ} {words : List ℕ} {n measure w o : ℕ} (l : OwnedAs rules v u B p k (left / total rules v (p + k) C (m - k)) words n measure w o) where
+  module _ {u : ℕ → ℕ → ℕ} {words : List ℕ} {n measure w o : ℕ} (l : OwnedAs rules v u B p k (rest / total rules v (p + k) C (m - k)) words n measure w o) where
     -- what is left of the ticket
-    abbrev pub rest : ℕ
-    rest = o * total rules v (p + k) C (m - k) + left % total rules v (p + k) C (m - k)
+    abbrev pub rightRest : ℕ
+    rightRest = o * total rules v (p + k) C (m - k) + rest % total rules v (p + k) C (m - k)
 
-    pub rest-room : rest < halvesTotal rules v B C p m k
+    pub rest-room : rightRest < halvesTotal rules v B C p m k
     rest-room =
         omega (
           arith,
-          mod-lt left right-some,
+          mod-lt rest right-some,
           mul-le-mul-right (total rules v (p + k) C (m - k)) (owned-some l),
           mul-le-mul-right (total rules v (p + k) C (m - k)) (owned-weighs l),
         )
 
-    pub right-ticket : rest / w < total rules v (p + k) C (m - k)
-    right-ticket = rw (l .weighs-is) (product-right (l .owns) (total rules v (p + k) C (m - k)) left right-some)
+    pub right-ticket : rightRest / w < total rules v (p + k) C (m - k)
+    right-ticket = rw (l .weighs-is) (product-right (l .owns) (total rules v (p + k) C (m - k)) rest right-some)
 
-    pub halves-owned : {words′ : List ℕ} {n′ measure′ w′ o′ : ℕ} → OwnedAs rules v u C (p + k) (m - k) (rest / w) words′ n′ measure′ w′ o′
-        → HalvesAs rules v u B C p m k left (words ++ words′) (n * total rules u (p + k) C (m - k) + measure * n′) (measure * measure′) (w * w′) (o′ * w + rest % w)
+    pub halves-owned : {words′ : List ℕ} {n′ measure′ w′ o′ : ℕ} → OwnedAs rules v u C (p + k) (m - k) (rightRest / w) words′ n′ measure′ w′ o′
+        → HalvesAs rules v u B C p m k rest (words ++ words′) (n * total rules u (p + k) C (m - k) + measure * n′) (measure * measure′) (w * w′) (o′ * w + rightRest % w)
     halves-owned {words′} r =
         let hv = halves-product rules v B C p m k in
         let hu = halves-product rules u B C p m k in
@@ -88,15 +88,15 @@ module _ {rules : ℕ → List Rule} {v : ℕ → ℕ → ℕ} {B C p m k left :
         let a = rw ev at (l .owns) in
         let b = rw (l .weighs-is, ev) at (r .owns) in
         record {
-          owns = rw (l .weighs-is, l .measure-is, ev, eu) (product-owns hv hu left a b);
-          measure-is = rw (l .measure-is, r .measure-is) (sym (product-measure hv hu left a b));
-          weighs-is = rw (l .weighs-is, r .weighs-is) (sym (product-weight hv hu left a b));
+          owns = rw (l .weighs-is, l .measure-is, ev, eu) (product-owns hv hu rest a b);
+          measure-is = rw (l .measure-is, r .measure-is) (sym (product-measure hv hu rest a b));
+          weighs-is = rw (l .weighs-is, r .weighs-is) (sym (product-weight hv hu rest a b));
         }
 
 -- ---- the whole: what is chosen, and its halves
 
-module _ {rules : ℕ → List Rule} {v u : ℕ → ℕ → ℕ} {A p m t B C k before left : ℕ} (c : ChosenAs rules v u A p m t B C k before left) where
-  pub chosen-inside : InHalves rules v B C p m k left
+module _ {rules : ℕ → List Rule} {v u : ℕ → ℕ → ℕ} {A p m t B C k before rest : ℕ} (c : ChosenAs rules v u A p m t B C k before rest) where
+  pub chosen-inside : InHalves rules v B C p m k rest
   chosen-inside = record { inside = omega (arith, c .part .inside, halves-total rules v B C p m k) }
 
   -- room for the halves' tickets and measure
@@ -106,6 +106,6 @@ module _ {rules : ℕ → List Rule} {v u : ℕ → ℕ → ℕ} {A p m t B C k 
   pub chosen-room : before + halvesTotal rules u B C p m k ≤ total rules u p A m
   chosen-room = omega (arith, part-size (c .part), halves-total rules u B C p m k, total-sum rules u p A m)
 
-  pub chosen-owned : {words : List ℕ} {n measure w o : ℕ} → HalvesAs rules v u B C p m k left words n measure w o
+  pub chosen-owned : {words : List ℕ} {n measure w o : ℕ} → HalvesAs rules v u B C p m k rest words n measure w o
       → OwnedAs rules v u A p m t words (before + n) measure w o
   chosen-owned r = record { owns = part-owns (c .part) (r .owns); measure-is = r .measure-is; weighs-is = r .weighs-is }

@@ -152,6 +152,6 @@ pub readable : (g : List ℕ) → Known g → Readable g
 readable g ok =
     record {
       sized = record { heads = refl; bodies = refl; few = ok .ranges .few-nonterminals; numbered = ok .ranges .few-rules; size = ok .size };
-      spoken = ok .ranges .few-words;
+      words-low = ok .ranges .few-words;
       fit = ok .fit;
     }

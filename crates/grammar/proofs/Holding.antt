@@ -14,7 +14,7 @@ use Rattle.grammar.specs.Inner.Rules.{wordAt, leftAt, rightAt, wordFrom,
 use Rattle.grammar.specs.Inner.Entering.{Sorted}
 use Rattle.grammar.proofs.Walks.{readable-inside, words-∈, pairs-∈}
 use Rattle.grammar.proofs.Ruling.{holder, word-listed, pair-listed}
-use Rattle.grammar.proofs.Twins.{words-once}
+use Rattle.grammar.proofs.Repeats.{words-once}
 
 module _ {g : List ℕ} {t : List (List ℕ)} (ok : Readable g) (s : Sorted g t) where
   word-fits : (i : ℕ) → i < wordFrom t (nonterminals g) → wordAt t i < words g
@@ -37,14 +37,14 @@ module _ {g : List ℕ} {t : List (List ℕ)} (ok : Readable g) (s : Sorted g t)
           wide = s .roomy .wide;
           few = rw (s .count-is) (ok .sized .few);
           starts = rw (s .start-is, s .count-is) inside;
-          width = rw (s .width-is) (ok .spoken);
+          width = rw (s .width-is) (ok .words-low);
           word-low = λ a h. s .word-low a (rw (s .count-is) at h);
           word-rises = λ a h. s .word-rises a (rw (s .count-is) at h);
           pair-low = λ a h. s .pair-low a (rw (s .count-is) at h);
           pair-rises = λ a h. s .pair-rises a (rw (s .count-is) at h);
           word-first = s .word-first;
           pair-first = s .pair-first;
-          spoken = λ i h. rw (s .width-is) (word-fits i (rw (s .count-is) at h));
+          words-low = λ i h. rw (s .width-is) (word-fits i (rw (s .count-is) at h));
           lefts = λ i h. rw (s .count-is) (pair-fits i (rw (s .count-is) at h) .0);
           rights = λ i h. rw (s .count-is) (pair-fits i (rw (s .count-is) at h) .1);
           once = λ a x h.

@@ -18,7 +18,7 @@ use Rattle.lists.proofs.Sums.{sum-ext, sum-map}
 use Rattle.lists.proofs.Tests.{and-false, both-ways}
 use Rattle.grammar.specs.Inner.Rules.{wordAt, leftAt, rightAt, wordFrom, pairFrom, countIn, wordsIn, pairsIn, Ruled}
 use Rattle.grammar.specs.Inner.Links.{last, pickSum, both, bothAt, wordOwner, pairOwner, Keyed, Linked}
-use Rattle.grammar.proofs.Ruling.{both-tells, holder, rising, pair-below}
+use Rattle.grammar.proofs.Ruling.{both-same, holder, rising, pair-below}
 
 -- ---- the last place with a key
 
@@ -209,5 +209,5 @@ module _ {rules : List (List ℕ)} (t : Ruled rules) where
           (λ i m.
           let u = upFrom-∈ (pairFrom rules A) (pairFrom rules (A + 1) - pairFrom rules A) m in
           let k = pair-below t A i inside (omega (arith, t .pair-rises A inside)) in
-          rw (both-tells (leftAt rules i) (rightAt rules i) b c (omega (arith, t .rights i k, t .few)) hc))
+          rw (both-same (leftAt rules i) (rightAt rules i) b c (omega (arith, t .rights i k, t .few)) hc))
           ∙ sym (sum-map (λ i. (leftAt rules i, rightAt rules i)) (λ (e : ℕ × ℕ). cond (eqb (e .0) b && eqb (e .1) c) v 0) places)

@@ -8,7 +8,7 @@ pub mod Plain
 pub mod Acceptance
 pub mod Walks
 pub mod Entering
-pub mod Twins
+pub mod Repeats
 pub mod Outcome
 pub mod Ruling
 pub mod Kept

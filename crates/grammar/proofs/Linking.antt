@@ -73,7 +73,7 @@ record Fit (k : Kind) (first end : ℕ) : Type 0 where
   rows : (first ≤ k .next) × (k .next < k .owner) × (k .owner < end)
   heads : (x : ℕ) → x < k .keys → (first ≤ k .row x) × (k .row x < end) × (k .place x < 256)
   apart : (x : ℕ) → (k .row x ≡ k .next → ⊥) × (k .row x ≡ k .owner → ⊥)
-  tells : (x y : ℕ) → k .row y ≡ k .row x → k .place y ≡ k .place x → y ≡ x
+  injective : (x y : ℕ) → k .row y ≡ k .row x → k .place y ≡ k .place x → y ≡ x
 
 -- the place i is a's
 record Owned (k : Kind) (t : List (List ℕ)) (a i : ℕ) : Type 0 where
@@ -169,7 +169,7 @@ module _ {k : Kind} {first end : ℕ} (f : Fit k first end) (t : List (List ℕ)
   heads-kept : (y : ℕ) → (y ≡ x → ⊥) → entry (stored k t i a x) (k .row y) (k .place y) ≡ entry t (k .row y) (k .place y)
   heads-kept y n =
       elim (ℕ-discrete (k .row y) (k .row x)) [
-        | yes e ↦ rw e (put-beside two (k .row x) (k .place x) (i + 1) (k .place y) head-in (λ z. n (f .tells x y e z)))
+        | yes e ↦ rw e (put-beside two (k .row x) (k .place x) (i + 1) (k .place y) head-in (λ z. n (f .injective x y e z)))
         | no e ↦ put-other-row two (k .row x) (k .place x) (i + 1) (k .row y) (k .place y) e
       ]
       ∙ put-other-row one (k .owner) (i + 1) a (k .row y) (k .place y) (f .apart y .1)
@@ -249,7 +249,7 @@ words-fit = record {
   rows = omega arith;
   heads = λ x h. omega arith;
   apart = λ x. (λ e. omega arith, λ e. omega arith);
-  tells = λ x y e f. f;
+  injective = λ x y e f. f;
 }
 
 pairs-fit : Fit pairs 7 13
@@ -260,7 +260,7 @@ pairs-fit = record {
   rows = omega arith;
   heads = λ x h. (omega arith, omega (arith, div-add-mod' x 256), mod-lt x (lit< tt));
   apart = λ x. (λ e. omega arith, λ e. omega arith);
-  tells = λ x y e f. let q : y / 256 ≡ x / 256 = omega arith in sym (div-add-mod' y 256) ∙ rw (q, f) (div-add-mod' x 256);
+  injective = λ x y e f. let q : y / 256 ≡ x / 256 = omega arith in sym (div-add-mod' y 256) ∙ rw (q, f) (div-add-mod' x 256);
 }
 
 -- ---- the rules of one nonterminal
@@ -314,7 +314,7 @@ module _ {old t : List (List ℕ)} {a i end : ℕ} (w : WordLoop old t a i) (las
     word-more {x} ex =
         let l = w .linked in
         let o = word-owned in
-        let low : x < 256 = omega (arith, l .table .spoken i (word-below (l .table) a i (o .inside) (o .upper)), l .table .width) in
+        let low : x < 256 = omega (arith, l .table .words-low i (word-below (l .table) a i (o .inside) (o .upper)), l .table .width) in
         let b = beside words-fit t i a x (l .long) (l .table .wide) low word-room in
         let wide = stored-wide words-fit t i a x (l .long) (l .table .wide) low word-room in
         loop-more words-fit w (omega arith)

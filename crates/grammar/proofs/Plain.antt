@@ -83,8 +83,8 @@ module _ (chain : ℕ → List Rule) (len : ℕ → ℕ) (N : ℕ) (passes : pla
       let q = pair-length h i B C a in
       omega (arith, plain-length (q .0) l, plain-length (q .1) r)
 
-  said-length : {A m : ℕ} {t : Tree} → A < N → Derives chain A m t → length (sentence t) ≡ len A
-  said-length {t = t} h d = sentence-size t ∙ derives-size chain d ∙ plain-length h d
+  sentence-length : {A m : ℕ} {t : Tree} → A < N → Derives chain A m t → length (sentence t) ≡ len A
+  sentence-length {t = t} h d = sentence-size t ∙ derives-size chain d ∙ plain-length h d
 
   -- they begin with rules of one kind
   one-kind : {A B C k j : ℕ} {l r : Tree} (i i′ w : ℕ) → A < N → At (chain A) i (word w) → At (chain A) i′ (pair B C)
@@ -106,7 +106,7 @@ module _ (chain : ℕ → List Rule) (len : ℕ → ℕ) (N : ℕ) (passes : pla
       let eB : D ≡ B = cc in
       let eC : E ≡ C = cc in
       let n = pair-length h i B C a in
-      let s = parted (len B) (sentence t) (sentence u) (sentence t′) (sentence u′) (said-length (n .0) l) (said-length (n .0) (rw eB at l′)) q in
+      let s = parted (len B) (sentence t) (sentence u) (sentence t′) (sentence u′) (sentence-length (n .0) l) (sentence-length (n .0) (rw eB at l′)) q in
       let x = plain-single (n .0) l (rw eB at l′) (s .0) in
       let y = plain-single (n .1) r (rw eC at r′) (s .1) in
       cc

@@ -62,8 +62,8 @@ module _ (rules : List (List ℕ)) (a : ℕ) where
 -- ---- two nonterminals as one number
 
 -- the nonterminals of a pair rule are below 32, so their number tells them
-pub both-tells : (b c b′ c′ : ℕ) → c < 32 → c′ < 32 → eqb (both b c) (both b′ c′) ≡ (eqb b b′ && eqb c c′)
-both-tells b c b′ c′ h h′ =
+pub both-same : (b c b′ c′ : ℕ) → c < 32 → c′ < 32 → eqb (both b c) (both b′ c′) ≡ (eqb b b′ && eqb c c′)
+both-same b c b′ c′ h h′ =
     both-ways (eqb (both b c) (both b′ c′)) (eqb b b′ && eqb c c′)
     (λ e.
     let q : 32 * b + c ≡ 32 * b′ + c′ = eqb-true (both b c) (both b′ c′) e in

@@ -108,33 +108,33 @@ pub record Met (g : List ℕ) (r : ℕ) (x : Rule) (next : ℕ) : Type 0 where
   pub link : next ≡ nextOf g r
 
 -- what a step at r tells
-abbrev pub Told : (g : List ℕ) (r : ℕ) → Step → Type 0
-Told g r (Word w next) = Met g r (word w) (next .at)
-Told g r (Pair B C next) = Met g r (pair B C) (next .at)
-Told g r End = isNumber (rules g) r ≡ false
+abbrev pub Stepped : (g : List ℕ) (r : ℕ) → Step → Type 0
+Stepped g r (Word w next) = Met g r (word w) (next .at)
+Stepped g r (Pair B C next) = Met g r (pair B C) (next .at)
+Stepped g r End = isNumber (rules g) r ≡ false
 
-handed-told : (g : List ℕ) (r : ℕ) (has : Bool) (x : Rule) → isNumber (rules g) r ≡ has → ruleOf g r ≡ x → Told g r (handed has x (nextOf g r))
-handed-told g r true (word w) e f = let q = one-inside (rules g) r e in record { some = q .0; inside = q .1; rule = f; link = refl }
-handed-told g r true (pair B C) e f = let q = one-inside (rules g) r e in record { some = q .0; inside = q .1; rule = f; link = refl }
-handed-told g r false x e f = e
+handed-stepped : (g : List ℕ) (r : ℕ) (has : Bool) (x : Rule) → isNumber (rules g) r ≡ has → ruleOf g r ≡ x → Stepped g r (handed has x (nextOf g r))
+handed-stepped g r true (word w) e f = let q = one-inside (rules g) r e in record { some = q .0; inside = q .1; rule = f; link = refl }
+handed-stepped g r true (pair B C) e f = let q = one-inside (rules g) r e in record { some = q .0; inside = q .1; rule = f; link = refl }
+handed-stepped g r false x e f = e
 
-pub step-told : (g : List ℕ) (r : ℕ) {s t : Step} → s ≡ stepAt g r → s ≡ t → Told g r t
+pub step-met : (g : List ℕ) (r : ℕ) {s t : Step} → s ≡ stepAt g r → s ≡ t → Stepped g r t
 unfolding stepAt
-step-told g r {s} {t} e f =
+step-met g r {s} {t} e f =
     let z : handed (isNumber (rules g) r) (ruleOf g r) (nextOf g r) ≡ t = sym e ∙ f in
-    rw z at (handed-told g r (isNumber (rules g) r) (ruleOf g r) refl refl)
+    rw z at (handed-stepped g r (isNumber (rules g) r) (ruleOf g r) refl refl)
 
 -- ---- what a walk yields: the laws that crates above use, and no byte
 
-told-yields : (g : List ℕ) → Known g → (r : ℕ) (s : Step) → Told g r s → rest g r ≡ yielded (rest g) s
+stepped-yields : (g : List ℕ) → Known g → (r : ℕ) (s : Step) → Stepped g r s → rest g r ≡ yielded (rest g) s
 unfolding rest
-told-yields g ok r (Word w next) m = ap (map (ruleOf g)) (numbers-step g ok r (m .some) (m .inside)) ∙ rw (m .rule, m .link)
-told-yields g ok r (Pair B C next) m = ap (map (ruleOf g)) (numbers-step g ok r (m .some) (m .inside)) ∙ rw (m .rule, m .link)
-told-yields g ok r End e = ap (map (ruleOf g)) (met-none (nextOf g) (rules g) (rules g + 1) r e)
+stepped-yields g ok r (Word w next) m = ap (map (ruleOf g)) (numbers-step g ok r (m .some) (m .inside)) ∙ rw (m .rule, m .link)
+stepped-yields g ok r (Pair B C next) m = ap (map (ruleOf g)) (numbers-step g ok r (m .some) (m .inside)) ∙ rw (m .rule, m .link)
+stepped-yields g ok r End e = ap (map (ruleOf g)) (met-none (nextOf g) (rules g) (rules g + 1) r e)
 
 -- of an accepted grammar: the rule of the step, and what the walk after it yields
 pub step-yields : (g : List ℕ) → Accepted g → (r : ℕ) {s : Step} → s ≡ stepAt g r → rest g r ≡ yielded (rest g) s
-step-yields g ok r {s} e = told-yields g (known g ok) r s (step-told g r e refl)
+step-yields g ok r {s} e = stepped-yields g (known g ok) r s (step-met g r e refl)
 
 -- the words of a rule are below W, its nonterminals below N
 abbrev pub Inside : List ℕ → Rule → Type 0

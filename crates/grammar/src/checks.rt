@@ -174,7 +174,7 @@ fn some_same(rules: &[[u8; 256]], pairs: bool, a: usize, stamp: u8, stamps: &mut
 }
 
 // 8.
-fn some_twins(g: &[u8], rules: &[[u8; 256]]) -> bool
+fn repeated(g: &[u8], rules: &[[u8; 256]]) -> bool
     requires { ⌜ Readable (now g) × Sorted (now g) (now rules) ⌝ }
     ensures { λ b. ⌜ b ≡ repeated (now (g .entry)) ⌝ }
 {
@@ -227,7 +227,7 @@ pub fn read(g: &[u8], rules: &mut [[u8; 256]]) -> GrammarAnswer
     if rules::words_from(rules, n) + rules::pairs_from(rules, n) < r {
         return GrammarAnswer::Refused(GrammarRefusal::OnNoChain);
     }
-    if some_twins(g, rules) {
+    if repeated(g, rules) {
         return GrammarAnswer::Refused(GrammarRefusal::Repeated);
     }
     GrammarAnswer::Accepted {

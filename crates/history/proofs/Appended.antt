@@ -1,4 +1,4 @@
--- What a log does to a history's meaning: the bytes after it are an accepted history of K + 1 records, whose sentencesIn are the new one and
+-- What a log does to a history's meaning: the bytes after it are an accepted history of K + 1 records, whose sentences are the new one and
 -- then the old ones in their order. So the new sentence is heard, and what was heard still is.
 -- The argument: the bytes of the old records are as they were, so their fields are; the chain is the new record and then the old chain.
 -- Assumes nothing.
@@ -212,7 +212,7 @@ module _ (h s : List ℕ) (log : Logs h s) where
   pub accepted : Accepted (appended h s)
   accepted = accept (appended h s) (record { size = sized; records = fit; links = linked; chain = chained-still })
 
-  -- ---- the sentencesIn
+  -- ---- the sentences
 
   old-words : (r : ℕ) → 1 ≤ r → r ≤ K → recordWords (appended h s) r ≡ recordWords h r
   unfolding recordWords
@@ -265,7 +265,7 @@ logs h s e =
     below : (k : ℕ) → k ≤ 1000 → (k ≡ 1000 → ⊥) → k < 1000
     below k l n = omega arith
 
--- Where *Log* isn't refused: the bytes then are an accepted history, with one record more; its sentencesIn are the new one and then the old
+-- Where *Log* isn't refused: the bytes then are an accepted history, with one record more; its sentences are the new one and then the old
 -- ones; so a sentence is heard then exactly if it is the new one or was heard before.
 pub record Logged (h s : List ℕ) : Type 0 where
   pub accepted : Accepted (appended h s)

@@ -23,7 +23,7 @@ use Rattle.lists.proofs.Tests.{both-ways, some-∈, ∈-some, to-clear, to-some
 use Rattle.history.specs.Layout.{recordsOf, headOf, nextOf, recordWords}
 use Rattle.history.specs.Chain.{numbersFrom, numbers}
 use Rattle.history.specs.Refusals.{badLink, badChain, Accepted}
-use Rattle.history.specs.Heard.{sentencesIn, tells, heard}
+use Rattle.history.specs.Heard.{sentencesIn, hasSentence, heard}
 use Rattle.history.proofs.Acceptance.{clear, known, link-head, link-next, each-once}
 
 module _ (h : List ℕ) where
@@ -71,36 +71,36 @@ module _ (h : List ℕ) where
 
 -- ---- 14, as a loop that counts down from K meets it: the steps made, with what the walk still meets, come to the chain's length
 
-pub record Walking (h : List ℕ) (k at left : ℕ) : Type 0 where
+pub record Walking (h : List ℕ) (k at steps : ℕ) : Type 0 where
   pub low : at ≤ recordsOf h
-  pub due : length (numbers h) + left ≡ k + length (metFrom (nextOf h) (recordsOf h) (left + 1) at)
+  pub due : length (numbers h) + steps ≡ k + length (metFrom (nextOf h) (recordsOf h) (steps + 1) at)
 
 module _ {h : List ℕ} {k : ℕ} (count : k ≡ recordsOf h) (links : badLink h ≡ false) where
   pub walk-start : {at : ℕ} → at ≡ headOf h → Walking h k at k
   unfolding numbersFrom
   walk-start e = rw e (record { low = link-head h links; due = rw (← count) (omega arith) })
 
-  pub walk-step : {at next left : ℕ} → 0 < left → (at ≡ 0 → ⊥) → next ≡ nextOf h at → Walking h k at left → Walking h k next (left - 1)
-  walk-step {at} {next} {left} l n e w =
-      let s = met-step (nextOf h) (recordsOf h) (left + 1) at (omega arith) (omega arith) (w .low) in
-      let f : left + 1 - 1 ≡ left - 1 + 1 = omega arith in
+  pub walk-step : {at next steps : ℕ} → 0 < steps → (at ≡ 0 → ⊥) → next ≡ nextOf h at → Walking h k at steps → Walking h k next (steps - 1)
+  walk-step {at} {next} {steps} l n e w =
+      let s = met-step (nextOf h) (recordsOf h) (steps + 1) at (omega arith) (omega arith) (w .low) in
+      let f : steps + 1 - 1 ≡ steps - 1 + 1 = omega arith in
       rw e
       (record { low = link-next h links at (omega arith) (w .low); due = omega (arith, w .due, ap length (rw f at s)) })
 
-  pub walk-short : {at left : ℕ} → 0 < left → at ≡ 0 → Walking h k at left → true ≡ badChain h
-  walk-short {at} {left} l e w =
-      let m = ap length (met-zero (nextOf h) (recordsOf h) (left + 1) at e) in
+  pub walk-short : {at steps : ℕ} → 0 < steps → at ≡ 0 → Walking h k at steps → true ≡ badChain h
+  walk-short {at} {steps} l e w =
+      let m = ap length (met-zero (nextOf h) (recordsOf h) (steps + 1) at e) in
       sym (chain-length h links ∙ ap not (ne-eqb (length (numbers h)) (recordsOf h) (λ f. omega (arith, w .due))))
 
-  pub walk-end : {at left : ℕ} → left ≤ 0 → Walking h k at left → not (eqb at 0) ≡ badChain h
-  walk-end {at} {left} l w = last (ℕ-discrete at 0) ∙ sym (chain-length h links)
+  pub walk-end : {at steps : ℕ} → steps ≤ 0 → Walking h k at steps → not (eqb at 0) ≡ badChain h
+  walk-end {at} {steps} l w = last (ℕ-discrete at 0) ∙ sym (chain-length h links)
     where
       last : Dec (at ≡ 0) → not (eqb at 0) ≡ not (eqb (length (numbers h)) (recordsOf h))
       last (yes e) =
-          let m = ap length (met-zero (nextOf h) (recordsOf h) (left + 1) at e) in
+          let m = ap length (met-zero (nextOf h) (recordsOf h) (steps + 1) at e) in
           rw (eq-eqb at 0 e, eq-eqb (length (numbers h)) (recordsOf h) (omega (arith, w .due)))
       last (no n) =
-          let s = ap length (met-step (nextOf h) (recordsOf h) (left + 1) at (omega arith) (omega arith) (w .low)) in
+          let s = ap length (met-step (nextOf h) (recordsOf h) (steps + 1) at (omega arith) (omega arith) (w .low)) in
           rw (ne-eqb at 0 n, ne-eqb (length (numbers h)) (recordsOf h) (λ f. omega (arith, w .due)))
 
 -- ---- an accepted history
@@ -149,7 +149,7 @@ module _ (h : List ℕ) (ok : Accepted h) where
     where
       there : heard h s ≡ true → someOf (λ t. same t s) (sentencesIn h) ≡ true
       there e =
-          let q = to-found (λ r. tells h r s) (recordsOf h) e in
+          let q = to-found (λ r. hasSentence h r s) (recordsOf h) e in
           some-∈ (λ t. same t s) (recordWords h (q .0)) (sentencesIn h) (Memᴰ·map (recordWords h) (chained h ok .all (q .0) (q .1) (q .2))) (q .3)
 
       back : someOf (λ t. same t s) (sentencesIn h) ≡ true → heard h s ≡ true
@@ -157,4 +157,4 @@ module _ (h : List ℕ) (ok : Accepted h) where
           let q = ∈-some (λ t. same t s) (sentencesIn h) e in
           let r = Memᴰ·of-map (recordWords h) (numbers h) (q .1) in
           let i = numbers-inside h (headOf h) (r .1) in
-          to-some (λ k. tells h k s) (recordsOf h) (r .0) (i .0) (i .1) (rw (r .2) (q .2))
+          to-some (λ k. hasSentence h k s) (recordsOf h) (r .0) (i .0) (i .1) (rw (r .2) (q .2))

@@ -116,13 +116,13 @@ fn bad_chain(h: &[u8], k: usize) -> bool
     ensures { λ b. ⌜ b ≡ badChain (now (h .entry)) ⌝ }
 {
     let mut at = records::two_at(h, 2);
-    let mut left = k;
-    while 0 < left {
+    let mut steps = k;
+    while 0 < steps {
         if at == 0 {
             return true;
         }
         at = records::two_at(h, records::record_at(at));
-        left -= 1;
+        steps -= 1;
     }
     at != 0
 }

@@ -21,7 +21,7 @@ use Rattle.counting.specs.declared.prepare.Prepared.the-variants.{Ready as Pass
 use Rattle.counting.proofs.Asking.{counted-copied}
 use Rattle.charts.proofs.Placing.{room-short, room-low}
 use Rattle.charts.specs.Inner.Letters.{letterAt, weightBy}
-use Rattle.charts.specs.Inner.Maps.{totalAt, Span, Mapped, Everywhere, SpeltAs}
+use Rattle.charts.specs.Inner.Maps.{totalAt, Span, Mapped, Everywhere, LetteredAs}
 use Rattle.charts.specs.Inner.Plan.{lengthIn, needed}
 use Rattle.charts.specs.Inner.Chart.{Fills, Filled, ChartedAs}
 use Rattle.charts.specs.Inner.Ready.{Ready}
@@ -56,8 +56,8 @@ pub rest-kept : (n : ℕ) (out : List ℕ) → postOf 0 (n - 0) out ≡ drop n o
 rest-kept n out = rw sub-zero
 
 module _ {rules totals counts : List (List ℕ)} {n d : ℕ} {out : List ℕ} (w : WriteSought rules totals n d out) (e : Everywhere counts) where
-  abbrev give-hand : WalkTables rules totals counts counts n
-  give-hand =
+  abbrev give-tables : WalkTables rules totals counts counts n
+  give-tables =
       let c = w .counted in
       let m = everywhere-mapped rules e c (λ p m. true) in
       let letter : (p : ℕ) → p < n → letterAt counts p ≡ 256 = λ p h. e .letter p (omega (arith, c .short)) in
@@ -77,7 +77,7 @@ module _ {rules totals counts : List (List ℕ)} {n d : ℕ} {out : List ℕ} (w
       rw q
       (record {
         n = n;
-        hand = give-hand;
+        tables = give-tables;
         asked = start-asked (w .counted);
         span = whole (w .counted);
         known = refl;
@@ -95,33 +95,33 @@ module _ {rules plan map counts : List (List ℕ)} {s sets : List ℕ} {totals :
   short = f .ready .blank .counted .short
 
   -- the letters are the sentence's
-  module _ {spelt : List (List ℕ)} (p : SpeltAs s map spelt) where
-    ready-spelt : Ready rules plan spelt totals (length s)
-    ready-spelt = record {
+  module _ {lettered : List (List ℕ)} (p : LetteredAs s map lettered) where
+    ready-lettered : Ready rules plan lettered totals (length s)
+    ready-lettered = record {
       blank = f .ready .blank;
       linked = f .ready .linked;
-      planned = planned-same spelt (p .kept) (f .ready .planned);
+      planned = planned-same lettered (p .kept) (f .ready .planned);
       long = p .long;
       wide = p .wide;
     }
 
-    pub fill-asks : Fills rules plan spelt (lengthIn plan) sets totals
+    pub fill-asks : Fills rules plan lettered (lengthIn plan) sets totals
     fill-asks =
         rw (f .ready .planned .length)
         (record {
           blank = f .ready .blank;
-          planned = ready-spelt .planned;
+          planned = ready-lettered .planned;
           linked = f .ready .linked;
           letters = λ i h. omega (arith, p .small i h);
           clean = f .clean;
         })
 
     -- and the chart is filled
-    module _ {sets′ : List ℕ} {after : List (List ℕ)} (charted : ChartedAs rules plan spelt (lengthIn plan) totals sets′ after) where
-      abbrev q : Filled rules plan spelt (lengthIn plan) totals after
+    module _ {sets′ : List ℕ} {after : List (List ℕ)} (charted : ChartedAs rules plan lettered (lengthIn plan) totals sets′ after) where
+      abbrev q : Filled rules plan lettered (lengthIn plan) totals after
       q = charted .filled
 
-      mapped : Mapped rules after spelt (length s) (needed plan)
+      mapped : Mapped rules after lettered (length s) (needed plan)
       mapped = rw (f .ready .planned .length) at (q .mapped)
 
       counted : Counted rules after (length s)
@@ -129,7 +129,7 @@ module _ {rules plan map counts : List (List ℕ)} {s sets : List ℕ} {totals :
           let c = f .ready .blank .counted in
           counted-copied c (omega (arith, q .long, c .long)) (q .wide) (record { long = refl; rows = λ r h. q .kept r (omega (arith, short)); rest = λ r h. refl })
 
-      ready-after : Ready rules plan spelt after (length s)
+      ready-after : Ready rules plan lettered after (length s)
       ready-after =
           let b = f .ready .blank in
           record {
@@ -139,19 +139,19 @@ module _ {rules plan map counts : List (List ℕ)} {s sets : List ℕ} {totals :
               room = omega (arith, q .long, b .room);
             };
             linked = f .ready .linked;
-            planned = ready-spelt .planned;
+            planned = ready-lettered .planned;
             long = p .long;
             wide = p .wide;
           }
 
-      pub found-as : {o : Found} → Says rules s o → FoundAs rules plan spelt s sets′ after o
+      pub found-as : {o : Found} → Says rules s o → FoundAs rules plan lettered s sets′ after o
       found-as says = record { says = says; ready = ready-after; clean = rw (f .ready .planned .length) at (charted .clean) }
 
-      abbrev hand : WalkTables rules after spelt counts (length s)
-      hand = record {
+      abbrev tables : WalkTables rules after lettered counts (length s)
+      tables = record {
         counted = counted;
         known = needed plan;
-        closed = planned-closed short (ready-spelt .planned);
+        closed = planned-closed short (ready-lettered .planned);
         by = mapped;
         to = everywhere-mapped rules (f .everywhere) counted (needed plan);
         linked = λ i h l. f .ready .linked;
@@ -160,7 +160,7 @@ module _ {rules plan map counts : List (List ℕ)} {s sets : List ℕ} {totals :
       }
 
       module _ (a : ℕ) (e : a ≡ startIn rules) where
-        pub count-asks : Placed after spelt a 0 (length s)
+        pub count-asks : Placed after lettered a 0 (length s)
         count-asks = rw e
             (record {
               wide = counted .wide;
@@ -170,28 +170,28 @@ module _ {rules plan map counts : List (List ℕ)} {s sets : List ℕ} {totals :
               short = short;
             })
 
-        pub count-is : (x : ℕ) → x ≡ totalAt after spelt 0 a (length s) → x ≡ readingsIn rules s
+        pub count-is : (x : ℕ) → x ≡ totalAt after lettered 0 a (length s) → x ≡ readingsIn rules s
         count-is x h =
             h
-            ∙ ap (λ (b : ℕ). totalAt after spelt 0 b (length s)) e
+            ∙ ap (λ (b : ℕ). totalAt after lettered 0 b (length s)) e
             ∙ mapped .right 0 (startIn rules) (length s) (start-asked counted) (whole counted) (f .ready .planned .cut .whole)
-            ∙ readings-weigh rules (f .everywhere) (length s) short spelt s refl (p .letters) (p .small)
+            ∙ readings-weigh rules (f .everywhere) (length s) short lettered s refl (p .letters) (p .small)
 
-        pub find-sought : 1 ≤ readingsIn rules s → Sought rules after spelt counts a 0 (length s) 0
+        pub find-sought : 1 ≤ readingsIn rules s → Sought rules after lettered counts a 0 (length s) 0
         find-sought h =
             rw e
             (record {
               n = length s;
-              hand = hand;
+              tables = tables;
               asked = start-asked counted;
               span = whole counted;
               known = f .ready .planned .cut .whole;
-              inside = rw (readings-weigh rules (f .everywhere) (length s) short spelt s refl (p .letters) (p .small)) h;
+              inside = rw (readings-weigh rules (f .everywhere) (length s) short lettered s refl (p .letters) (p .small)) h;
             })
 
         pub found-number : {words : List ℕ} {place measured weight offset : ℕ}
-            → OwnedAs (ruled rules) (weightBy rules spelt) (weightBy rules counts) a 0 (length s) 0 words place measured weight offset → place ≡ numberIn rules s
-        found-number r = numbered rules (f .everywhere) (length s) short spelt s refl (p .letters) (p .small) (rw e at r)
+            → OwnedAs (ruled rules) (weightBy rules lettered) (weightBy rules counts) a 0 (length s) 0 words place measured weight offset → place ≡ numberIn rules s
+        found-number r = numbered rules (f .everywhere) (length s) short lettered s refl (p .letters) (p .small) (rw e at r)
 
 -- ---- the tables, once 1 to 10 are passed
 

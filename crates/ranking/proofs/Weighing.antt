@@ -34,35 +34,35 @@ letter-word weights x w h = rw (ne-eqb x 257 (λ e. omega arith), ne-eqb x 256 (
 
 module _ (rules map : List (List ℕ)) where
   -- the letters from p on are the words s
-  spelt-weight : (p : ℕ) (s u : List ℕ) → ((i : ℕ) → i < length s → letterAt map (p + i) ≡ getD s i 0) → ((i : ℕ) → i < length s → letterAt map (p + i) < any)
+  lettered-weight : (p : ℕ) (s u : List ℕ) → ((i : ℕ) → i < length s → letterAt map (p + i) ≡ getD s i 0) → ((i : ℕ) → i < length s → letterAt map (p + i) < any)
       → length u ≡ length s → weight (weightBy rules map) p u ≡ bit (same u s)
-  spelt-weight p [] [] e l h = refl
-  spelt-weight p [] (w ∷ u) e l h = absurd (omega arith)
-  spelt-weight p (x ∷ s) [] e l h = absurd (omega arith)
-  spelt-weight p (x ∷ s) (w ∷ u) e l h =
+  lettered-weight p [] [] e l h = refl
+  lettered-weight p [] (w ∷ u) e l h = absurd (omega arith)
+  lettered-weight p (x ∷ s) [] e l h = absurd (omega arith)
+  lettered-weight p (x ∷ s) (w ∷ u) e l h =
       let z : p + 0 ≡ p = omega arith in
       let here : letterAt map p ≡ x = rw z at (e 0 (omega arith)) in
       let low : letterAt map p < any = rw z at (l 0 (omega arith)) in
       let head : weightBy rules map p w ≡ bit (eqb w x) = letter-word (entry rules 13) (letterAt map p) w low ∙ ap (λ (y : ℕ). bit (eqb w y)) here in
       let next : (i : ℕ) → p + suc i ≡ suc p + i = λ i. omega arith in
-      let tail = spelt-weight (suc p) s u (λ i k. ap (letterAt map) (sym (next i)) ∙ e (suc i) (omega arith)) (λ i k. rw (← next i) (l (suc i) (omega arith))) (omega arith) in
+      let tail = lettered-weight (suc p) s u (λ i k. ap (letterAt map) (sym (next i)) ∙ e (suc i) (omega arith)) (λ i k. rw (← next i) (l (suc i) (omega arith))) (omega arith) in
       rw (head, tail) (sym (bit-and (eqb w x) (same u s)))
 
   -- any word at each position
-  plain-weight : (p : ℕ) (u : List ℕ) → ((i : ℕ) → i < length u → letterAt map (p + i) ≡ any) → weight (weightBy rules map) p u ≡ 1
-  plain-weight p [] e = refl
-  plain-weight p (w ∷ u) e =
+  any-weight : (p : ℕ) (u : List ℕ) → ((i : ℕ) → i < length u → letterAt map (p + i) ≡ any) → weight (weightBy rules map) p u ≡ 1
+  any-weight p [] e = refl
+  any-weight p (w ∷ u) e =
       let z : p + 0 ≡ p = omega arith in
       let here : letterAt map p ≡ any = rw z at (e 0 (omega arith)) in
       let next : (i : ℕ) → p + suc i ≡ suc p + i = λ i. omega arith in
-      let tail = plain-weight (suc p) u (λ i k. ap (letterAt map) (sym (next i)) ∙ e (suc i) (omega arith)) in
+      let tail = any-weight (suc p) u (λ i k. ap (letterAt map) (sym (next i)) ∙ e (suc i) (omega arith)) in
       rw (here, tail)
 
 module _ (rules : List (List ℕ)) {counts : List (List ℕ)} (c : Everywhere counts) (n : ℕ) (short : n ≤ 16) where
   -- by the counts every sentence of n words weighs 1
   pub counts-weight : (y : List ℕ) → y ∈ fullIn rules n → weight (weightBy rules counts) 0 y ≡ 1
   counts-weight y i =
-      plain-weight rules counts 0 y
+      any-weight rules counts 0 y
       (λ j k. c .letter (0 + j) (omega (arith, sentence-length (ruled rules) (startIn rules) n y i)))
 
   -- *Give*: ticket d is entry d
@@ -74,21 +74,21 @@ module _ (rules : List (List ℕ)) {counts : List (List ℕ)} (c : Everywhere co
       let e : place ≡ d = omega (arith, counts-weight words (owns-∈ (r .owns))) in
       by-counts (r .owns) counts-weight [] ∙ ap (λ (i : ℕ). getD (fullIn rules n) i []) e
 
-  module _ (map : List (List ℕ)) (s : List ℕ) (e : length s ≡ n) (spelt : (i : ℕ) → i < n → letterAt map i ≡ getD s i 0) (low : (i : ℕ) → i < n → letterAt map i < any) where
+  module _ (map : List (List ℕ)) (s : List ℕ) (e : length s ≡ n) (lettered : (i : ℕ) → i < n → letterAt map i ≡ getD s i 0) (low : (i : ℕ) → i < n → letterAt map i < any) where
     -- by the letters of s just the sentence s weighs 1
-    pub spelt-is : (y : List ℕ) → y ∈ fullIn rules (length s) → weight (weightBy rules map) 0 y ≡ bit (same y s)
-    spelt-is y i =
+    pub lettered-is : (y : List ℕ) → y ∈ fullIn rules (length s) → weight (weightBy rules map) 0 y ≡ bit (same y s)
+    lettered-is y i =
         let z : (j : ℕ) → 0 + j ≡ j = λ j. omega arith in
-        spelt-weight rules map 0 s y (λ j k. ap (letterAt map) (z j) ∙ spelt j (omega arith)) (λ j k. low (0 + j) (omega arith))
+        lettered-weight rules map 0 s y (λ j k. ap (letterAt map) (z j) ∙ lettered j (omega arith)) (λ j k. low (0 + j) (omega arith))
         (sentence-length (ruled rules) (startIn rules) (length s) y i)
 
     -- so the whole weighs how many derivations it has
     pub readings-weigh : total (ruled rules) (weightBy rules map) 0 (startIn rules) (length s) ≡ readingsIn rules s
     readings-weigh =
         total-sum (ruled rules) (weightBy rules map) 0 (startIn rules) (length s)
-        ∙ sum-ext (weight (weightBy rules map) 0) (λ y. bit (same y s)) (fullIn rules (length s)) spelt-is
+        ∙ sum-ext (weight (weightBy rules map) 0) (λ y. bit (same y s)) (fullIn rules (length s)) lettered-is
 
     -- *Number*: the place of the owner of ticket 0
     pub numbered : {words : List ℕ} {place measured w o : ℕ}
         → OwnedAs (ruled rules) (weightBy rules map) (weightBy rules counts) (startIn rules) 0 (length s) 0 words place measured w o → place ≡ numberIn rules s
-    numbered r = by-index (r .owns) (λ y. same y s) spelt-is (λ y i. counts-weight y (rw e at i))
+    numbered r = by-index (r .owns) (λ y. same y s) lettered-is (λ y i. counts-weight y (rw e at i))

@@ -43,7 +43,7 @@ pub fn find(
     requires { ⌜ FindSought (now rules) (now plan) (now map) (now counts) (now sentence) (now sets) (now totals) ⌝ }
     ensures { λ f. ⌜ FoundAs (now (rules .entry)) (now (plan .entry)) (now (map .exit)) (now (sentence .entry)) (now (sets .exit)) (now (totals .exit)) f ⌝ }
 {
-    maps::spell(sentence, map);
+    maps::set_letters(sentence, map);
     chart::fill(rules, plan, map, sets, totals);
     let n = sentence.len();
     let node = Node {

@@ -46,10 +46,10 @@ use Rattle.history.proofs.Outcome.{number-some}
 use Rattle.sorting.specs.Inner.Sorted.{SortedAs}
 use Rattle.sampling.specs.Question.{Question, plainly}
 use Rattle.sampling.specs.Unheard.{Entry, outside, ofLength, heardOf, leftOf, ambiguous}
-use Rattle.sampling.specs.Inner.Hearing.{barred, numbersIn, ambiguousIn, Holds}
+use Rattle.sampling.specs.Inner.Collect.{barred, numbersIn, ambiguousIn, Holds}
 use Rattle.sampling.specs.Answers.{sampleNumber, remainingRows, remainingTo, drawn, drawTo}
 use Rattle.sampling.specs.Inner.Skipping.{Skips}
-use Rattle.sampling.specs.Inner.Preparing.{Room, Lent, Heard, Hold, HeardAs, Recorded, RecordedAs, Drawable, Prepared, PreparedAs}
+use Rattle.sampling.specs.Inner.Preparing.{Room, Lent, Heard, Hold, NumbersAs, Recorded, RecordedAs, Drawable, Prepared, PreparedAs}
 use Rattle.sampling.specs.declared.heard.Collected.the-variants.{Numbers}
 use Rattle.sampling.specs.declared.prepare.SampleRefusal.{SampleRefusal}
 use Rattle.sampling.specs.declared.prepare.SampleRefusal.the-variants.{Count, History, Ambiguous as NotSingle}
@@ -102,7 +102,7 @@ module _ (rules : List (List ℕ)) (h : List ℕ) (n : ℕ) (numbers : List ℕ)
   pub unaccepted : (r : SampleRefusal) → history.historyRefusal h ≡ sampleNumber r → 0 < sampleNumber r → RecordedAs rules h n numbers (NotReady r)
   unaccepted r e l = record { recorded = sym (rows-stop (history.historyRows h) ((ambiguousIn rules h n, 15) ∷ []) (omega arith) ∙ e) }
 
-  pub heard-recorded : {s : Sampled} → history.Accepted h → HeardAs rules h n numbers s → RecordedAs rules h n numbers s
+  pub heard-recorded : {s : Sampled} → history.Accepted h → NumbersAs rules h n numbers s → RecordedAs rules h n numbers s
   heard-recorded {s = Ready k} ok q = record { recorded = (ok, q .hold .0, q .hold .1) }
   heard-recorded {s = NotReady r} ok q = record {
     recorded = q .hold .1
@@ -215,11 +215,11 @@ module _ (g h : List ℕ) (n : ℕ) where
 
 module _ {rules totals : List (List ℕ)} {heard : List ℕ} {n : ℕ} (s : DrawSought rules totals n heard) where
   pub struck-few : length heard ≤ totalIn rules n
-  struck-few = omega (arith, ap length (s .struck-are), keep-length (s .left) (fullIn rules n), T-sentences (grammar.ruled rules) (grammar.startIn rules) n)
+  struck-few = omega (arith, ap length (s .struck-are), keep-length (s .unheard) (fullIn rules n), T-sentences (grammar.ruled rules) (grammar.startIn rules) n)
 
   pub skips : {q : ℕ} → q < totalIn rules n - length heard → Skips q heard
   skips l = record {
-    rising = rw (s .struck-are) (struck-rising (s .left) (fullIn rules n));
+    rising = rw (s .struck-are) (struck-rising (s .unheard) (fullIn rules n));
     few = s .few;
     fits = omega (arith, total-fits (s .counted));
   }
@@ -227,8 +227,8 @@ module _ {rules totals : List (List ℕ)} {heard : List ℕ} {n : ℕ} (s : Draw
   skip-inside : (q : ℕ) → q < totalIn rules n - length heard → skip q heard < totalIn rules n
   skip-inside q l =
       let many = T-sentences (grammar.ruled rules) (grammar.startIn rules) n in
-      let k : q < length (keep (s .left) (fullIn rules n)) = omega (arith, ap length (s .struck-are), keep-length (s .left) (fullIn rules n)) in
-      rw (s .struck-are) (omega (arith, skip-lt (s .left) (fullIn rules n) q k))
+      let k : q < length (keep (s .unheard) (fullIn rules n)) = omega (arith, ap length (s .struck-are), keep-length (s .unheard) (fullIn rules n)) in
+      rw (s .struck-are) (omega (arith, skip-lt (s .unheard) (fullIn rules n) q k))
 
   pub skip-sought : (q d : ℕ) (out : List ℕ) → q < totalIn rules n - length heard → d ≡ skip q heard → n ≤ length out → WriteSought rules totals n d out
   skip-sought q d out l e m = record { counted = s .counted; inside = rw e (skip-inside q l); room = m }
@@ -274,7 +274,7 @@ draw-sought {h = h} {numbers = numbers} {n = n} {k = k} d room =
     (record {
       counted = d .tabled .counted;
       few = omega (arith, length-take-le k numbers (omega (arith, d .few, room (d .diary))), d .few, known h (d .diary) .sized .few);
-      left = λ s. not (heard h s);
+      unheard = λ s. not (heard h s);
       struck-are = d .heard ∙ barred-in (d .tabled .holds) h n;
     })
 

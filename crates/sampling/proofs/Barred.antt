@@ -1,5 +1,5 @@
 -- How many derivations are struck. A heard sentence with one derivation has just one place in the full list, its number; where no heard
--- sentence has two derivations, every struck place is such a number. So the numbers of the heard sentencesIn that *Left* counts are the struck
+-- sentence has two derivations, every struck place is such a number. So the numbers of the heard sentences that *Left* counts are the struck
 -- places, each once, and left is the length of the unheard list.
 -- Assumes nothing.
 use mathlib.Core.Path.{_≡_, refl, sym, ap, _∙_}
@@ -31,10 +31,10 @@ use Rattle.history.specs.Heard.{sentencesIn, heard}
 use Rattle.history.proofs.Chain.{heard-sentences}
 use Rattle.sampling.specs.Question.{plainly}
 use Rattle.sampling.specs.Unheard.{Entry, entriesFrom, outside, unheard, distinct, ofLength, heardOf, leftOf, ambiguous}
-use Rattle.sampling.specs.Inner.Hearing.{barred}
+use Rattle.sampling.specs.Inner.Collect.{barred}
 use Rattle.sampling.specs.Answers.{drawn}
 
--- ---- sentencesIn, each once
+-- ---- sentences, each once
 
 distinct-∈ : (l : List (List ℕ)) (s : List ℕ) → s ∈ distinct l → s ∈ l
 distinct-∈ (t ∷ l) s m = go (someOf (same t) l) (distinct-∈ l s) m
@@ -93,7 +93,7 @@ module _ (g : List ℕ) (n : ℕ) where
   entry-read s d e h f =
       many-at (derives s) (fullList g (length s)) d (leaf 0 0) (rw e h) (rw e (ap (λ (u : List ℕ). same u s) f ∙ same-refl s))
 
-  -- sentencesIn with one derivation have different numbers
+  -- sentences with one derivation have different numbers
   numbers-once : (l : List (List ℕ)) → ((s : List ℕ) → s ∈ l → (length s ≡ n) × (readingsOf g s ≡ 1)) → Distinct l → Distinct (map (numberOf g) l)
   numbers-once [] h none = none
   numbers-once (s ∷ l) h (more f d) =
@@ -117,7 +117,7 @@ entries-are d [] = refl
 entries-are d (t ∷ l) = rw (entries-are (suc d) l)
 
 module _ (g h : List ℕ) (n : ℕ) where
-  -- the heard sentencesIn of the length that have one derivation
+  -- the heard sentences of the length that have one derivation
   abbrev oneReading : List (List ℕ)
   oneReading = keep (λ s. eqb (readingsOf g s) 1) (ofLength n h)
 
@@ -146,7 +146,7 @@ module _ (g h : List ℕ) (n : ℕ) where
 
 -- with an accepted history
 module _ (g h : List ℕ) (n : ℕ) (diary : history.Accepted h) where
-  -- ---- the sentencesIn heard
+  -- ---- the sentences heard
 
   pub heard-∈ : (s : List ℕ) → heard h s ≡ true → s ∈ sentencesIn h
   heard-∈ s e =
@@ -164,7 +164,7 @@ module _ (g h : List ℕ) (n : ℕ) (diary : history.Accepted h) where
   pub ∈-length : (s : List ℕ) → heard h s ≡ true → length s ≡ n → s ∈ ofLength n h
   ∈-length s e l = ∈-keep (λ s. eqb (length s) n) (sentencesIn h) s (heard-∈ s e) (eq-eqb (length s) n l)
 
-  -- ---- the struck places are the numbers of the heard sentencesIn that have one derivation
+  -- ---- the struck places are the numbers of the heard sentences that have one derivation
 
   -- the number of such a sentence is struck
   number-fails : (s : List ℕ) → s ∈ ofLength n h → readingsOf g s ≡ 1
@@ -240,7 +240,7 @@ module _ (g h : List ℕ) (n : ℕ) (diary : history.Accepted h) where
               struck-counted,
         )
 
-    -- it counts the heard sentencesIn that have one derivation
+    -- it counts the heard sentences that have one derivation
     pub heard-exactly : Exactly (heardOf g h (plainly n)) (λ s. (length s ≡ n) × (heard h s ≡ true) × (readingsOf g s ≡ 1))
     unfolding heardOf
     heard-exactly =

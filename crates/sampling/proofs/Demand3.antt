@@ -37,7 +37,7 @@ use Rattle.history.specs.Refusals as history
 use Rattle.history.specs.Heard.{heard}
 use Rattle.sampling.specs.Question.{plainly}
 use Rattle.sampling.specs.Unheard.{Entry, entriesFrom, outside, unheard, heardOf, leftOf, ambiguous}
-use Rattle.sampling.specs.Inner.Hearing.{barred}
+use Rattle.sampling.specs.Inner.Collect.{barred}
 use Rattle.sampling.specs.Answers.{remainingRows, remainingOf, drawn, drawOf, remainingTo, drawTo}
 use Rattle.sampling.specs.Demand3.{Single, Premises, shown, asShown, refused, Demand3, Derivable, Once, SameBarred, Alike}
 use Rattle.sampling.proofs.Barred.{listed-length, entry, kept, unheard-is, unheard-length, unheard-at, heard-length, heard-exactly, heard-left, left-length}

@@ -1,7 +1,7 @@
 -- The laws of *Left* and *Draw*, and demand 3.
 pub mod Barred
 pub mod Skipping
-pub mod Hearing
+pub mod Collect
 pub mod Readying
 pub mod Answering
 pub mod Premises

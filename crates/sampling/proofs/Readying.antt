@@ -22,21 +22,21 @@ use Rattle.ranking.specs.Inner.Inside.{readingsIn}
 use Rattle.ranking.specs.Inner.Ranking.{Roomy}
 use Rattle.history.specs.Heard.{sentencesIn}
 use Rattle.sampling.specs.Unheard.{ofLength}
-use Rattle.sampling.specs.Inner.Hearing.{numbersIn, ambiguousIn, Collects, Holds, CollectedAs}
-use Rattle.sampling.specs.Inner.Preparing.{Hears}
+use Rattle.sampling.specs.Inner.Collect.{numbersIn, ambiguousIn, Collects, Holds, CollectedAs}
+use Rattle.sampling.specs.Inner.Preparing.{NumbersSought}
 use Rattle.sampling.specs.declared.heard.Collected.{Collected}
 use Rattle.sampling.specs.declared.heard.Collected.the-variants.{Numbers, Ambiguous}
-use Rattle.sampling.proofs.Hearing.{collect-case}
+use Rattle.sampling.proofs.Collect.{collect-case}
 
 -- a table of rules with room for links
 abbrev bare : List (List ℕ)
 bare = replicate 13 (replicate 256 0)
 
-module _ {rules plain : List (List ℕ)} {h : List ℕ} {n : ℕ} {numbers : List ℕ} {totals : List (List ℕ)} (w : Hears rules plain h n numbers) (t : Roomy n totals) where
-  pub counts-asked : (n ≤ 16) × (17 ≤ length plain) × (17 ≤ length totals)
+module _ {rules totals : List (List ℕ)} {h : List ℕ} {n : ℕ} {numbers : List ℕ} {chart : List (List ℕ)} (w : NumbersSought rules totals h n numbers) (t : Roomy n chart) where
+  pub counts-asked : (n ≤ 16) × (17 ≤ length totals) × (17 ≤ length chart)
   counts-asked = (w .counted .short, w .counted .long, omega (arith, t .counts))
 
-  module _ {copied linked : List (List ℕ)} (c : CopiedAs (n + 1) plain totals copied) (k : CopiedAs 4 rules bare linked) where
+  module _ {copied linked : List (List ℕ)} (c : CopiedAs (n + 1) totals chart copied) (k : CopiedAs 4 rules bare linked) where
     counts : Counted rules copied n
     counts = counted-copied (w .counted) (counts-asked .2) (t .wide) c
 

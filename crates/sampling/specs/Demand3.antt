@@ -1,5 +1,5 @@
 -- Demand 3 (document 01, section 'The draws as one list') as one claim about the list of draws, for every grammar, history and length
--- that it names. The answers are `remainingTo` (*Left*) and `drawTo` (*Draw*) to a question; the calls asShown the question of a length, and the
+-- that it names. The answers are `remainingTo` (*Left*) and `drawTo` (*Draw*) to a question; the calls put the question of a length, and the
 -- code's contracts say that it answers just these.
 -- Assumes nothing: these are definitions.
 use mathlib.Core.Path.{_≡_}
@@ -53,7 +53,7 @@ numberIn a = getD (a .figures) 1 0
 abbrev pub shown : (n : ℕ) → Answer → Shown
 shown n a = record { number = numberIn a; words = take n (a .buffer) }
 
--- "each entry asShown as its derivation number and its sentence"
+-- "each entry put as its derivation number and its sentence"
 abbrev pub asShown : Entry → Shown
 asShown e = record { number = e .number; words = sentence (e .tree) }
 

@@ -1,5 +1,5 @@
 -- Contracts of inner functions. What the calls promise is said without them, so a reader of the demands may pass over this folder.
 pub mod Skipping
-pub mod Hearing
+pub mod Collect
 pub mod Preparing
 pub mod Drawing

@@ -1,4 +1,4 @@
--- The full list with derivation numbers and the unheard list (document 01, section 'The draws as one list'), and the heard sentencesIn
+-- The full list with derivation numbers and the unheard list (document 01, section 'The draws as one list'), and the heard sentences
 -- that *Left* counts. They come from the bytes of grammar and history, not from T and not from any call's answer.
 -- Assumes nothing: these are definitions.
 use mathlib.Core.Bool.{Bool, cond, not}
@@ -33,16 +33,16 @@ unheard g h a = keep (λ e. outside h (e .tree)) (entriesFrom 0 (fullList g (a .
 
 -- ---- what *Left* counts
 
--- the sentencesIn listed, each once
+-- the sentences listed, each once
 abbrev pub distinct : List (List ℕ) → List (List ℕ)
 distinct [] = []
 distinct (s ∷ l) = cond (someOf (same s) l) (distinct l) (s ∷ distinct l)
 
--- the sentencesIn of a history that have n words
+-- the sentences of a history that have n words
 abbrev pub ofLength : (n : ℕ) (h : List ℕ) → List (List ℕ)
 ofLength n h = keep (λ s. eqb (length s) n) (sentencesIn h)
 
--- "heard (distinct heard sentencesIn of that length with one derivation)"
+-- "heard (distinct heard sentences of that length with one derivation)"
 unfoldable pub heardOf : (g h : List ℕ) (a : Question) → ℕ
 heardOf g h a = length (distinct (keep (λ s. eqb (readingsOf g s) 1) (ofLength (a .length) h)))
 

@@ -1,5 +1,5 @@
 // The heard derivation numbers: those of the history's sentences of a length that have one derivation.
-ghost use Rattle.sampling.specs.Inner.Hearing.{Tells, ToldAs, Collects, CollectedAs};
+ghost use Rattle.sampling.specs.Inner.Collect.{HeardSought, HeardFoundAs, Collects, CollectedAs};
 use charts::plan;
 use history::reader;
 use ranking::rank;
@@ -12,7 +12,7 @@ pub enum Collected {
 }
 
 // The derivations of a sentence of the history; one of another length has none of the plan's.
-fn tell(
+fn find_heard(
     rules: &[[u8; 256]],
     plan: &[[u32; 32]; 4],
     map: &mut [[u16; 16]; 17],
@@ -21,8 +21,8 @@ fn tell(
     sets: &mut [u32],
     totals: &mut [[u64; 32]],
 ) -> Found
-    requires { ⌜ Tells (now rules) (now plan) (now map) (now counts) (now sets) (now totals) ⌝ }
-    ensures { λ f. ⌜ ToldAs (now (rules .entry)) (now (plan .entry)) (now (map .exit)) (now (s .entry)) (now (sets .exit)) (now (totals .exit)) f ⌝ }
+    requires { ⌜ HeardSought (now rules) (now plan) (now map) (now counts) (now sets) (now totals) ⌝ }
+    ensures { λ f. ⌜ HeardFoundAs (now (rules .entry)) (now (plan .entry)) (now (map .exit)) (now (s .entry)) (now (sets .exit)) (now (totals .exit)) f ⌝ }
 {
     if s.len() != plan::length(plan) {
         return Found::None;
@@ -51,7 +51,7 @@ pub fn collect(
         if s.len() == 0 {
             return Collected::Numbers(count);
         }
-        let f = tell(rules, plan, map, counts, s, &mut sets, totals);
+        let f = find_heard(rules, plan, map, counts, s, &mut sets, totals);
         at = reader::after(h, at);
         match f {
             Found::None => {}

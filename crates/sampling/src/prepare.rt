@@ -6,7 +6,7 @@ ghost use Rattle.sorting.specs.Inner.Sorted.{SortedAs};
 ghost use Rattle.sampling.specs.Answers.{sampleNumber};
 ghost use Rattle.sampling.specs.Question.{asked};
 ghost use Rattle.ranking.specs.Inner.Ranking.{Roomy};
-ghost use Rattle.sampling.specs.Inner.Preparing.{Lent, Hears, HeardAs, HearsAll, RecordedAs, PreparedAs};
+ghost use Rattle.sampling.specs.Inner.Preparing.{Lent, NumbersSought, NumbersAs, RecordsSought, RecordedAs, PreparedAs};
 use crate::heard;
 use crate::heard::Collected;
 use crate::question::Question;
@@ -58,18 +58,18 @@ fn order(numbers: &mut [u64]) -> usize
 }
 
 // The heard numbers of a history, rising, each once, with room for the charts of its sentences.
-fn hear_in(
+fn heard_numbers_in(
     rules: &[[u8; 256]],
-    plain: &[[u64; 32]],
+    totals: &[[u64; 32]],
     h: &[u8],
     n: usize,
     numbers: &mut [u64],
-    totals: &mut [[u64; 32]],
+    chart: &mut [[u64; 32]],
 ) -> Sampled
-    requires { ⌜ Hears (now rules) (now plain) (now h) n (now numbers) × Roomy n (now totals) ⌝ }
-    ensures { λ s. ⌜ HeardAs (now (rules .entry)) (now (h .entry)) n (now (numbers .exit)) s ⌝ }
+    requires { ⌜ NumbersSought (now rules) (now totals) (now h) n (now numbers) × Roomy n (now chart) ⌝ }
+    ensures { λ s. ⌜ NumbersAs (now (rules .entry)) (now (h .entry)) n (now (numbers .exit)) s ⌝ }
 {
-    tallies::copy(plain, n, totals);
+    tallies::copy(totals, n, chart);
     let row = [0u8; 256];
     let mut linked = [row; 13];
     rules::copy(rules, &mut linked);
@@ -77,9 +77,9 @@ fn hear_in(
     let mut plan = [set_row; 4];
     let map_row = [0u16; 16];
     let mut map = [map_row; 17];
-    ready::ready(&mut linked, totals, n, &mut plan, &mut map);
+    ready::ready(&mut linked, chart, n, &mut plan, &mut map);
     let counts = maps::EVERYWHERE;
-    let c = heard::collect(&linked, &plan, &mut map, &counts, h, totals, numbers);
+    let c = heard::collect(&linked, &plan, &mut map, &counts, h, chart, numbers);
     match c {
         Collected::Ambiguous => Sampled::Refused(SampleRefusal::Ambiguous),
         Collected::Numbers(k) => {
@@ -90,34 +90,34 @@ fn hear_in(
 }
 
 // A chart of up to five words takes 33 rows, of sixteen 154.
-fn hear(
+fn heard_numbers(
     rules: &[[u8; 256]],
-    plain: &[[u64; 32]],
+    totals: &[[u64; 32]],
     h: &[u8],
     n: usize,
     numbers: &mut [u64],
 ) -> Sampled
-    requires { ⌜ Hears (now rules) (now plain) (now h) n (now numbers) ⌝ }
-    ensures { λ s. ⌜ HeardAs (now (rules .entry)) (now (h .entry)) n (now (numbers .exit)) s ⌝ }
+    requires { ⌜ NumbersSought (now rules) (now totals) (now h) n (now numbers) ⌝ }
+    ensures { λ s. ⌜ NumbersAs (now (rules .entry)) (now (h .entry)) n (now (numbers .exit)) s ⌝ }
 {
     let row = [0u64; 32];
     if n <= 5 {
-        let mut totals = [row; 33];
-        return hear_in(rules, plain, h, n, numbers, &mut totals);
+        let mut chart = [row; 33];
+        return heard_numbers_in(rules, totals, h, n, numbers, &mut chart);
     }
-    let mut totals = [row; 154];
-    hear_in(rules, plain, h, n, numbers, &mut totals)
+    let mut chart = [row; 154];
+    heard_numbers_in(rules, totals, h, n, numbers, &mut chart)
 }
 
 // 11 to 15. No chart is made for a history without records.
 fn records(
     rules: &[[u8; 256]],
-    plain: &[[u64; 32]],
+    totals: &[[u64; 32]],
     h: &[u8],
     n: usize,
     numbers: &mut [u64],
 ) -> Sampled
-    requires { ⌜ HearsAll (now rules) (now plain) (now h) n (now numbers) ⌝ }
+    requires { ⌜ RecordsSought (now rules) (now totals) (now h) n (now numbers) ⌝ }
     ensures { λ s. ⌜ RecordedAs (now (rules .entry)) (now (h .entry)) n (now (numbers .exit)) s ⌝ }
 {
     let a = checks::check(h);
@@ -127,7 +127,7 @@ fn records(
             if k == 0 {
                 return Sampled::Ready(0);
             }
-            hear(rules, plain, h, n, numbers)
+            heard_numbers(rules, totals, h, n, numbers)
         }
     }
 }

@@ -122,9 +122,9 @@ module _ {rules : List (List ℕ)} {by to a t : ℕ} (s : WordSought rules by to
 -- ---- a scan
 
 -- the words before the place i are gone through
-pub record Scanning (rules : List (List ℕ)) (by to a t i left place : ℕ) : Type 0 where
+pub record Scanning (rules : List (List ℕ)) (by to a t i rest place : ℕ) : Type 0 where
   pub from : wordFrom rules a ≤ i
-  pub passed : Passed (byLetter rules by) (byLetter rules to) (wordsIn rules a) (drop (i - wordFrom rules a) (wordsIn rules a)) t place left
+  pub passed : Passed (byLetter rules by) (byLetter rules to) (wordsIn rules a) (drop (i - wordFrom rules a) (wordsIn rules a)) t place rest
 
 module _ {rules : List (List ℕ)} {by to a t : ℕ} (s : WordSought rules by to a t) where
   pub scanning-start : {i : ℕ} → i ≡ wordFrom rules a → Scanning rules by to a t i t 0
@@ -132,7 +132,7 @@ module _ {rules : List (List ℕ)} {by to a t : ℕ} (s : WordSought rules by to
       let z : i - wordFrom rules a ≡ 0 = omega arith in
       record { from = omega arith; passed = rw z (passed-none (byLetter rules by) (byLetter rules to) (wordsIn rules a) t) }
 
-  module _ {i left place : ℕ} (w : Scanning rules by to a t i left place) where
+  module _ {i rest place : ℕ} (w : Scanning rules by to a t i rest place) where
     -- while t is a ticket, a word is left
     more : i - wordFrom rules a < length (wordsIn rules a)
     more =
@@ -150,25 +150,25 @@ module _ {rules : List (List ℕ)} {by to a t : ℕ} (s : WordSought rules by to
     scanning-low = omega (arith, scanning-more, few s)
 
     module _ {x : ℕ} (e : x ≡ wordAt rules i) where
-      rest : drop (i - wordFrom rules a) (wordsIn rules a) ≡ x ∷ drop (i + 1 - wordFrom rules a) (wordsIn rules a)
-      rest =
+      words-here : drop (i - wordFrom rules a) (wordsIn rules a) ≡ x ∷ drop (i + 1 - wordFrom rules a) (wordsIn rules a)
+      words-here =
           let j = i - wordFrom rules a in
           let n : suc j ≡ i + 1 - wordFrom rules a = omega (arith, w .from) in
           let b : wordFrom rules a + j ≡ i = omega (arith, w .from) in
           let z : getD (wordsIn rules a) j 0 ≡ x = word-here rules a j (omega (arith, more, word-count rules a)) ∙ ap (wordAt rules) b ∙ sym e in
           rw (z, n) at (drop-cons (wordsIn rules a) j 0 more)
 
-      at-word : Passed (byLetter rules by) (byLetter rules to) (wordsIn rules a) (x ∷ drop (i + 1 - wordFrom rules a) (wordsIn rules a)) t place left
-      at-word = rw rest at (w .passed)
+      at-word : Passed (byLetter rules by) (byLetter rules to) (wordsIn rules a) (x ∷ drop (i + 1 - wordFrom rules a) (wordsIn rules a)) t place rest
+      at-word = rw words-here at (w .passed)
 
       module _ {v u : ℕ} (ev : v ≡ byLetter rules by x) (eu : u ≡ byLetter rules to x) where
         pub scanning-room : place + u ≤ most
         scanning-room = omega (arith, passed-size at-word, s .fits)
 
-        pub scanning-found : left < v → PickedAs rules by to a t x place u v left
+        pub scanning-found : rest < v → PickedAs rules by to a t x place u v rest
         scanning-found h = record { owns = passed-here x (drop (i + 1 - wordFrom rules a) (wordsIn rules a)) at-word (omega arith); measured-is = eu; weight-is = ev }
 
-        pub scanning-next : v ≤ left → Scanning rules by to a t (i + 1) (left - v) (place + u)
+        pub scanning-next : v ≤ rest → Scanning rules by to a t (i + 1) (rest - v) (place + u)
         scanning-next h =
             record {
               from = omega (arith, w .from);

@@ -37,21 +37,21 @@ use Rattle.walk.specs.Inner.Steps.{Placed, Cut, WordSought, LeafAs, Halv
 
 module _ {rules totals choice measure : List (List ℕ)} {a p m t : ℕ} (s : Sought rules totals choice measure a p m t) where
   pub few : countIn rules ≤ 32
-  few = s .hand .counted .table .few
+  few = s .tables .counted .table .few
 
   pub a-few : a < 32
   a-few = omega (arith, few, s .asked .inside)
 
   pub short : p + m ≤ 16
-  short = omega (arith, s .span .inside, s .hand .counted .short)
+  short = omega (arith, s .span .inside, s .tables .counted .short)
 
   -- the halves with the left length k of a pair rule (b, c)
   module _ {b c : ℕ} (i : (b, c) ∈ pairsIn rules a) {k : ℕ} (h : 1 ≤ k) (l : k < m) where
     left-asked : Asked rules (s .n) b k
-    left-asked = asked-left (s .hand .counted .table) (s .asked) (b, c) i k h (omega arith)
+    left-asked = asked-left (s .tables .counted .table) (s .asked) (b, c) i k h (omega arith)
 
     right-asked : Asked rules (s .n) c (m - k)
-    right-asked = asked-right (s .hand .counted .table) (s .asked) (b, c) i (m - k) (omega arith) (omega arith)
+    right-asked = asked-right (s .tables .counted .table) (s .asked) (b, c) i (m - k) (omega arith) (omega arith)
 
     left-span : Span (s .n) p k
     left-span = record { some = h; inside = omega (arith, s .span .inside) }
@@ -62,10 +62,10 @@ module _ {rules totals choice measure : List (List ℕ)} {a p m t : ℕ} (s : So
     in-ruled : (b, c) ∈ pairsOf (ruled rules a)
     in-ruled = rw (pairs-ruled rules a) i
 
-    module _ {map : List (List ℕ)} (q : Mapped rules totals map (s .n) (s .hand .known)) where
+    module _ {map : List (List ℕ)} (q : Mapped rules totals map (s .n) (s .tables .known)) where
       pub left-placed : Placed totals map b p k
       left-placed = record {
-        wide = s .hand .counted .wide;
+        wide = s .tables .counted .wide;
         low = q .low p k left-span;
         inside = omega (arith, few, left-asked .inside);
         early = omega (arith, short);
@@ -74,7 +74,7 @@ module _ {rules totals choice measure : List (List ℕ)} {a p m t : ℕ} (s : So
 
       pub right-placed : Placed totals map c (p + k) (m - k)
       right-placed = record {
-        wide = s .hand .counted .wide;
+        wide = s .tables .counted .wide;
         low = q .low (p + k) (m - k) right-span;
         inside = omega (arith, few, right-asked .inside);
         early = omega (arith, short);
@@ -91,7 +91,7 @@ module _ {rules totals choice measure : List (List ℕ)} {a p m t : ℕ} (s : So
             | yes x ↦
                 elim (decLe 1 (T (ruled rules) c (m - k))) [
                   | yes y ↦
-                      let w = s .hand .closed .halves a b c p m k (s .asked) i (s .span) h l (s .known) x y in
+                      let w = s .tables .closed .halves a b c p m k (s .asked) i (s .span) h l (s .known) x y in
                       rw (q .right p b k left-asked left-span (w .0), q .right (p + k) c (m - k) right-asked right-span (w .1))
                   | no y ↦
                       let d = total-dead (ruled rules) v (p + k) c (m - k) (omega arith) in
@@ -115,13 +115,13 @@ module _ {rules totals choice measure : List (List ℕ)} {a p m t : ℕ} (s : So
 
 -- of the pair rules of a those before the place i are taken, of the last one the left lengths from k on are to come; from `end` on they hold
 -- nothing
-pub record Going (rules choice measure : List (List ℕ)) (a p m t i b c k end before left : ℕ) : Type 0 where
+pub record Going (rules choice measure : List (List ℕ)) (a p m t i b c k end before rest : ℕ) : Type 0 where
   pub from : pairFrom rules a ≤ i
   pub some : 1 ≤ k
   pub rule : k < end → (b, c) ∈ pairsIn rules a
   pub high : end ≤ m
   pub none : (j : ℕ) → 1 ≤ j → end ≤ j → j < m → T (ruled rules) b j ≡ 0
-  pub choosing : loops.Choosing (ruled rules) (weightBy rules choice) (weightBy rules measure) a p m t (i - pairFrom rules a) b c k before left
+  pub choosing : loops.Choosing (ruled rules) (weightBy rules choice) (weightBy rules measure) a p m t (i - pairFrom rules a) b c k before rest
 
 module _ {rules totals choice measure : List (List ℕ)} {a p m t : ℕ} (s : Sought rules totals choice measure a p m t) (h : 2 ≤ m) where
   -- at first no rule is taken
@@ -137,7 +137,7 @@ module _ {rules totals choice measure : List (List ℕ)} {a p m t : ℕ} (s : So
         choosing = rw z (loops.choosing-start (ruled rules) (weightBy rules choice) (weightBy rules measure) a p m t 0 0 h);
       }
 
-  module _ {i b c k end before left : ℕ} (w : Going rules choice measure a p m t i b c k end before left) where
+  module _ {i b c k end before rest : ℕ} (w : Going rules choice measure a p m t i b c k end before rest) where
     -- ---- no left length is to come: the next rule
 
     module _ (l : end ≤ k) where
@@ -152,7 +152,7 @@ module _ {rules totals choice measure : List (List ℕ)} {a p m t : ℕ} (s : So
       more-in = omega (arith, more, ap length (pairs-ruled rules a), pair-count rules a)
 
       pub rule-low : i < 255
-      rule-low = omega (arith, more-in, w .from, s .hand .counted .table .pair-low (a + 1) (omega (arith, s .asked .inside)))
+      rule-low = omega (arith, more-in, w .from, s .tables .counted .table .pair-low (a + 1) (omega (arith, s .asked .inside)))
 
       module _ {b′ c′ : ℕ} (eb : b′ ≡ leftAt rules i) (ec : c′ ≡ rightAt rules i) where
         next-is : (b′, c′) ≡ getD (pairsIn rules a) (i - pairFrom rules a) (0, 0)
@@ -172,18 +172,18 @@ module _ {rules totals choice measure : List (List ℕ)} {a p m t : ℕ} (s : So
         -- The left lengths at which the right half is longer than its longest derivation hold nothing, nor do those at which the left half is.
         pub going-rule : {k′ end′ lb lc : ℕ} → lc ≡ longestAt totals c′ → (1 ≤ k′) × (k′ ≤ m) × ((j : ℕ) → 1 ≤ j → j < k′ → lc < m - j)
             → lb ≡ longestAt totals b′ → (end′ ≤ m) × ((j : ℕ) → end′ ≤ j → j < m → lb < j)
-            → Going rules choice measure a p m t (i + 1) b′ c′ k′ end′ before left
+            → Going rules choice measure a p m t (i + 1) b′ c′ k′ end′ before rest
         going-rule {k′} elc f elb g =
             let z : k′ - 1 + 1 ≡ k′ = omega arith in
             let y : i - pairFrom rules a + 1 ≡ i + 1 - pairFrom rules a = omega (arith, w .from) in
             let skip = loops.list-skip (ruled rules) b′ c′ m (k′ - 1) (omega arith)
-            (λ j o u. s .hand .counted .longest c′ (m - j) (right-asked s next-in {k = j} o (omega arith)) (omega (arith, f .2 j o (omega arith)))) in
+            (λ j o u. s .tables .counted .longest c′ (m - j) (right-asked s next-in {k = j} o (omega arith)) (omega (arith, f .2 j o (omega arith)))) in
             record {
               from = omega (arith, w .from);
               some = f .0;
               rule = λ l. next-in;
               high = g .0;
-              none = λ j o n u. s .hand .counted .longest b′ j (left-asked s next-in {k = j} o u) (omega (arith, g .1 j n u));
+              none = λ j o n u. s .tables .counted .longest b′ j (left-asked s next-in {k = j} o u) (omega (arith, g .1 j n u));
               choosing = rw y at (loops.choosing-rule (w .choosing) none-left b′ c′ k′ more (rw (pairs-ruled rules a) next-is) (f .1) (rw z at skip));
             }
 
@@ -194,26 +194,26 @@ module _ {rules totals choice measure : List (List ℕ)} {a p m t : ℕ} (s : So
       low = omega (arith, w .high)
 
       pub cut-by : Cut totals choice b p k c (p + k) (m - k)
-      cut-by = cut s (w .rule l) (w .some) low (s .hand .by)
+      cut-by = cut s (w .rule l) (w .some) low (s .tables .by)
 
       pub cut-to : Cut totals measure b p k c (p + k) (m - k)
-      cut-to = cut s (w .rule l) (w .some) low (s .hand .to)
+      cut-to = cut s (w .rule l) (w .some) low (s .tables .to)
 
       module _ {x : ℕ} (ex : x ≡ totalAt totals choice p b k * totalAt totals choice (p + k) c (m - k)) where
         x-is : x ≡ halvesTotal (ruled rules) (weightBy rules choice) b c p m k
-        x-is = ex ∙ table-halves s (w .rule l) (w .some) low (s .hand .by)
+        x-is = ex ∙ table-halves s (w .rule l) (w .some) low (s .tables .by)
 
-        pub going-found : left < x → ChosenAs (ruled rules) (weightBy rules choice) (weightBy rules measure) a p m t b c k before left
+        pub going-found : rest < x → ChosenAs (ruled rules) (weightBy rules choice) (weightBy rules measure) a p m t b c k before rest
         going-found n = loops.choosing-found (w .choosing) low (w .some) (in-ruled s (w .rule l) (w .some) low) (omega (arith, x-is))
 
         module _ {y : ℕ} (ey : y ≡ totalAt totals measure p b k * totalAt totals measure (p + k) c (m - k)) where
           y-is : y ≡ halvesTotal (ruled rules) (weightBy rules measure) b c p m k
-          y-is = ey ∙ table-halves s (w .rule l) (w .some) low (s .hand .to)
+          y-is = ey ∙ table-halves s (w .rule l) (w .some) low (s .tables .to)
 
           pub going-room : before + y ≤ most
-          going-room = omega (arith, y-is, loops.choosing-room (w .choosing) low, s .hand .to .fits p a m (s .asked) (s .span))
+          going-room = omega (arith, y-is, loops.choosing-room (w .choosing) low, s .tables .to .fits p a m (s .asked) (s .span))
 
-          pub going-next : x ≤ left → Going rules choice measure a p m t i b c (k + 1) end (before + y) (left - x)
+          pub going-next : x ≤ rest → Going rules choice measure a p m t i b c (k + 1) end (before + y) (rest - x)
           going-next n =
               record {
                 from = w .from;
@@ -234,13 +234,13 @@ module _ {rules totals choice measure : List (List ℕ)} {a p m t : ℕ} (s : So
   word-sought =
       let i : p < s .n = omega (arith, s .span .inside) in
       record {
-        table = s .hand .counted .table;
+        table = s .tables .counted .table;
         inside = s .asked .inside;
-        linked = s .hand .linked p i;
-        weights = s .hand .weights p i;
-        measures = s .hand .measures p i;
+        linked = s .tables .linked p i;
+        weights = s .tables .weights p i;
+        measures = s .tables .measures p i;
         ticket = omega (arith, s .inside, words-total choice);
-        fits = omega (arith, s .hand .to .fits p a m (s .asked) (s .span), words-total measure);
+        fits = omega (arith, s .tables .to .fits p a m (s .asked) (s .span), words-total measure);
       }
 
   pub leaf-owned : {words : List ℕ} {place measured weight offset : ℕ} → LeafAs rules (letterAt choice p) (letterAt measure p) a t words place measured weight offset
@@ -264,19 +264,19 @@ live rules totals map p A m h =
       | no l ↦ absurd (omega (arith, total-dead (ruled rules) (weightBy rules map) p A m (omega arith)))
     ]
 
-module _ {rules totals choice measure : List (List ℕ)} {a p m t b c k before left : ℕ} where
-  pub halves-sought : Sought rules totals choice measure a p m t → ChosenAs (ruled rules) (weightBy rules choice) (weightBy rules measure) a p m t b c k before left
-      → HalvesSought rules totals choice measure a p m b c k before left
+module _ {rules totals choice measure : List (List ℕ)} {a p m t b c k before rest : ℕ} where
+  pub halves-sought : Sought rules totals choice measure a p m t → ChosenAs (ruled rules) (weightBy rules choice) (weightBy rules measure) a p m t b c k before rest
+      → HalvesSought rules totals choice measure a p m b c k before rest
   halves-sought s q = record { whole = t; sought = s; chosen = q }
 
-module _ {rules choice measure : List (List ℕ)} {a p m t b c k before left : ℕ} where
+module _ {rules choice measure : List (List ℕ)} {a p m t b c k before rest : ℕ} where
   pub halves-owned : {words : List ℕ} {place measured weight offset : ℕ}
-      → ChosenAs (ruled rules) (weightBy rules choice) (weightBy rules measure) a p m t b c k before left
-      → HalvesFoundAs rules choice measure p m b c k before left words place measured weight offset
+      → ChosenAs (ruled rules) (weightBy rules choice) (weightBy rules measure) a p m t b c k before rest
+      → HalvesFoundAs rules choice measure p m b c k before rest words place measured weight offset
       → OwnedAs (ruled rules) (weightBy rules choice) (weightBy rules measure) a p m t words place measured weight offset
   halves-owned q h = rw (h .place-is) (walks.chosen-owned q (h .owned))
 
-module _ {rules totals choice measure : List (List ℕ)} {a p m b c k before left : ℕ} (s : HalvesSought rules totals choice measure a p m b c k before left) where
+module _ {rules totals choice measure : List (List ℕ)} {a p m b c k before rest : ℕ} (s : HalvesSought rules totals choice measure a p m b c k before rest) where
   abbrev by : ℕ → ℕ → ℕ
   by = weightBy rules choice
 
@@ -295,61 +295,61 @@ module _ {rules totals choice measure : List (List ℕ)} {a p m b c k before lef
   pub span-short : p + m ≤ 16
   span-short = short (s .sought)
 
-  inside : InHalves (ruled rules) by b c p m k left
+  inside : InHalves (ruled rules) by b c p m k rest
   inside = walks.chosen-inside (s .chosen)
 
-  both-known : (s .sought .hand .known p k ≡ true) × (s .sought .hand .known (p + k) (m - k) ≡ true)
+  both-known : (s .sought .tables .known p k ≡ true) × (s .sought .tables .known (p + k) (m - k) ≡ true)
   both-known =
       let q = s .sought in
       let z = pos-both (total (ruled rules) by p b k) (total (ruled rules) by (p + k) c (m - k)) (omega (arith, inside .inside)) in
-      q .hand .closed .halves a b c p m k (q .asked) rule-in (q .span) k-some k-short (q .known) (live rules totals choice p b k (z .0)) (live rules totals choice (p + k) c (m - k) (z .1))
+      q .tables .closed .halves a b c p m k (q .asked) rule-in (q .span) k-some k-short (q .known) (live rules totals choice p b k (z .0)) (live rules totals choice (p + k) c (m - k) (z .1))
 
   pub placed-by : Placed totals choice c (p + k) (m - k)
-  placed-by = right-placed (s .sought) rule-in k-some k-short (s .sought .hand .by)
+  placed-by = right-placed (s .sought) rule-in k-some k-short (s .sought .tables .by)
 
   pub placed-to : Placed totals measure c (p + k) (m - k)
-  placed-to = right-placed (s .sought) rule-in k-some k-short (s .sought .hand .to)
+  placed-to = right-placed (s .sought) rule-in k-some k-short (s .sought .tables .to)
 
   to-is : {z : ℕ} → z ≡ totalAt totals measure (p + k) c (m - k) → z ≡ total (ruled rules) to (p + k) c (m - k)
   to-is e =
       let q = s .sought in
-      e ∙ q .hand .to .right (p + k) c (m - k) (right-asked q rule-in k-some k-short) (right-span q rule-in k-some k-short) (both-known .1)
+      e ∙ q .tables .to .right (p + k) c (m - k) (right-asked q rule-in k-some k-short) (right-span q rule-in k-some k-short) (both-known .1)
 
   module _ {y : ℕ} (e : y ≡ totalAt totals choice (p + k) c (m - k)) where
     by-is : y ≡ total (ruled rules) by (p + k) c (m - k)
     by-is =
         let q = s .sought in
-        e ∙ q .hand .by .right (p + k) c (m - k) (right-asked q rule-in k-some k-short) (right-span q rule-in k-some k-short) (both-known .1)
+        e ∙ q .tables .by .right (p + k) c (m - k) (right-asked q rule-in k-some k-short) (right-span q rule-in k-some k-short) (both-known .1)
 
     pub some-right : 0 < y
     some-right = rw by-is (walks.right-some inside)
 
-    pub left-sought : {d : ℕ} → d ≡ left / y → Sought rules totals choice measure b p k d
+    pub left-sought : {d : ℕ} → d ≡ rest / y → Sought rules totals choice measure b p k d
     left-sought f =
         let q = s .sought in
         record {
           n = q .n;
-          hand = q .hand;
+          tables = q .tables;
           asked = left-asked q rule-in k-some k-short;
           span = left-span q rule-in k-some k-short;
           known = both-known .0;
           inside = rw (f, by-is) (walks.left-ticket inside);
         }
 
-    module _ {d : ℕ} (f : d ≡ left / y) {words : List ℕ} {n measured w o : ℕ} (l : OwnedAs (ruled rules) by to b p k d words n measured w o) where
-      left-owned : OwnedAs (ruled rules) by to b p k (left / total (ruled rules) by (p + k) c (m - k)) words n measured w o
+    module _ {d : ℕ} (f : d ≡ rest / y) {words : List ℕ} {n measured w o : ℕ} (l : OwnedAs (ruled rules) by to b p k d words n measured w o) where
+      left-owned : OwnedAs (ruled rules) by to b p k (rest / total (ruled rules) by (p + k) c (m - k)) words n measured w o
       left-owned = rw (f, by-is) at l
 
       pub some-left : 0 < w
       some-left = omega (arith, walks.owned-some l)
 
-      pub rest-fits : o * y + left % y ≤ most
+      pub rest-fits : o * y + rest % y ≤ most
       rest-fits =
           let q = s .sought in
-          rw by-is (omega (arith, walks.rest-room inside left-owned, walks.chosen-tickets (s .chosen), q .hand .by .fits p a m (q .asked) (q .span)))
+          rw by-is (omega (arith, walks.rest-room inside left-owned, walks.chosen-tickets (s .chosen), q .tables .by .fits p a m (q .asked) (q .span)))
 
-      module _ {x : ℕ} (g : x ≡ o * y + left % y) where
-        rest-is : x ≡ walks.rest inside left-owned
+      module _ {x : ℕ} (g : x ≡ o * y + rest % y) where
+        rest-is : x ≡ walks.rightRest inside left-owned
         rest-is = rw by-is at g
 
         pub right-sought : {d′ : ℕ} → d′ ≡ x / w → Sought rules totals choice measure c (p + k) (m - k) d′
@@ -357,7 +357,7 @@ module _ {rules totals choice measure : List (List ℕ)} {a p m b c k before lef
             let q = s .sought in
             record {
               n = q .n;
-              hand = q .hand;
+              tables = q .tables;
               asked = right-asked q rule-in k-some k-short;
               span = right-span q rule-in k-some k-short;
               known = both-known .1;
@@ -365,11 +365,11 @@ module _ {rules totals choice measure : List (List ℕ)} {a p m b c k before lef
             }
 
         module _ {d′ : ℕ} (f′ : d′ ≡ x / w) {words′ : List ℕ} {n′ measured′ w′ o′ : ℕ} (r : OwnedAs (ruled rules) by to c (p + k) (m - k) d′ words′ n′ measured′ w′ o′) where
-          both-owned : HalvesAs (ruled rules) by to b c p m k left (words ++ words′) (n * total (ruled rules) to (p + k) c (m - k) + measured * n′) (measured * measured′) (w * w′) (o′ * w + x % w)
+          both-owned : HalvesAs (ruled rules) by to b c p m k rest (words ++ words′) (n * total (ruled rules) to (p + k) c (m - k) + measured * n′) (measured * measured′) (w * w′) (o′ * w + x % w)
           both-owned = rw rest-is (walks.halves-owned inside left-owned (rw (f′, rest-is) at r))
 
           pub halves-found : {z : ℕ} → z ≡ totalAt totals measure (p + k) c (m - k)
-              → HalvesFoundAs rules choice measure p m b c k before left (words ++ words′) (before + n * z + measured * n′) (measured * measured′) (w * w′) (o′ * w + x % w)
+              → HalvesFoundAs rules choice measure p m b c k before rest (words ++ words′) (before + n * z + measured * n′) (measured * measured′) (w * w′) (o′ * w + x % w)
           halves-found e′ =
               record {
                 inner = n * total (ruled rules) to (p + k) c (m - k) + measured * n′;
@@ -406,30 +406,30 @@ pub record Room (rules choice measure : List (List ℕ)) (a p m P M W O : ℕ) :
   pub weight : W * total (ruled rules) (weightBy rules choice) p a m ≤ most
   pub offset : O < W
 
-module _ (rules totals choice measure : List (List ℕ)) (p m b c k before left : ℕ) where
+module _ (rules totals choice measure : List (List ℕ)) (p m b c k before rest : ℕ) where
   -- `done` is written; what is found of the halves at hand, put behind it, is what is found of the first ones
-  pub record Along (done : List ℕ) (a p′ m′ b′ c′ k′ before′ left′ P M W O : ℕ) : Type 0 where
-    pub sought : HalvesSought rules totals choice measure a p′ m′ b′ c′ k′ before′ left′
+  pub record Along (done : List ℕ) (a p′ m′ b′ c′ k′ before′ rest′ P M W O : ℕ) : Type 0 where
+    pub sought : HalvesSought rules totals choice measure a p′ m′ b′ c′ k′ before′ rest′
     pub room : Room rules choice measure a p′ m′ P M W O
-    pub found : {words : List ℕ} {n u w o : ℕ} → HalvesFoundAs rules choice measure p′ m′ b′ c′ k′ before′ left′ words n u w o
-        → HalvesFoundAs rules choice measure p m b c k before left (done ++ words) (P + M * n) (M * u) (W * w) (O + W * o)
+    pub found : {words : List ℕ} {n u w o : ℕ} → HalvesFoundAs rules choice measure p′ m′ b′ c′ k′ before′ rest′ words n u w o
+        → HalvesFoundAs rules choice measure p m b c k before rest (done ++ words) (P + M * n) (M * u) (W * w) (O + W * o)
 
   -- the same of a right half and its ticket
   pub record Behind (done : List ℕ) (a p′ m′ t P M W O : ℕ) : Type 0 where
     pub sought : Sought rules totals choice measure a p′ m′ t
     pub room : Room rules choice measure a p′ m′ P M W O
     pub found : {words : List ℕ} {n u w o : ℕ} → OwnedAs (ruled rules) (weightBy rules choice) (weightBy rules measure) a p′ m′ t words n u w o
-        → HalvesFoundAs rules choice measure p m b c k before left (done ++ words) (P + M * n) (M * u) (W * w) (O + W * o)
+        → HalvesFoundAs rules choice measure p m b c k before rest (done ++ words) (P + M * n) (M * u) (W * w) (O + W * o)
 
-pub along-start : {rules totals choice measure : List (List ℕ)} {a p m b c k before left : ℕ} → HalvesSought rules totals choice measure a p m b c k before left
-    → Along rules totals choice measure p m b c k before left [] a p m b c k before left 0 1 1 0
+pub along-start : {rules totals choice measure : List (List ℕ)} {a p m b c k before rest : ℕ} → HalvesSought rules totals choice measure a p m b c k before rest
+    → Along rules totals choice measure p m b c k before rest [] a p m b c k before rest 0 1 1 0
 along-start {rules} {totals} {choice} {measure} {a} {p} {m} s =
     let q = s .sought in
     record {
       sought = s;
       room = record {
-        place = omega (arith, q .hand .to .fits p a m (q .asked) (q .span));
-        weight = omega (arith, q .hand .by .fits p a m (q .asked) (q .span));
+        place = omega (arith, q .tables .to .fits p a m (q .asked) (q .span));
+        weight = omega (arith, q .tables .by .fits p a m (q .asked) (q .span));
         offset = omega arith;
       };
       found = λ {words} {n} {u} {w} {o} h.
@@ -443,12 +443,12 @@ along-start {rules} {totals} {choice} {measure} {a} {p} {m} s =
 -- ---- the left half is found
 
 module _
-    {rules totals choice measure : List (List ℕ)} {p m b c k before left : ℕ} {done : List ℕ} {a p′ m′ b′ c′ k′ before′ left′ P M W O : ℕ}
-    (h : Along rules totals choice measure p m b c k before left done a p′ m′ b′ c′ k′ before′ left′ P M W O)
-    {y z d : ℕ} (ey : y ≡ totalAt totals choice (p′ + k′) c′ (m′ - k′)) (ez : z ≡ totalAt totals measure (p′ + k′) c′ (m′ - k′)) (ed : d ≡ left′ / y)
+    {rules totals choice measure : List (List ℕ)} {p m b c k before rest : ℕ} {done : List ℕ} {a p′ m′ b′ c′ k′ before′ rest′ P M W O : ℕ}
+    (h : Along rules totals choice measure p m b c k before rest done a p′ m′ b′ c′ k′ before′ rest′ P M W O)
+    {y z d : ℕ} (ey : y ≡ totalAt totals choice (p′ + k′) c′ (m′ - k′)) (ez : z ≡ totalAt totals measure (p′ + k′) c′ (m′ - k′)) (ed : d ≡ rest′ / y)
     {words : List ℕ} {n u w o : ℕ} (l : OwnedAs (ruled rules) (weightBy rules choice) (weightBy rules measure) b′ p′ k′ d words n u w o)
-    {x : ℕ} (ex : x ≡ o * y + left′ % y) where
-  abbrev s : HalvesSought rules totals choice measure a p′ m′ b′ c′ k′ before′ left′
+    {x : ℕ} (ex : x ≡ o * y + rest′ % y) where
+  abbrev s : HalvesSought rules totals choice measure a p′ m′ b′ c′ k′ before′ rest′
   s = h .sought
 
   abbrev byTotal : (p a m : ℕ) → ℕ
@@ -483,7 +483,7 @@ module _
             (omega (
               arith,
               inner-low before′ n u (toTotal (p′ + k′) c′ (m′ - k′)) (toTotal p′ b′ k′) (toTotal p′ a m′) left-part (walks.chosen-room (s .chosen)),
-              q .hand .to .fits p′ a m′ (q .asked) (q .span),
+              q .tables .to .fits p′ a m′ (q .asked) (q .span),
             ));
         place-fits = omega (arith, measured-room);
         measured-fits = λ i. omega (arith, measured-room, at-least (M * u) z i);
@@ -503,7 +503,7 @@ module _
         }
 
     right-found : {words′ : List ℕ} {n′ u′ w′ o′ : ℕ} → OwnedAs (ruled rules) (weightBy rules choice) (weightBy rules measure) c′ (p′ + k′) (m′ - k′) t words′ n′ u′ w′ o′
-        → HalvesFoundAs rules choice measure p m b c k before left ((done ++ words) ++ words′) (P′ + M′ * n′) (M′ * u′) (W′ * w′) (O′ + W′ * o′)
+        → HalvesFoundAs rules choice measure p m b c k before rest ((done ++ words) ++ words′) (P′ + M′ * n′) (M′ * u′) (W′ * w′) (O′ + W′ * o′)
     right-found {words′} {n′} {u′} {w′} {o′} r =
         let low : n′ + u′ ≤ z = rw (to-is s ez) (omega (arith, place-inside (r .owns), r .measure-is, total-sum (ruled rules) (weightBy rules measure) (p′ + k′) c′ (m′ - k′))) in
         let ep : P′ + M′ * n′ ≡ P + M * (before′ + n * z + u * n′) = rw (e .place-is, e .measured-is) (omega (arith, scaled-times M u z n′ (omega arith))) in
@@ -512,16 +512,16 @@ module _
         let eo : O′ + W′ * o′ ≡ O + W * (o′ * w + x % w) = rw (e .offset-is, e .weight-is) (omega arith) in
         rw (append-assoc done words words′, ep, em, ew, eo) (h .found (halves-found s ey ed l ex et r ez))
 
-    pub behind : Behind rules totals choice measure p m b c k before left (done ++ words) c′ (p′ + k′) (m′ - k′) t P′ M′ W′ O′
+    pub behind : Behind rules totals choice measure p m b c k before rest (done ++ words) c′ (p′ + k′) (m′ - k′) t P′ M′ W′ O′
     behind = record { sought = right-sought s ey ed l ex et; room = right-room; found = right-found }
 
 -- ---- the right half: a word ends the walk, halves of its own are the next
 
 module _
-    {rules totals choice measure : List (List ℕ)} {p m b c k before left : ℕ} {done : List ℕ} {a p′ m′ t P M W O : ℕ}
-    (h : Behind rules totals choice measure p m b c k before left done a p′ m′ t P M W O) where
-  pub along : {b′ c′ k′ before′ left′ : ℕ} → ChosenAs (ruled rules) (weightBy rules choice) (weightBy rules measure) a p′ m′ t b′ c′ k′ before′ left′
-      → Along rules totals choice measure p m b c k before left done a p′ m′ b′ c′ k′ before′ left′ P M W O
+    {rules totals choice measure : List (List ℕ)} {p m b c k before rest : ℕ} {done : List ℕ} {a p′ m′ t P M W O : ℕ}
+    (h : Behind rules totals choice measure p m b c k before rest done a p′ m′ t P M W O) where
+  pub along : {b′ c′ k′ before′ rest′ : ℕ} → ChosenAs (ruled rules) (weightBy rules choice) (weightBy rules measure) a p′ m′ t b′ c′ k′ before′ rest′
+      → Along rules totals choice measure p m b c k before rest done a p′ m′ b′ c′ k′ before′ rest′ P M W O
   along q = record { sought = halves-sought (h .sought) q; room = h .room; found = λ f. h .found (halves-owned q f) }
 
   module _ {words : List ℕ} {n u w o : ℕ} (r : OwnedAs (ruled rules) (weightBy rules choice) (weightBy rules measure) a p′ m′ t words n u w o) where
@@ -536,7 +536,7 @@ module _
         let q = h .sought in
         let some : 0 < w = omega (arith, walks.owned-some r) in
         record {
-          inner = omega (arith, last-low, q .hand .to .fits p′ a m′ (q .asked) (q .span));
+          inner = omega (arith, last-low, q .tables .to .fits p′ a m′ (q .asked) (q .span));
           place-fits = omega (arith, mul-le-mul-left M last-low, h .room .place);
           measured-fits = λ i. omega (arith, mul-le-mul-left M last-low, h .room .place);
           weight-fits = last-weight;
@@ -544,7 +544,7 @@ module _
           some = some;
         }
 
-    pub found-last : {P′ M′ W′ O′ : ℕ} → ExtendedAs P M W O 0 n u w 1 o P′ M′ W′ O′ → HalvesFoundAs rules choice measure p m b c k before left (done ++ words) P′ M′ W′ O′
+    pub found-last : {P′ M′ W′ O′ : ℕ} → ExtendedAs P M W O 0 n u w 1 o P′ M′ W′ O′ → HalvesFoundAs rules choice measure p m b c k before rest (done ++ words) P′ M′ W′ O′
     found-last {P′} {M′} {W′} {O′} e =
         let ep : P′ ≡ P + M * n = omega (arith, e .place-is) in
         let eo : O′ ≡ O + W * o = e .offset-is ∙ rw (mod-eq-of-lt (walks.owned-some r)) refl in

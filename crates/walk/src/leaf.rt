@@ -56,22 +56,22 @@ fn scan(rules: &[[u8; 256]], by: u16, to: u16, a: usize, ticket: u64) -> Picked
     ensures { λ r. ⌜ PickedAs (now (rules .entry)) by to a ticket (r .word) (r .place) (r .measured) (r .weight) (r .offset) ⌝ }
 {
     let mut i = rules::words_from(rules, a);
-    let mut left = ticket;
+    let mut rest = ticket;
     let mut place: u64 = 0;
     loop {
         let word = rules::word_at(rules, i);
         let weight = word_weight(rules, by, word);
         let measured = word_weight(rules, to, word);
-        if left < weight {
+        if rest < weight {
             return Picked {
                 word,
                 place,
                 measured,
                 weight,
-                offset: left,
+                offset: rest,
             };
         }
-        left -= weight;
+        rest -= weight;
         place += measured;
         i += 1;
     }

@@ -115,8 +115,8 @@ fn halves(
     pick: Pick,
     out: &mut [u8],
 ) -> Found
-    requires { ⌜ HalvesSought (now rules) (now totals) (now choice) (now measure) (node .a) (node .p) (node .m) (pick .b) (pick .c) (pick .k) (pick .before) (pick .left) × (length (now out) ≡ node .m) ⌝ }
-    ensures { λ r. ⌜ HalvesFoundAs (now (rules .entry)) (now (choice .entry)) (now (measure .entry)) (node .p) (node .m) (pick .b) (pick .c) (pick .k) (pick .before) (pick .left) (now (out .exit)) (r .place) (r .measured) (r .weight) (r .offset) ⌝ }
+    requires { ⌜ HalvesSought (now rules) (now totals) (now choice) (now measure) (node .a) (node .p) (node .m) (pick .b) (pick .c) (pick .k) (pick .before) (pick .rest) × (length (now out) ≡ node .m) ⌝ }
+    ensures { λ r. ⌜ HalvesFoundAs (now (rules .entry)) (now (choice .entry)) (now (measure .entry)) (node .p) (node .m) (pick .b) (pick .c) (pick .k) (pick .before) (pick .rest) (now (out .exit)) (r .place) (r .measured) (r .weight) (r .offset) ⌝ }
 {
     let mut here = node;
     let mut chosen = pick;
@@ -148,10 +148,10 @@ fn halves(
             choice,
             measure,
             left,
-            quotient(chosen.left, v),
+            quotient(chosen.rest, v),
             &mut out[at..end],
         );
-        let x = l.offset * v + remainder(chosen.left, v);
+        let x = l.offset * v + remainder(chosen.rest, v);
         let ticket = quotient(x, l.weight);
         found = extend(found, chosen.before, l, u, x);
         here = right;

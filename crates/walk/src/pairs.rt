@@ -15,7 +15,7 @@ pub struct Pick {
     pub c: usize,
     pub k: usize,
     pub before: u64,
-    pub left: u64,
+    pub rest: u64,
 }
 
 // The first left length that leaves the right half at most l positions.
@@ -47,7 +47,7 @@ pub fn choose_rule(
     ticket: u64,
 ) -> Pick
     requires { ⌜ Sought (now rules) (now totals) (now choice) (now measure) (node .a) (node .p) (node .m) ticket × (2 ≤ node .m) ⌝ }
-    ensures { λ r. ⌜ ChosenAs (ruled (now (rules .entry))) (weightBy (now (rules .entry)) (now (choice .entry))) (weightBy (now (rules .entry)) (now (measure .entry))) (node .a) (node .p) (node .m) ticket (r .b) (r .c) (r .k) (r .before) (r .left) ⌝ }
+    ensures { λ r. ⌜ ChosenAs (ruled (now (rules .entry))) (weightBy (now (rules .entry)) (now (choice .entry))) (weightBy (now (rules .entry)) (now (measure .entry))) (node .a) (node .p) (node .m) ticket (r .b) (r .c) (r .k) (r .before) (r .rest) ⌝ }
 {
     let m = node.m;
     let mut i = rules::pairs_from(rules, node.a);
@@ -56,7 +56,7 @@ pub fn choose_rule(
     let mut k = m;
     let mut end = m;
     let mut before: u64 = 0;
-    let mut left = ticket;
+    let mut rest = ticket;
     loop {
         if k < end {
             let l = Node {
@@ -70,16 +70,16 @@ pub fn choose_rule(
                 m: m - k,
             };
             let x = product(totals, choice, l, r);
-            if left < x {
+            if rest < x {
                 return Pick {
                     b,
                     c,
                     k,
                     before,
-                    left,
+                    rest,
                 };
             }
-            left -= x;
+            rest -= x;
             before += product(totals, measure, l, r);
             k += 1;
         } else {

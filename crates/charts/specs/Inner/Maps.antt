@@ -55,11 +55,11 @@ abbrev pub rowsFrom : (k n : ℕ) → List (List ℕ)
 rowsFrom k zero = []
 rowsFrom k (suc n) = sixteen k ∷ rowsFrom (suc k) n
 
-abbrev pub plainMap : List (List ℕ)
-plainMap = sixteen any ∷ rowsFrom 1 16
+abbrev pub countsMap : List (List ℕ)
+countsMap = sixteen any ∷ rowsFrom 1 16
 
 -- the map with a sentence's words as letters, below 256 each; the rows of spans are as they were
-pub record SpeltAs (sentence : List ℕ) (before after : List (List ℕ)) : Type 0 where
+pub record LetteredAs (sentence : List ℕ) (before after : List (List ℕ)) : Type 0 where
   pub long : length after ≡ 17
   pub wide : Wide after 16
   pub letters : (p : ℕ) → p < length sentence → letterAt after p ≡ getD sentence p 0

@@ -24,9 +24,9 @@ module _ (rules : ℕ → List Rule) where
   abbrev pub ruleSentences : (B C m : ℕ) → List (List ℕ)
   ruleSentences B C m = splitList (sentences rules) B C 1 (m - 1)
 
--- `left` is a ticket of two halves
-pub record InHalves (rules : ℕ → List Rule) (v : ℕ → ℕ → ℕ) (B C p m k left : ℕ) : Type 0 where
-  pub inside : left < halvesTotal rules v B C p m k
+-- `rest` is a ticket of two halves
+pub record InHalves (rules : ℕ → List Rule) (v : ℕ → ℕ → ℕ) (B C p m k rest : ℕ) : Type 0 where
+  pub inside : rest < halvesTotal rules v B C p m k
 
 module _ (rules : ℕ → List Rule) (v u : ℕ → ℕ → ℕ) where
   -- of A and m, the first word at the position p, the sentence that owns the ticket t
@@ -35,15 +35,15 @@ module _ (rules : ℕ → List Rule) (v u : ℕ → ℕ → ℕ) where
     pub measure-is : measure ≡ weight u p words
     pub weighs-is : weighs ≡ weight v p words
 
-  -- of the sentences that B and C make with left length k, the one that owns the ticket `left`
-  pub record HalvesAs (B C p m k left : ℕ) (words : List ℕ) (place measure weighs offset : ℕ) : Type 0 where
-    pub owns : Owns (weight v p) (weight u p) (halves rules B C k m) left words place offset
+  -- of the sentences that B and C make with left length k, the one that owns the ticket `rest`
+  pub record HalvesAs (B C p m k rest : ℕ) (words : List ℕ) (place measure weighs offset : ℕ) : Type 0 where
+    pub owns : Owns (weight v p) (weight u p) (halves rules B C k m) rest words place offset
     pub measure-is : measure ≡ weight u p words
     pub weighs-is : weighs ≡ weight v p words
 
   -- the pair rule and the left length that hold the ticket t, what stands before them, and the ticket there
-  pub record ChosenAs (A p m t B C k before left : ℕ) : Type 0 where
+  pub record ChosenAs (A p m t B C k before rest : ℕ) : Type 0 where
     pub rule : (B, C) ∈ pairsOf (rules A)
     pub some : 1 ≤ k
     pub short : k < m
-    pub part : Part (weight v p) (weight u p) (sentences rules A m) (halves rules B C k m) t before left
+    pub part : Part (weight v p) (weight u p) (sentences rules A m) (halves rules B C k m) t before rest

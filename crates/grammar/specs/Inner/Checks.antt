@@ -23,7 +23,7 @@ pub record Sized (g : List ℕ) (n r : ℕ) : Type 0 where
 -- 1 to 4 are passed: so far that the walks of the chains can read every rule
 pub record Readable (g : List ℕ) : Type 0 where
   pub sized : Sized g (nonterminals g) (rules g)
-  pub spoken : words g ≤ 255
+  pub words-low : words g ≤ 255
   pub fit : badRule g ≡ false
 
 -- ---- 4, and 5 of the nexts

@@ -68,7 +68,7 @@ pub record Ruled (rules : List (List ℕ)) : Type 0 where
   pub pair-rises : (a : ℕ) → a < countIn rules → pairFrom rules a ≤ pairFrom rules (a + 1)
   pub word-first : wordFrom rules 0 ≡ 0
   pub pair-first : pairFrom rules 0 ≡ 0
-  pub spoken : (i : ℕ) → i < wordFrom rules (countIn rules) → wordAt rules i < widthIn rules
+  pub words-low : (i : ℕ) → i < wordFrom rules (countIn rules) → wordAt rules i < widthIn rules
   pub lefts : (i : ℕ) → i < pairFrom rules (countIn rules) → leftAt rules i < countIn rules
   pub rights : (i : ℕ) → i < pairFrom rules (countIn rules) → rightAt rules i < countIn rules
   -- no nonterminal has a word twice (8)

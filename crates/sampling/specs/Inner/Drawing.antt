@@ -15,8 +15,8 @@ use Rattle.ranking.specs.Inner.Inside.{fullIn, totalIn, entryIn}
 pub record DrawSought (rules totals : List (List ℕ)) (n : ℕ) (heard : List ℕ) : Type 0 where
   pub counted : Counted rules totals n
   pub few : length heard ≤ 1000
-  pub left : List ℕ → Bool
-  pub struck-are : heard ≡ struck left (fullIn rules n)
+  pub unheard : List ℕ → Bool
+  pub struck-are : heard ≡ struck unheard (fullIn rules n)
 
 -- the derivation with q others before it that aren't struck, where there is one and the buffer has room
 unfoldable pub drawSkipping : (rules : List (List ℕ)) (n : ℕ) (heard : List ℕ) (q : ℕ) (out : List ℕ) → Answer

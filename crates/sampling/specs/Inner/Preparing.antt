@@ -17,7 +17,7 @@ use Rattle.history.specs.Layout.{recordsOf}
 use Rattle.history.specs.Refusals.{historyRows, Accepted}
 use Rattle.history.specs.Heard.{sentencesIn}
 use Rattle.sampling.specs.Question.{Question}
-use Rattle.sampling.specs.Inner.Hearing.{barred, numbersIn, ambiguousIn}
+use Rattle.sampling.specs.Inner.Collect.{barred, numbersIn, ambiguousIn}
 use Rattle.sampling.specs.Unheard.{ambiguous}
 use Rattle.sampling.specs.Answers.{sampleNumber, remainingRows}
 use Rattle.sampling.specs.declared.prepare.Sampled.{Sampled}
@@ -30,17 +30,17 @@ abbrev pub Room : (h numbers : List ℕ) → Type 0
 Room h numbers = Accepted h → recordsOf h ≤ length numbers
 
 -- the counts of the length n, and room for the numbers of a history
-pub record HearsAll (rules plain : List (List ℕ)) (h : List ℕ) (n : ℕ) (numbers : List ℕ) : Type 0 where
-  pub counted : Counted rules plain n
+pub record RecordsSought (rules totals : List (List ℕ)) (h : List ℕ) (n : ℕ) (numbers : List ℕ) : Type 0 where
+  pub counted : Counted rules totals n
   pub room : Room h numbers
 
 -- and an accepted history
-pub record Hears (rules plain : List (List ℕ)) (h : List ℕ) (n : ℕ) (numbers : List ℕ) : Type 0 where
-  pub counted : Counted rules plain n
+pub record NumbersSought (rules totals : List (List ℕ)) (h : List ℕ) (n : ℕ) (numbers : List ℕ) : Type 0 where
+  pub counted : Counted rules totals n
   pub diary : Accepted h
   pub room : recordsOf h ≤ length numbers
 
--- the numbers of a history's sentencesIn, rising, each once
+-- the numbers of a history's sentences, rising, each once
 pub record Heard (rules : List (List ℕ)) (h : List ℕ) (n : ℕ) (heard : List ℕ) : Type 0 where
   pub clear : ambiguousIn rules h n ≡ false
   pub rising : Pairwise _<_ heard
@@ -51,7 +51,7 @@ abbrev pub Hold : (rules : List (List ℕ)) (h : List ℕ) (n : ℕ) (numbers : 
 Hold rules h n numbers (Ready k) = (k ≤ recordsOf h) × Heard rules h n (take k numbers)
 Hold rules h n numbers (Refused r) = (ambiguousIn rules h n ≡ true) × (sampleNumber r ≡ 15)
 
-pub record HeardAs (rules : List (List ℕ)) (h : List ℕ) (n : ℕ) (numbers : List ℕ) (s : Sampled) : Type 0 where
+pub record NumbersAs (rules : List (List ℕ)) (h : List ℕ) (n : ℕ) (numbers : List ℕ) (s : Sampled) : Type 0 where
   pub hold : Hold rules h n numbers s
 
 -- these of an accepted history; or the first of 11 to 15 that applies

@@ -176,8 +176,8 @@ module _ (d : ℕ) where
 
   abbrev Inv-loop : halves-lts.InvT-loop
   Inv-loop rules totals choice measure out₀ here₀ chosen₀ at₀ found₀ out here chosen at found =
-      Along rules totals choice measure (here₀ .p) (here₀ .m) (chosen₀ .b) (chosen₀ .c) (chosen₀ .k) (chosen₀ .before) (chosen₀ .left)
-      (take at out) (here .a) (here .p) (here .m) (chosen .b) (chosen .c) (chosen .k) (chosen .before) (chosen .left)
+      Along rules totals choice measure (here₀ .p) (here₀ .m) (chosen₀ .b) (chosen₀ .c) (chosen₀ .k) (chosen₀ .before) (chosen₀ .rest)
+      (take at out) (here .a) (here .p) (here .m) (chosen .b) (chosen .c) (chosen .k) (chosen .before) (chosen .rest)
       (found .place) (found .measured) (found .weight) (found .offset)
       × (at + here .m ≡ here₀ .m)
       × (length out ≡ here₀ .m)
@@ -206,7 +206,7 @@ module _ (d : ℕ) where
 
   module _ (c : in-halves halves-lts.At-loop) where
     abbrev sought : HalvesSought (now (from c .args .rules)) (now (from c .args .totals)) (now (from c .args .choice)) (now (from c .args .measure))
-        (c .loop .here .a) (c .loop .here .p) (c .loop .here .m) (c .loop .chosen .b) (c .loop .chosen .c) (c .loop .chosen .k) (c .loop .chosen .before) (c .loop .chosen .left)
+        (c .loop .here .a) (c .loop .here .p) (c .loop .here .m) (c .loop .chosen .b) (c .loop .chosen .c) (c .loop .chosen .k) (c .loop .chosen .before) (c .loop .chosen .rest)
     sought = c .loop .inv .0 .sought
 
     end-low : c .loop .at + c .loop .chosen .k < from c .args .node .m
@@ -249,7 +249,7 @@ module _ (d : ℕ) where
     abbrev rest : ℕ
     rest = lefted .left-half .result .offset * totalled lefted .before .total .result + c .remainder .result
 
-    rest-is : rest ≡ lefted .left-half .result .offset * totalled lefted .before .total .result + loop lefted .loop .chosen .left % totalled lefted .before .total .result
+    rest-is : rest ≡ lefted .left-half .result .offset * totalled lefted .before .total .result + loop lefted .loop .chosen .rest % totalled lefted .before .total .result
     rest-is = ap (λ (n : ℕ). lefted .left-half .result .offset * totalled lefted .before .total .result + n) (c .remainder .ensures)
 
     rest-room : rest ≤ most
@@ -277,7 +277,7 @@ module _ (d : ℕ) where
     end = here .loop .at + here .loop .chosen .k
 
     right : Behind (now (asked .args .rules)) (now (asked .args .totals)) (now (asked .args .choice)) (now (asked .args .measure)) (asked .args .node .p) (asked .args .node .m)
-        (asked .args .pick .b) (asked .args .pick .c) (asked .args .pick .k) (asked .args .pick .before) (asked .args .pick .left) (take end (written half))
+        (asked .args .pick .b) (asked .args .pick .c) (asked .args .pick .k) (asked .args .pick .before) (asked .args .pick .rest) (take end (written half))
         (here .loop .chosen .c) (here .loop .here .p + here .loop .chosen .k) (here .loop .here .m - here .loop .chosen .k) (c .before .quotient2 .result)
         (c .extend .result .place) (c .extend .result .measured) (c .extend .result .weight) (c .extend .result .offset)
     right =

@@ -29,8 +29,8 @@ pub record WalkTables (rules totals choice measure : List (List ℕ)) (n : ℕ) 
 -- a ticket of the nonterminal a over the m positions from p on
 pub record Sought (rules totals choice measure : List (List ℕ)) (a p m t : ℕ) : Type 0 where
   pub n : ℕ
-  pub hand : WalkTables rules totals choice measure n
+  pub tables : WalkTables rules totals choice measure n
   pub asked : Asked rules n a m
   pub span : Span n p m
-  pub known : hand .known p m ≡ true
+  pub known : tables .known p m ≡ true
   pub inside : t < total (ruled rules) (weightBy rules choice) p a m

@@ -77,15 +77,15 @@ pub record LeafAs (rules : List (List ℕ)) (by to a t : ℕ) (words : List ℕ)
 
 -- ---- the halves of a pair rule
 
-pub record HalvesSought (rules totals choice measure : List (List ℕ)) (a p m b c k before left : ℕ) : Type 0 where
+pub record HalvesSought (rules totals choice measure : List (List ℕ)) (a p m b c k before rest : ℕ) : Type 0 where
   pub whole : ℕ
   pub sought : Sought rules totals choice measure a p m whole
-  pub chosen : ChosenAs (ruled rules) (weightBy rules choice) (weightBy rules measure) a p m whole b c k before left
+  pub chosen : ChosenAs (ruled rules) (weightBy rules choice) (weightBy rules measure) a p m whole b c k before rest
 
-pub record HalvesFoundAs (rules choice measure : List (List ℕ)) (p m b c k before left : ℕ) (words : List ℕ) (place measured weight offset : ℕ) : Type 0 where
+pub record HalvesFoundAs (rules choice measure : List (List ℕ)) (p m b c k before rest : ℕ) (words : List ℕ) (place measured weight offset : ℕ) : Type 0 where
   pub inner : ℕ
   pub place-is : place ≡ before + inner
-  pub owned : HalvesAs (ruled rules) (weightBy rules choice) (weightBy rules measure) b c p m k left words inner measured weight offset
+  pub owned : HalvesAs (ruled rules) (weightBy rules choice) (weightBy rules measure) b c p m k rest words inner measured weight offset
 
 -- ---- part after part
 

@@ -100,7 +100,7 @@ readable c =
     let s = sized (e3 c) in
     record {
       sized = record { heads = refl; bodies = refl; few = omega arith; numbered = omega arith; size = omega arith };
-      spoken = small (e2 (e3 c)) .few-words;
+      words-low = small (e2 (e3 c)) .few-words;
       fit = rules-fit c;
     }
 
@@ -180,19 +180,19 @@ returns-8 c =
     (past6 l ∙ row-applies 7 _ (missed _ (once l) (omega (arith, entered (c .before), c .if8 .taken, sized (e3 (e4 (e5 (e6 l)))) .bodies))))
     (lit< tt)
 
-some-twins-requires : tie.Need-some-twins-requires
-some-twins-requires c κs = let l = e7 (c .before) in (readable (e4 (e5 (e6 l))), built l .build .ensures .sorted (l .if7 .left))
+repeated-requires : tie.Need-repeated-requires
+repeated-requires c κs = let l = e7 (c .before) in (readable (e4 (e5 (e6 l))), built l .build .ensures .sorted (l .if7 .left))
 
 returns-9 : tie.Need-returns-9
 returns-9 c =
     let e = c .before .before .before in
-    refused (built (e7 e) .build .ensures .kept) _ (past7 e ∙ row-applies 8 _ (sym (c .before .some-twins .ensures) ∙ c .if9 .taken)) (lit< tt)
+    refused (built (e7 e) .build .ensures .kept) _ (past7 e ∙ row-applies 8 _ (sym (c .before .repeated .ensures) ∙ c .if9 .taken)) (lit< tt)
 
 returns-10 : tie.Need-returns-10
 returns-10 c =
     let e = c .before .before in
     let l = e7 (e8 e) in
-    let apart = sym (e .before .some-twins .ensures) ∙ e .if9 .left in
+    let apart = sym (e .before .repeated .ensures) ∙ e .if9 .left in
     let held = sorted-holds (readable (e4 (e5 (e6 l)))) (built l .build .ensures .sorted (l .if7 .left)) (small (e2 (e3 (e4 (e5 (e6 l))))) .start-inside) apart in
     accepted (built l .build .ensures .kept) (past7 (e8 e) ∙ row-passed 8 _ apart) held
 
@@ -224,7 +224,7 @@ read-spec =
     (λ c. search needs)
     (λ c. built (c .before .before .before .before .before) .build .ensures .kept .long)
     returns-8
-    some-twins-requires
+    repeated-requires
     (λ c. built (e7 (c .before .before .before)) .build .ensures .kept .long)
     returns-9
     (λ c. search needs)

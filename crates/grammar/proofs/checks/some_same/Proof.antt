@@ -3,7 +3,7 @@
 -- Assumes nothing.
 use Prim.Native.Nat.{_-_, _<_}
 use native.Mathlib.Omega.{arith}
-use Rattle.grammar.proofs.Twins.{Scanning, scan-start, scan-end, scan-low, scan-hit, scan-next}
+use Rattle.grammar.proofs.Repeats.{Scanning, scan-start, scan-end, scan-low, scan-hit, scan-next}
 use Rattle.grammar.proofs.checks.some_same.Statement.{statement}
 use Rattle.grammar.proofs.checks.some_same.Tie as tie
 

@@ -9,7 +9,7 @@ use native.Mathlib.Omega.{arith}
 use borrow.Author.Needs.{needs}
 use lib.ListN.{length, getD, length-set}
 use Rattle.grammar.specs.Layout as Layout
-use Rattle.grammar.proofs.Walks.{step-told}
+use Rattle.grammar.proofs.Walks.{step-met}
 use Rattle.grammar.specs.Inner.Entering.{Kept}
 use Rattle.lists.proofs.Tables.{kept-same, kept-put}
 use Rattle.grammar.proofs.Entering.{Walking, enter-few, walk-start, walk-room, walk-again, walk-free, walk-word, walk-pair, walk-end}
@@ -90,19 +90,19 @@ returns c =
 returns-2 : tie.Need-returns-2 Inv-loop μ-loop
 returns-2 c =
     let l = head (ended c) in
-    walk-end (start l .pre) (l .loop .inv .0) (begun l .wide2 .ensures .0) (step-told _ _ (ended c .step .ensures) (c .enum-told .given .1)) (l .loop .inv .1)
+    walk-end (start l .pre) (l .loop .inv .0) (begun l .wide2 .ensures .0) (step-met _ _ (ended c .step .ensures) (c .enum-told .given .1)) (l .loop .inv .1)
 
 loop-less : tie.Need-loop-less Inv-loop μ-loop
 loop-less c =
     let s = worded c in
     let l = head s in
-    omega (arith, walk-free (start l .pre) (l .loop .inv .0) (same s) (new s) (step-told _ _ (s .step .ensures) (c .before .x .given .1)))
+    omega (arith, walk-free (start l .pre) (l .loop .inv .0) (same s) (new s) (step-met _ _ (s .step .ensures) (c .before .x .given .1)))
 
 loop-again : tie.Need-loop-again Inv-loop μ-loop
 loop-again c =
     let s = worded c in
     let l = head s in (
-      walk-word (start l .pre) (l .loop .inv .0) (same s) (new s) (step-told _ _ (s .step .ensures) (c .before .x .given .1)),
+      walk-word (start l .pre) (l .loop .inv .0) (same s) (new s) (step-met _ _ (s .step .ensures) (c .before .x .given .1)),
       kept-put 0 _ _ (omega arith) (l .loop .inv .1),
     )
 
@@ -110,13 +110,13 @@ loop-less-2 : tie.Need-loop-less-2 Inv-loop μ-loop
 loop-less-2 c =
     let s = paired c in
     let l = head s in
-    omega (arith, walk-free (start l .pre) (l .loop .inv .0) (same s) (new s) (step-told _ _ (s .step .ensures) (c .before .b .given .1)))
+    omega (arith, walk-free (start l .pre) (l .loop .inv .0) (same s) (new s) (step-met _ _ (s .step .ensures) (c .before .b .given .1)))
 
 loop-again-2 : tie.Need-loop-again-2 Inv-loop μ-loop
 loop-again-2 c =
     let s = paired c in
     let l = head s in (
-      walk-pair (start l .pre) (l .loop .inv .0) (same s) (new s) (step-told _ _ (s .step .ensures) (c .before .b .given .1)),
+      walk-pair (start l .pre) (l .loop .inv .0) (same s) (new s) (step-met _ _ (s .step .ensures) (c .before .b .given .1)),
       kept-put 2 _ _ (omega arith) (kept-put 1 _ _ (omega arith) (l .loop .inv .1)),
     )
 

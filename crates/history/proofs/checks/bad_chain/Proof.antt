@@ -10,10 +10,10 @@ use Rattle.history.proofs.checks.bad_chain.Statement.{statement}
 use Rattle.history.proofs.checks.bad_chain.Tie as tie
 
 abbrev Inv-loop : tie.InvT-loop
-Inv-loop h k at₀ left₀ at left = Walking h k at left
+Inv-loop h k at₀ steps₀ at steps = Walking h k at steps
 
 abbrev μ-loop : tie.MeasureT-loop
-μ-loop h k at₀ left₀ at left = left
+μ-loop h k at₀ steps₀ at steps = steps
 
 abbrev start : tie.At-loop Inv-loop μ-loop → tie.Start Inv-loop μ-loop
 start c = c .before .before .before
@@ -36,8 +36,8 @@ record-at-requires c κs = let l = c .before .before in let s = start l .pre .0 
 two-at-requires-2 : tie.Need-two-at-requires-2 Inv-loop μ-loop
 two-at-requires-2 c κs = let l = c .before .before .before in let s = start l .pre .0 in omega (arith, l .loop .inv .low)
 
-sub-left : tie.Need-sub-left Inv-loop μ-loop
-sub-left c = omega arith
+sub-steps : tie.Need-sub-steps Inv-loop μ-loop
+sub-steps c = omega arith
 
 loop-less : tie.Need-loop-less Inv-loop μ-loop
 loop-less c = omega arith
@@ -62,7 +62,7 @@ bad-chain-spec =
     returns
     record-at-requires
     two-at-requires-2
-    sub-left
+    sub-steps
     loop-less
     loop-again
     returns-2)

@@ -14,11 +14,11 @@ use Rattle.ranking.proofs.Finding.{fill-asks, found-as, count-asks, cou
 use Rattle.ranking.proofs.rank.find.Statement.{statement}
 use Rattle.ranking.proofs.rank.find.Tie as tie
 
-abbrev entry : tie.After-spell → tie.Start
+abbrev entry : tie.After-set-letters → tie.Start
 entry c = c .before .before .before .before
 
-abbrev spelt : tie.After-fill → tie.After-spell
-spelt c = c .before .before .before .before
+abbrev lettered : tie.After-fill → tie.After-set-letters
+lettered c = c .before .before .before .before
 
 abbrev filled : tie.After-start → tie.After-fill
 filled c = c .before .before .before .before
@@ -27,17 +27,17 @@ abbrev started : tie.After-total → tie.After-start
 started c = c .before .before .before
 
 abbrev rules : tie.After-total → List (List ℕ)
-rules c = now (entry (spelt (filled (started c))) .args .rules)
+rules c = now (entry (lettered (filled (started c))) .args .rules)
 
 abbrev words : tie.After-total → List ℕ
-words c = now (entry (spelt (filled (started c))) .args .sentence)
+words c = now (entry (lettered (filled (started c))) .args .sentence)
 
 counted : (c : tie.After-total) → c .total .result ≡ readingsIn (rules c) (words c)
 counted c =
     let t = started c in
     let f = filled t in
-    let p = spelt f in
-    count-is (entry p .pre) (p .spell .ensures) (f .fill .ensures) _ (t .start .ensures .0) _ (c .total .ensures)
+    let p = lettered f in
+    count-is (entry p .pre) (p .set-letters .ensures) (f .fill .ensures) _ (t .start .ensures .0) _ (c .total .ensures)
 
 -- past both tests there is one derivation
 one-left : (c : tie.Else2) → let a = c .before .before in readingsIn (rules a) (words a) ≡ 1
@@ -47,21 +47,21 @@ one-left c = one _ (counted (c .before .before)) (c .before .if1 .left) (c .if2 
     one zero e h l = absurd (h e)
     one (suc n) e h l = omega arith
 
-spell-requires : tie.Need-spell-requires
-spell-requires c κs = let p = c .before .before .before .pre .ready in (p .blank .counted .short, p .long, p .wide)
+set-letters-requires : tie.Need-set-letters-requires
+set-letters-requires c κs = let p = c .before .before .before .pre .ready in (p .blank .counted .short, p .long, p .wide)
 
 fill-requires : tie.Need-fill-requires
-fill-requires c κs = let p = c .before .before .before in fill-asks (entry p .pre) (p .spell .ensures)
+fill-requires c κs = let p = c .before .before .before in fill-asks (entry p .pre) (p .set-letters .ensures)
 
 start-requires : tie.Need-start-requires
-start-requires c κs = entry (spelt (c .before .before .before)) .pre .ready .blank .counted .table .long
+start-requires c κs = entry (lettered (c .before .before .before)) .pre .ready .blank .counted .table .long
 
 total-requires : tie.Need-total-requires
 total-requires c κs =
     let t = c .before .before in
     let f = filled t in
-    let p = spelt f in
-    count-asks (entry p .pre) (p .spell .ensures) (f .fill .ensures) _ (t .start .ensures .0)
+    let p = lettered f in
+    count-asks (entry p .pre) (p .set-letters .ensures) (f .fill .ensures) _ (t .start .ensures .0)
 
 same-length : tie.Need-same-length
 same-length c = search needs
@@ -73,8 +73,8 @@ returns : tie.Need-returns
 returns c =
     let a = c .before in
     let f = filled (started a) in
-    let p = spelt f in
-    found-as (entry p .pre) (p .spell .ensures) (f .fill .ensures) (sym (counted a) ∙ c .if1 .taken)
+    let p = lettered f in
+    found-as (entry p .pre) (p .set-letters .ensures) (f .fill .ensures) (sym (counted a) ∙ c .if1 .taken)
 
 same-length-3 : tie.Need-same-length-3
 same-length-3 c = search needs
@@ -86,8 +86,8 @@ returns-2 : tie.Need-returns-2
 returns-2 c =
     let a = c .before .before in
     let f = filled (started a) in
-    let p = spelt f in
-    found-as (entry p .pre) (p .spell .ensures) (f .fill .ensures) (omega (arith, counted a, c .if2 .taken))
+    let p = lettered f in
+    found-as (entry p .pre) (p .set-letters .ensures) (f .fill .ensures) (omega (arith, counted a, c .if2 .taken))
 
 sub-choose : tie.Need-sub-choose
 sub-choose c = search needs
@@ -96,7 +96,7 @@ part-words-start : tie.Need-part-words-start
 part-words-start c = search needs
 
 part-words-end : tie.Need-part-words-end
-part-words-end c = let a = c .before .before .before .before in entry (spelt (filled (started a))) .pre .ready .blank .counted .short
+part-words-end c = let a = c .before .before .before .before in entry (lettered (filled (started a))) .pre .ready .blank .counted .short
 
 choose-requires : tie.Need-choose-requires
 choose-requires c κs =
@@ -104,8 +104,8 @@ choose-requires c κs =
     let a = e .before .before in
     let t = started a in
     let f = filled t in
-    let p = spelt f in (
-      find-sought (entry p .pre) (p .spell .ensures) (f .fill .ensures) _ (t .start .ensures .0) (omega (arith, one-left e)),
+    let p = lettered f in (
+      find-sought (entry p .pre) (p .set-letters .ensures) (f .fill .ensures) _ (t .start .ensures .0) (omega (arith, one-left e)),
       left-length (length (words a)) (replicate 16 zero) (entry p .pre .ready .blank .counted .short),
     )
 
@@ -122,15 +122,15 @@ returns-3 c =
     let a = e .before .before in
     let t = started a in
     let f = filled t in
-    let p = spelt f in
-    found-as (entry p .pre) (p .spell .ensures) (f .fill .ensures)
-    (one-left e, found-number (entry p .pre) (p .spell .ensures) (f .fill .ensures) _ (t .start .ensures .0) (k .choose .ensures))
+    let p = lettered f in
+    found-as (entry p .pre) (p .set-letters .ensures) (f .fill .ensures)
+    (one-left e, found-number (entry p .pre) (p .set-letters .ensures) (f .fill .ensures) _ (t .start .ensures .0) (k .choose .ensures))
 
 pub find-spec : {M : Type 1} → statement M
 find-spec =
     tie.close
     (tie.spec
-    spell-requires
+    set-letters-requires
     fill-requires
     start-requires
     total-requires

@@ -3,7 +3,7 @@
 use mathlib.Core.Path.{refl, _∙_}
 use borrow.Author.Needs.{needs}
 use Rattle.lists.proofs.Tables.{wide-made}
-use Rattle.charts.proofs.Mapping.{plain-map, clean-start}
+use Rattle.charts.proofs.Mapping.{counts-map, clean-start}
 use Rattle.charts.proofs.Placing.{room-low}
 use Rattle.ranking.proofs.Answering.{rank-none, rank-several, rank-found}
 use Rattle.ranking.proofs.Finding.{rank-kept, found-case}
@@ -33,7 +33,7 @@ find-requires c κs =
     let p = start r .pre in
     record {
       ready = r .ready .ensures .ready;
-      everywhere = plain-map;
+      everywhere = counts-map;
       clean = clean-start _ _ _ (room-low _ (p .blank .counted .short)) (p .zeros);
     }
 

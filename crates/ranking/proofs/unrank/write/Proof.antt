@@ -4,7 +4,7 @@ use mathlib.Core.Path.{ap₂}
 use mathlib.Core.List.{_++_}
 use denote.Ref.{now}
 use borrow.Author.Needs.{needs}
-use Rattle.charts.proofs.Mapping.{plain-map}
+use Rattle.charts.proofs.Mapping.{counts-map}
 use Rattle.walk.proofs.Joined.{left-length}
 use Rattle.ranking.proofs.Finding.{rest-kept, give-sought, give-found}
 use Rattle.ranking.proofs.unrank.write.Statement.{statement}
@@ -26,7 +26,7 @@ choose-requires : tie.Need-choose-requires
 choose-requires c κs =
     let t = c .before .before .before in
     let s = t .before .before in
-    (give-sought (s .pre) plain-map _ (t .start .ensures .0), left-length (s .args .n) (now (s .args .out)) (s .pre .room))
+    (give-sought (s .pre) counts-map _ (t .start .ensures .0), left-length (s .args .n) (now (s .args .out)) (s .pre .room))
 
 same-length : tie.Need-same-length
 same-length c = search needs
@@ -36,7 +36,7 @@ returns c =
     let w = c .before .before in
     let t = w .before .before .before .before in
     let s = t .before .before in
-    ap₂ _++_ (give-found (s .pre) plain-map _ (t .start .ensures .0) (w .choose .ensures)) (rest-kept (s .args .n) (now (s .args .out)))
+    ap₂ _++_ (give-found (s .pre) counts-map _ (t .start .ensures .0) (w .choose .ensures)) (rest-kept (s .args .n) (now (s .args .out)))
 
 pub write-spec : {M : Type 1} → statement M
 write-spec =

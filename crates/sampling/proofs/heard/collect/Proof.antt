@@ -15,7 +15,7 @@ use Rattle.charts.proofs.Mapping.{clean-start}
 use Rattle.charts.proofs.Placing.{room-low}
 use Rattle.history.proofs.Acceptance.{known}
 use Rattle.history.specs.Chain.{numbersFrom}
-use Rattle.sampling.proofs.Hearing.{Collecting, Read, collect-start, collect-end, collect-less, collect-room, collect-many, collect-none, collect-one}
+use Rattle.sampling.proofs.Collect.{Collecting, Read, collect-start, collect-end, collect-less, collect-room, collect-many, collect-none, collect-one}
 use Rattle.sampling.proofs.heard.collect.Statement.{statement}
 use Rattle.sampling.proofs.heard.collect.Tie as tie
 
@@ -37,11 +37,11 @@ start c = c .before .before .before .before
 abbrev at-loop : tie.Else1 Inv-loop μ-loop → tie.At-loop Inv-loop μ-loop
 at-loop c = c .before .before
 
-abbrev heard : tie.After-tell Inv-loop μ-loop → tie.Else1 Inv-loop μ-loop
+abbrev heard : tie.After-find-heard Inv-loop μ-loop → tie.Else1 Inv-loop μ-loop
 heard c = c .before .before .before .before
 
 -- what the sentence adds is told, and the reader moved on
-abbrev told : tie.After-after Inv-loop μ-loop → tie.After-tell Inv-loop μ-loop
+abbrev told : tie.After-after Inv-loop μ-loop → tie.After-find-heard Inv-loop μ-loop
 told c = c .before .before .before
 
 -- a sentence was read, and it is not the end
@@ -59,8 +59,8 @@ room c =
     (omega (arith, few, known _ (read c .diary) .sized .few), omega (arith, few, i .long))
 
 -- the rows stay as many
-rows : (c : tie.After-tell Inv-loop μ-loop) → length (c .tell .last .1 .1 .1 .1 .1 .1 .0) ≡ length (now (start (at-loop (heard c)) .args .totals))
-rows c = c .tell .kept .1 .1 .1 .1 .1 .1 .0 ∙ at-loop (heard c) .loop .inv .4
+rows : (c : tie.After-find-heard Inv-loop μ-loop) → length (c .find-heard .last .1 .1 .1 .1 .1 .1 .0) ≡ length (now (start (at-loop (heard c)) .args .totals))
+rows c = c .find-heard .kept .1 .1 .1 .1 .1 .1 .0 ∙ at-loop (heard c) .loop .inv .4
 
 less : (c : tie.After-after Inv-loop μ-loop) → length (numbersFrom (now (start (at-loop (heard (told c))) .args .h)) (c .after .result))
     < length (numbersFrom (now (start (at-loop (heard (told c))) .args .h)) (at-loop (heard (told c)) .loop .at))
@@ -94,11 +94,11 @@ returns c =
     let l = c .before .before in
     collect-end _ (l .loop .inv .0) (start l .pre .diary) (c .before .sentence .ensures) (c .if1 .taken)
 
-slice-aggregate-tell : tie.Need-slice-aggregate-tell Inv-loop μ-loop
-slice-aggregate-tell c = search needs
+slice-aggregate-find-heard : tie.Need-slice-aggregate-find-heard Inv-loop μ-loop
+slice-aggregate-find-heard c = search needs
 
-tell-requires : tie.Need-tell-requires Inv-loop μ-loop
-tell-requires c κs =
+find-heard-requires : tie.Need-find-heard-requires Inv-loop μ-loop
+find-heard-requires c κs =
     let l = at-loop (c .before .before .before) in
     record { ready = l .loop .inv .1; everywhere = start l .pre .everywhere; clean = l .loop .inv .2 }
 
@@ -117,10 +117,10 @@ loop-again c =
     let t = told a in
     let e = heard t in
     let l = at-loop e .loop in (
-      collect-none (plan e) (l .inv .0) (read e) (t .tell .ensures) (c .enum-told .given .1) (a .after .ensures),
-      t .tell .ensures .ready,
-      t .tell .ensures .clean,
-      t .tell .kept .1 .1 .1 .1 .1 .0 ∙ l .inv .3,
+      collect-none (plan e) (l .inv .0) (read e) (t .find-heard .ensures) (c .enum-told .given .1) (a .after .ensures),
+      t .find-heard .ensures .ready,
+      t .find-heard .ensures .clean,
+      t .find-heard .kept .1 .1 .1 .1 .1 .0 ∙ l .inv .3,
       rows t,
       l .inv .5,
     )
@@ -138,7 +138,7 @@ returns-2 : tie.Need-returns-2 Inv-loop μ-loop
 returns-2 c =
     let t = told (c .before .before) in
     let e = heard t in
-    collect-many (plan e) (at-loop e .loop .inv .0) (read e) (t .tell .ensures) (c .enum-told2 .given .1)
+    collect-many (plan e) (at-loop e .loop .inv .0) (read e) (t .find-heard .ensures) (c .enum-told2 .given .1)
 
 enum-known-f : tie.Need-enum-known-f Inv-loop μ-loop
 enum-known-f c = search needs
@@ -161,10 +161,10 @@ loop-again-2 c =
     let t = told a in
     let e = heard t in
     let l = at-loop e .loop in (
-      collect-one (plan e) (l .inv .0) (read e) (t .tell .ensures) (c .before .f .given .1) (a .after .ensures),
-      t .tell .ensures .ready,
-      t .tell .ensures .clean,
-      t .tell .kept .1 .1 .1 .1 .1 .0 ∙ l .inv .3,
+      collect-one (plan e) (l .inv .0) (read e) (t .find-heard .ensures) (c .before .f .given .1) (a .after .ensures),
+      t .find-heard .ensures .ready,
+      t .find-heard .ensures .clean,
+      t .find-heard .kept .1 .1 .1 .1 .1 .0 ∙ l .inv .3,
       rows t,
       length-set (l .numbers) (l .count) _ ∙ l .inv .5,
     )
@@ -181,8 +181,8 @@ collect-spec =
     same-length
     same-length-2
     returns
-    slice-aggregate-tell
-    tell-requires
+    slice-aggregate-find-heard
+    find-heard-requires
     after-requires
     enum-told
     loop-less

@@ -29,8 +29,8 @@ enum-known-a-2 c = search needs
 returns : tie.Need-returns
 returns c = let a = c .before .before in let d = diary a in record { recorded = none-heard _ _ _ (now (start (a .before .before) .args .numbers)) (d .0) (sym (d .1) ∙ c .if1 .taken) }
 
-hear-requires : tie.Need-hear-requires
-hear-requires c κs =
+heard-numbers-requires : tie.Need-heard-numbers-requires
+heard-numbers-requires c κs =
     let a = c .before .before .before in
     let p = start (a .before .before) .pre in
     record { counted = p .counted; diary = diary a .0; room = p .room (diary a .0) }
@@ -47,7 +47,7 @@ returns-3 : tie.Need-returns-3
 returns-3 c =
     let k = c .before .before in
     let a = k .before .before .before .before in
-    heard-recorded _ _ _ _ (diary a .0) (k .hear .ensures)
+    heard-recorded _ _ _ _ (diary a .0) (k .heard-numbers .ensures)
 
 pub records-spec : {M : Type 1} → statement M
 records-spec =
@@ -57,7 +57,7 @@ records-spec =
     enum-known-a
     enum-known-a-2
     returns
-    hear-requires
+    heard-numbers-requires
     returns-2
     same-length
     returns-3)

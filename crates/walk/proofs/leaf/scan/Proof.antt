@@ -7,10 +7,10 @@ use Rattle.walk.proofs.leaf.scan.Statement.{statement}
 use Rattle.walk.proofs.leaf.scan.Tie as tie
 
 abbrev Inv-loop : tie.InvT-loop
-Inv-loop rules by to a ticket i₀ left₀ place₀ i left place = Scanning rules by to a ticket i left place
+Inv-loop rules by to a ticket i₀ rest₀ place₀ i rest place = Scanning rules by to a ticket i rest place
 
 abbrev μ-loop : tie.MeasureT-loop
-μ-loop rules by to a ticket i₀ left₀ place₀ i left place = 256 - i
+μ-loop rules by to a ticket i₀ rest₀ place₀ i rest place = 256 - i
 
 -- where a word and its weights are known: what is asked, how far the loop is, the word and its weights
 abbrev at-loop : tie.After-word-weight2 Inv-loop μ-loop → tie.At-loop Inv-loop μ-loop

@@ -9,19 +9,19 @@ use Rattle.walk.proofs.pairs.choose_rule.Statement.{statement}
 use Rattle.walk.proofs.pairs.choose_rule.Tie as tie
 
 abbrev Inv-loop : tie.InvT-loop
-Inv-loop rules totals choice measure node ticket m i₀ b₀ c₀ k₀ end₀ before₀ left₀ i b c k end before left =
-    Going rules choice measure (node .a) (node .p) (node .m) ticket i b c k end before left
+Inv-loop rules totals choice measure node ticket m i₀ b₀ c₀ k₀ end₀ before₀ rest₀ i b c k end before rest =
+    Going rules choice measure (node .a) (node .p) (node .m) ticket i b c k end before rest
 
 -- how many rules are left, and of the one at hand how many left lengths
 abbrev μ-loop : tie.MeasureT-loop
-μ-loop rules totals choice measure node ticket m i₀ b₀ c₀ k₀ end₀ before₀ left₀ i b c k end before left = 17 * (256 - i) + (end - k)
+μ-loop rules totals choice measure node ticket m i₀ b₀ c₀ k₀ end₀ before₀ rest₀ i b c k end before left = 17 * (256 - i) + (end - k)
 
 abbrev start : tie.At-loop Inv-loop μ-loop → tie.Start Inv-loop μ-loop
 start c = c .before .before
 
 pairs-from-requires : tie.Need-pairs-from-requires Inv-loop μ-loop
 pairs-from-requires c κs =
-    let s = c .pre .0 in (s .hand .counted .table .long, omega (arith, a-few s))
+    let s = c .pre .0 in (s .tables .counted .table .long, omega (arith, a-few s))
 
 loop-holds : tie.Need-loop-holds Inv-loop μ-loop
 loop-holds c =
@@ -93,19 +93,19 @@ module _ (c : tie.After-right-at Inv-loop μ-loop) where
       right-few (asked e .pre .0) (asked e .pre .1) (e .before .loop .inv) (e .if1 .left) (c .before .left-at .ensures .0) (c .right-at .ensures .0)
 
 left-at-requires : tie.Need-left-at-requires Inv-loop μ-loop
-left-at-requires c κs = (asked c .pre .0 .hand .counted .table .long, omega (arith, next-low c))
+left-at-requires c κs = (asked c .pre .0 .tables .counted .table .long, omega (arith, next-low c))
 
 right-at-requires : tie.Need-right-at-requires Inv-loop μ-loop
 right-at-requires c κs =
-    let e = c .before in (asked e .pre .0 .hand .counted .table .long, omega (arith, next-low e))
+    let e = c .before in (asked e .pre .0 .tables .counted .table .long, omega (arith, next-low e))
 
 index-1-first : tie.Need-index-1-first Inv-loop μ-loop
 index-1-first c =
-    let h = asked (left-over c) .pre .0 .hand .counted .long in search needs
+    let h = asked (left-over c) .pre .0 .tables .counted .long in search needs
 
 index-1-past : tie.Need-index-1-past Inv-loop μ-loop
 index-1-past c =
-    let h = asked (left-over (c .before .before)) .pre .0 .hand .counted .long in search needs
+    let h = asked (left-over (c .before .before)) .pre .0 .tables .counted .long in search needs
 
 -- from where both ends of its left lengths are known back to where it was read
 abbrev read : tie.After-past Inv-loop μ-loop → tie.After-right-at Inv-loop μ-loop

@@ -1,13 +1,13 @@
--- `tell` meets its contract: a sentence of another length adds nothing, one of the plan's what is found.
+-- `find_heard` meets its contract: a sentence of another length adds nothing, one of the plan's what is found.
 -- Assumes nothing.
 use mathlib.Core.Path.{_≡_, sym, _∙_}
 use borrow.Author.Needs.{needs}
 use denote.Ref.{now}
 use lib.ListN.{length}
 use Rattle.charts.specs.Inner.Plan.{lengthIn}
-use Rattle.sampling.proofs.Hearing.{told-other, told-sought, told-found}
-use Rattle.sampling.proofs.heard.tell.Statement.{statement}
-use Rattle.sampling.proofs.heard.tell.Tie as tie
+use Rattle.sampling.proofs.Collect.{heard-other, heard-sought, heard-found}
+use Rattle.sampling.proofs.heard.find_heard.Statement.{statement}
+use Rattle.sampling.proofs.heard.find_heard.Tie as tie
 
 abbrev entry : tie.After-length → tie.Start
 entry c = c .before .before .before
@@ -20,10 +20,10 @@ length-requires : tie.Need-length-requires
 length-requires c κs = search needs
 
 returns : tie.Need-returns
-returns c = let a = c .before in told-other (entry a .pre) (λ e. c .if1 .taken (e ∙ sym (a .length .ensures)))
+returns c = let a = c .before in heard-other (entry a .pre) (λ e. c .if1 .taken (e ∙ sym (a .length .ensures)))
 
 find-requires : tie.Need-find-requires
-find-requires c κs = let e = c .before .before .before in told-sought (entry (e .before) .pre) (long e)
+find-requires c κs = let e = c .before .before .before in heard-sought (entry (e .before) .pre) (long e)
 
 same-length : tie.Need-same-length
 same-length c = search needs
@@ -35,7 +35,7 @@ returns-2 : tie.Need-returns-2
 returns-2 c =
     let f = c .before .before .before in
     let e = f .before .before .before .before in
-    told-found (entry (e .before) .pre) (long e) (f .find .ensures)
+    heard-found (entry (e .before) .pre) (long e) (f .find .ensures)
 
-pub tell-spec : {M : Type 1} → statement M
-tell-spec = tie.close (tie.spec length-requires returns find-requires same-length same-length-2 returns-2)
+pub find-heard-spec : {M : Type 1} → statement M
+find-heard-spec = tie.close (tie.spec length-requires returns find-requires same-length same-length-2 returns-2)

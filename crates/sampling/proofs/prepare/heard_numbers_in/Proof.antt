@@ -1,4 +1,4 @@
--- `hear_in` meets its contract: what is collected by the copied tables, sorted, each once.
+-- `heard_numbers_in` meets its contract: what is collected by the copied tables, sorted, each once.
 -- Assumes nothing.
 use mathlib.Core.Path.{refl}
 use mathlib.Core.List.{List}
@@ -10,13 +10,13 @@ use lib.ListN.{length}
 use Rattle.lists.proofs.Tables.{wide-made}
 use Rattle.history.specs.Layout.{recordsOf}
 use Rattle.history.proofs.Acceptance.{known}
-use Rattle.charts.proofs.Mapping.{plain-map}
-use Rattle.sampling.specs.Inner.Hearing.{Holds}
+use Rattle.charts.proofs.Mapping.{counts-map}
+use Rattle.sampling.specs.Inner.Collect.{Holds}
 use Rattle.sampling.specs.declared.heard.Collected.the-variants.{Numbers}
 use Rattle.sampling.proofs.Readying.{counts-asked, asks-ready, asks-collect, collected-is}
 use Rattle.sampling.proofs.Answering.{part-few, heard-sorted}
-use Rattle.sampling.proofs.prepare.hear_in.Statement.{statement}
-use Rattle.sampling.proofs.prepare.hear_in.Tie as tie
+use Rattle.sampling.proofs.prepare.heard_numbers_in.Statement.{statement}
+use Rattle.sampling.proofs.prepare.heard_numbers_in.Tie as tie
 
 abbrev start : tie.After-copy → tie.Start
 start c = c .before .before .before .before
@@ -80,7 +80,7 @@ collect-requires c κs =
     let p = copies r in
     let a = counts p in
     let s = start a .pre in
-    asks-collect (s .0) (s .1) (a .copy .ensures) (p .copy2 .ensures) (r .ready .ensures) plain-map
+    asks-collect (s .0) (s .1) (a .copy .ensures) (p .copy2 .ensures) (r .ready .ensures) counts-map
 
 enum-told : tie.Need-enum-told
 enum-told c = search needs
@@ -132,8 +132,8 @@ returns-2 c =
     let s = c .before .before in
     record { hold = heard-sorted _ _ _ _ _ _ _ _ (numbered (s .before .before)) (s .order .ensures) }
 
-pub hear-in-spec : {M : Type 1} → statement M
-hear-in-spec =
+pub heard-numbers-in-spec : {M : Type 1} → statement M
+heard-numbers-in-spec =
     tie.close
     (tie.spec
     copy-requires

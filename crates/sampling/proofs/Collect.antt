@@ -1,4 +1,4 @@
--- Collecting the heard numbers: what one sentence adds, and what is collected along the chain. The numbers so far, with what the sentencesIn still
+-- Collecting the heard numbers: what one sentence adds, and what is collected along the chain. The numbers so far, with what the sentences still
 -- to come add, are all of them.
 -- Assumes nothing.
 use mathlib.Core.Path.{_≡_, refl, sym, ap, _∙_}
@@ -26,7 +26,7 @@ use Rattle.history.specs.Inner.Reading.{sentenceAt, nextAt}
 use Rattle.history.specs.Heard.{sentencesIn}
 use Rattle.history.proofs.Chain.{chained}
 use Rattle.history.proofs.Reading.{read-end, read-record}
-use Rattle.sampling.specs.Inner.Hearing.{numbersIn, manyIn, ambiguousIn, Tells, Adds, ToldAs, Holds, CollectedAs}
+use Rattle.sampling.specs.Inner.Collect.{numbersIn, manyIn, ambiguousIn, HeardSought, Adds, HeardFoundAs, Holds, CollectedAs}
 use Rattle.sampling.specs.declared.heard.Collected.{Collected}
 use Rattle.sampling.specs.declared.heard.Collected.the-variants.{Numbers, Ambiguous}
 
@@ -56,17 +56,17 @@ module _ (rules : List (List ℕ)) (n : ℕ) (s : List ℕ) where
 
 -- ---- one sentence
 
-module _ {rules plan map counts : List (List ℕ)} {sets : List ℕ} {totals : List (List ℕ)} (w : Tells rules plan map counts sets totals) {s : List ℕ} where
-  pub told-other : (length s ≡ lengthIn plan → ⊥) → ToldAs rules plan map s sets totals None
-  told-other f = record { adds = other-none rules (lengthIn plan) s f; ready = w .ready; clean = w .clean }
+module _ {rules plan map counts : List (List ℕ)} {sets : List ℕ} {totals : List (List ℕ)} (w : HeardSought rules plan map counts sets totals) {s : List ℕ} where
+  pub heard-other : (length s ≡ lengthIn plan → ⊥) → HeardFoundAs rules plan map s sets totals None
+  heard-other f = record { adds = other-none rules (lengthIn plan) s f; ready = w .ready; clean = w .clean }
 
   module _ (e : length s ≡ lengthIn plan) where
-    pub told-sought : FindSought rules plan map counts s sets totals
-    told-sought = record { ready = rw e (w .ready); everywhere = w .everywhere; clean = rw e (w .clean) }
+    pub heard-sought : FindSought rules plan map counts s sets totals
+    heard-sought = record { ready = rw e (w .ready); everywhere = w .everywhere; clean = rw e (w .clean) }
 
-    pub told-found : {map′ : List (List ℕ)} {sets′ : List ℕ} {totals′ : List (List ℕ)} {f : Found} → FoundAs rules plan map′ s sets′ totals′ f
-        → ToldAs rules plan map′ s sets′ totals′ f
-    told-found {f = f} q = record { adds = adds f (q .says); ready = rw e at (q .ready); clean = rw e at (q .clean) }
+    pub heard-found : {map′ : List (List ℕ)} {sets′ : List ℕ} {totals′ : List (List ℕ)} {f : Found} → FoundAs rules plan map′ s sets′ totals′ f
+        → HeardFoundAs rules plan map′ s sets′ totals′ f
+    heard-found {f = f} q = record { adds = adds f (q .says); ready = rw e at (q .ready); clean = rw e at (q .clean) }
       where
         adds : (f : Found) → Says rules s f → Adds rules (lengthIn plan) s f
         adds None z = read-none rules (lengthIn plan) s e z
@@ -87,7 +87,7 @@ many-ambiguous rules n (s ∷ l) = go (eqb (length s) n) (many-ambiguous rules n
     go true ih = rw ih
     go false ih = ih
 
--- the sentencesIn that a walk from the number r still tells
+-- the sentences that a walk from the number r still tells
 abbrev pub toCome : (h : List ℕ) (r : ℕ) → List (List ℕ)
 toCome h r = map (recordWords h) (numbersFrom h r)
 
@@ -149,7 +149,7 @@ module _ (plan : List (List ℕ)) {rules : List (List ℕ)} {h : List ℕ} {numb
     pub collect-room : count < recordsOf h
     collect-room = omega (arith, w .room, fewer)
 
-    module _ {map : List (List ℕ)} {sets : List ℕ} {totals : List (List ℕ)} {f : Found} (told : ToldAs rules plan map s sets totals f) where
+    module _ {map : List (List ℕ)} {sets : List ℕ} {totals : List (List ℕ)} {f : Found} (told : HeardFoundAs rules plan map s sets totals f) where
       pub collect-many : f ≡ Many → {numbers′ : List ℕ} → CollectedAs rules plan h numbers′ Ambiguous
       collect-many case = let q = rw case at told in record { holds = sym (w .many) ∙ rw (comes, q .adds) }
 

@@ -44,8 +44,8 @@ ambiguousIn rules h n = someOf (λ s. leb 2 (readingsIn rules s)) (ofLength n h)
 
 -- ---- one sentence
 
--- the tables for sentencesIn of the plan's length
-pub record Tells (rules plan map counts : List (List ℕ)) (sets : List ℕ) (totals : List (List ℕ)) : Type 0 where
+-- the tables for sentences of the plan's length
+pub record HeardSought (rules plan map counts : List (List ℕ)) (sets : List ℕ) (totals : List (List ℕ)) : Type 0 where
   pub ready : Ready rules plan map totals (lengthIn plan)
   pub everywhere : Everywhere counts
   pub clean : Clean (lengthIn plan) sets totals
@@ -56,12 +56,12 @@ Adds rules n s None = (manyIn rules n s ≡ false) × (numbersIn rules n s ≡ [
 Adds rules n s (One d) = (manyIn rules n s ≡ false) × (numbersIn rules n s ≡ d .0 ∷ [])
 Adds rules n s Many = manyIn rules n s ≡ true
 
-pub record ToldAs (rules plan map : List (List ℕ)) (s sets : List ℕ) (totals : List (List ℕ)) (f : Found) : Type 0 where
+pub record HeardFoundAs (rules plan map : List (List ℕ)) (s sets : List ℕ) (totals : List (List ℕ)) (f : Found) : Type 0 where
   pub adds : Adds rules (lengthIn plan) s f
   pub ready : Ready rules plan map totals (lengthIn plan)
   pub clean : Clean (lengthIn plan) sets totals
 
--- ---- all sentencesIn
+-- ---- all sentences
 
 pub record Collects (rules plan map counts : List (List ℕ)) (h : List ℕ) (totals : List (List ℕ)) (numbers : List ℕ) : Type 0 where
   pub ready : Ready rules plan map totals (lengthIn plan)

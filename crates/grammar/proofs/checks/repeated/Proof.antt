@@ -1,12 +1,12 @@
--- `checks::some_twins` meets its contract. The chains are taken from the last down, each with two stamps of its own, for its words and
+-- `checks::repeated` meets its contract. The chains are taken from the last down, each with two stamps of its own, for its words and
 -- its pair rules. The loop's invariant is `Rounds`: the answer is that of the chains that are left, and no number has the stamp of the
 -- next. The measure is what is left of them.
 -- Assumes nothing.
 use native.Mathlib.Omega.{arith}
 use borrow.Author.Needs.{needs}
-use Rattle.grammar.proofs.Twins.{Rounds, rounds-start, rounds-end, round-words, round-pairs, round-hit, round-next}
-use Rattle.grammar.proofs.checks.some_twins.Statement.{statement}
-use Rattle.grammar.proofs.checks.some_twins.Tie as tie
+use Rattle.grammar.proofs.Repeats.{Rounds, rounds-start, rounds-end, round-words, round-pairs, round-hit, round-next}
+use Rattle.grammar.proofs.checks.repeated.Statement.{statement}
+use Rattle.grammar.proofs.checks.repeated.Tie as tie
 
 abbrev Inv-loop : tie.InvT-loop
 Inv-loop g rules stamps₀ stamp₀ a₀ stamps stamp a = Rounds g stamps stamp a
@@ -59,8 +59,8 @@ loop-again c =
 returns-3 : tie.Need-returns-3 Inv-loop μ-loop
 returns-3 c = rounds-end (c .loop-test .left) (c .before .loop .inv)
 
-pub some-twins-spec : {M : Type 1} → statement M
-some-twins-spec =
+pub repeated-spec : {M : Type 1} → statement M
+repeated-spec =
     tie.close
     (tie.spec
     Inv-loop

@@ -25,7 +25,7 @@ use Rattle.grammar.specs.Inner.Checks.{Readable, beginsAt, entryAt, entr
 use Rattle.grammar.specs.Inner.Rules.{leftAt, rightAt, pairFrom, wordsIn, pairsIn}
 use Rattle.grammar.specs.Inner.Links.{both}
 use Rattle.grammar.specs.Inner.Entering.{Sorted}
-use Rattle.grammar.proofs.Ruling.{both-tells}
+use Rattle.grammar.proofs.Ruling.{both-same}
 use Rattle.grammar.proofs.Walks.{rule-kind, rule-word, rule-pair, readable-inside, words-∈, pairs-∈}
 
 -- the two nonterminals of a pair rule as one number
@@ -93,7 +93,7 @@ module _ (g : List ℕ) (ok : Readable g) where
               | inl t ↦ rw (rule-pair g r (q .0), rule-word g s (t .0), q .0, t .0)
               | inr t ↦
                   rw (rule-pair g r (q .0), rule-pair g s (t .0), q .0, t .0)
-                  (sym (both-tells (aOf g r) (bOf g r) (aOf g s) (bOf g s) (omega arith) (omega arith)))
+                  (sym (both-same (aOf g r) (bOf g r) (aOf g s) (bOf g s) (omega arith) (omega arith)))
             ]
       ]
 
@@ -102,12 +102,12 @@ module _ (g : List ℕ) (ok : Readable g) where
   alike-rules r h (s ∷ l) k =
       rw (alike-same r s h (k s (List·Memᴰ·head refl)), alike-rules r h l (λ x m. k x (List·Memᴰ·tail m)))
 
-  twins-by-kind : (l : List ℕ) → Numbers l → someAlike g l ≡ repeatsByKind (map (ruleOf g) l)
+  alike-by-kind : (l : List ℕ) → Numbers l → someAlike g l ≡ repeatsByKind (map (ruleOf g) l)
   unfolding someAlike
-  twins-by-kind [] h = refl
-  twins-by-kind (r ∷ l) h =
+  alike-by-kind [] h = refl
+  alike-by-kind (r ∷ l) h =
       let more : Numbers l = λ x m. h x (List·Memᴰ·tail m) in
-      rw (alike-rules r (h r (List·Memᴰ·head refl)) l more, twins-by-kind l more) (kind-more (ruleOf g r) (map (ruleOf g) l))
+      rw (alike-rules r (h r (List·Memᴰ·head refl)) l more, alike-by-kind l more) (kind-more (ruleOf g r) (map (ruleOf g) l))
 
 -- ---- a scan that stamps
 
@@ -174,13 +174,13 @@ module _ {pairs : Bool} {t : List (List ℕ)} {a stamp : ℕ} where
 -- ---- the entries of one chain
 
 -- two rules on the chain of A are alike
-abbrev twinned : List ℕ → ℕ → Bool
-twinned g A = someAlike g (chainNumbers g A)
+abbrev repeatedAt : List ℕ → ℕ → Bool
+repeatedAt g A = someAlike g (chainNumbers g A)
 
 module _ {g : List ℕ} {t : List (List ℕ)} {a : ℕ} (ok : Readable g) (x : Sorted g t) (inside : a < nonterminals g) where
-  chain-twins : twinned g a ≡ repeatsByKind (chain g a)
+  chain-repeats : repeatedAt g a ≡ repeatsByKind (chain g a)
   unfolding rest
-  chain-twins = twins-by-kind g ok (chainNumbers g a) (λ y m. met-inside (nextOf g) (rules g) (rules g + 1) (headOf g a) m)
+  chain-repeats = alike-by-kind g ok (chainNumbers g a) (λ y m. met-inside (nextOf g) (rules g) (rules g + 1) (headOf g a) m)
 
   chain-entries : (pairs : Bool) → entries pairs t a ≡ kindOnly pairs (chain g a)
   unfolding wordsIn pairsIn
@@ -190,7 +190,7 @@ module _ {g : List ℕ} {t : List (List ℕ)} {a : ℕ} (ok : Readable g) (x : S
       ∙ ap (map pairNumber) (x .pairs-are a inside)
 
   kind-low : (pairs : Bool) (y : ℕ) → y ∈ kindOnly pairs (chain g a) → y < 1024
-  kind-low false y m = omega (arith, ok .spoken, readable-inside g ok (headOf g a) (words-∈ (chain g a) m))
+  kind-low false y m = omega (arith, ok .words-low, readable-inside g ok (headOf g a) (words-∈ (chain g a) m))
   kind-low true y m =
       let z = Memᴰ·of-map pairNumber (pairsOf (chain g a)) m in
       let q = readable-inside g ok (headOf g a) (pairs-∈ (chain g a) (z .1)) in
@@ -207,9 +207,9 @@ module _ {g : List ℕ} {t : List (List ℕ)} {a : ℕ} (ok : Readable g) (x : S
         fresh = fresh;
       }
 
-  chain-said : {pairs : Bool} {stamp : ℕ} {stamps : List ℕ} {found b : Bool} → StampedAs pairs t a stamp stamps found → found ≡ b
+  chain-stamped : {pairs : Bool} {stamp : ℕ} {stamps : List ℕ} {found b : Bool} → StampedAs pairs t a stamp stamps found → found ≡ b
       → repeats (kindOnly pairs (chain g a)) ≡ b
-  chain-said {pairs} s e = sym (ap repeats (chain-entries pairs)) ∙ sym (s .same) ∙ e
+  chain-stamped {pairs} s e = sym (ap repeats (chain-entries pairs)) ∙ sym (s .same) ∙ e
 
 -- ---- all chains
 
@@ -218,7 +218,7 @@ pub record Rounds (g stamps : List ℕ) (stamp a : ℕ) : Type 0 where
   pub turn : stamp + 2 * a ≡ 2 * nonterminals g + 1
   pub long : length stamps ≡ 1024
   pub fresh : (q : ℕ) → getD stamps q 0 < stamp
-  pub found : repeated g ≡ someBelow (twinned g) a
+  pub found : repeated g ≡ someBelow (repeatedAt g) a
 
 pub rounds-start : (g : List ℕ) {n : ℕ} → n ≡ nonterminals g → Rounds g (replicate 1024 0) 1 n
 unfolding repeated
@@ -231,7 +231,7 @@ rounds-start g e =
     }
 
 pub rounds-end : {g stamps : List ℕ} {stamp a : ℕ} → a ≤ 0 → Rounds g stamps stamp a → false ≡ repeated g
-rounds-end {g} {a = a} h w = sym (w .found ∙ below-none (twinned g) a h)
+rounds-end {g} {a = a} h w = sym (w .found ∙ below-none (repeatedAt g) a h)
 
 module _ {g stamps : List ℕ} {t : List (List ℕ)} {stamp a : ℕ} (ok : Readable g) (x : Sorted g t) (w : Rounds g stamps stamp a) (some : 0 < a) where
   inside : a - 1 < nonterminals g
@@ -246,8 +246,8 @@ module _ {g stamps : List ℕ} {t : List (List ℕ)} {stamp a : ℕ} (ok : Reada
 
   pub round-hit : {pairs : Bool} {now : ℕ} {after : List ℕ} {found : Bool} → StampedAs pairs t (a - 1) now after found → found ≡ true → true ≡ repeated g
   round-hit {pairs} s e =
-      let hit = kind-repeats pairs (chain g (a - 1)) (chain-said ok x inside s e) in
-      sym (w .found ∙ below-hit (twinned g) a some (chain-twins ok x inside ∙ hit))
+      let hit = kind-repeats pairs (chain g (a - 1)) (chain-stamped ok x inside s e) in
+      sym (w .found ∙ below-hit (repeatedAt g) a some (chain-repeats ok x inside ∙ hit))
 
   pub round-next : {mid after : List ℕ} {found found′ : Bool} → StampedAs false t (a - 1) stamp mid found → found ≡ false
       → StampedAs true t (a - 1) (stamp + 1) after found′ → found′ ≡ false → Rounds g after (stamp + 2) (a - 1)
@@ -258,7 +258,7 @@ module _ {g stamps : List ℕ} {t : List (List ℕ)} {stamp a : ℕ} (ok : Reada
         fresh = λ q. omega (arith, s′ .used q);
         found =
             w .found
-            ∙ below-miss (twinned g) a some (chain-twins ok x inside ∙ rw (chain-said ok x inside s e) (chain-said ok x inside s′ e′));
+            ∙ below-miss (repeatedAt g) a some (chain-repeats ok x inside ∙ rw (chain-stamped ok x inside s e) (chain-stamped ok x inside s′ e′));
       }
 
 -- ---- past 8 no word is twice on one chain
@@ -279,7 +279,7 @@ repeats-once x (y ∷ l) e =
 pub words-once : (g : List ℕ) → Readable g → repeated g ≡ false → (a : ℕ) → a < nonterminals g → (x : ℕ) → times x (wordsOf (chain g a)) ≤ 1
 unfolding repeated rest
 words-once g ok apart a inside x =
-    let none = below-at (twinned g) (nonterminals g) a apart inside in
-    let kinds = twins-by-kind g ok (chainNumbers g a) (λ y m. met-inside (nextOf g) (rules g) (rules g + 1) (headOf g a) m) in
+    let none = below-at (repeatedAt g) (nonterminals g) a apart inside in
+    let kinds = alike-by-kind g ok (chainNumbers g a) (λ y m. met-inside (nextOf g) (rules g) (rules g + 1) (headOf g a) m) in
     repeats-once x (wordsOf (chain g a))
     (or-left (repeats (wordsOf (chain g a))) (repeats (kindOnly true (chain g a))) (sym kinds ∙ none))

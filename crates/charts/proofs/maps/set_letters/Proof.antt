@@ -1,0 +1,42 @@
+-- `set_letters` meets its contract. The loop's invariant: the first p words are there. The measure is the words left.
+-- Assumes nothing.
+use Prim.Native.Nat.{_-_, _≤_}
+use native.Mathlib.Omega.{arith}
+use lib.ListN.{length}
+use Rattle.charts.proofs.Mapping.{LetteredTo, lettered-start, lettered-turn, lettered-end}
+use Rattle.charts.proofs.maps.set_letters.Statement.{statement}
+use Rattle.charts.proofs.maps.set_letters.Tie as tie
+
+abbrev Inv-loop : tie.InvT-loop
+Inv-loop sentence map₀ p₀ map p = (p ≤ length sentence) × LetteredTo sentence p map₀ map
+
+abbrev μ-loop : tie.MeasureT-loop
+μ-loop sentence map₀ p₀ map p = length sentence - p
+
+loop-holds : tie.Need-loop-holds Inv-loop μ-loop
+loop-holds c = (omega arith, lettered-start (c .pre .1) (c .pre .2))
+
+loop-again : tie.Need-loop-again Inv-loop μ-loop
+loop-again c =
+    let l = c .before .before in
+    (omega arith, lettered-turn (l .loop .inv .1) (omega arith) (omega (arith, c .shared-slice-known .given (l .loop .p))))
+
+returns : tie.Need-returns Inv-loop μ-loop
+returns c = lettered-end (c .before .loop .inv .1) (omega arith)
+
+pub set-letters-spec : {M : Type 1} → statement M
+set-letters-spec =
+    tie.close
+    (tie.spec
+    Inv-loop
+    μ-loop
+    loop-holds
+    (λ c. omega arith)
+    (λ c. omega (arith, c .shared-slice-known .given (c .before .before .loop .p)))
+    (λ c. omega arith)
+    (λ c. omega arith)
+    (λ c. omega arith)
+    (λ c. omega arith)
+    (λ c. omega arith)
+    loop-again
+    returns)
