@@ -19,34 +19,6 @@
 #include <string.h>
 #include <unistd.h>
 
-#define LONGEST 16
-#define BANK_SIZE (4 + 32 + 4 * 255)
-#define DIARY_SIZE (4 + 20 * 1000)
-
-static const char *const meanings[] = {
-    [PUMPFENNEL_ACCEPTED] = "accepted",
-    [PUMPFENNEL_GRAMMAR_TOO_SHORT] = "the bank has fewer than 4 bytes",
-    [PUMPFENNEL_GRAMMAR_RANGE] = "the bank's nonterminals, words, rules or start are out of range",
-    [PUMPFENNEL_GRAMMAR_SIZE] = "the bank's size is wrong",
-    [PUMPFENNEL_GRAMMAR_RULE] = "a rule's kind or operands are wrong",
-    [PUMPFENNEL_GRAMMAR_LINK] = "a head or next in the bank names no rule",
-    [PUMPFENNEL_GRAMMAR_RULE_TWICE] = "a rule is met twice on the bank's chains",
-    [PUMPFENNEL_GRAMMAR_RULE_UNCHAINED] = "a rule is on no chain",
-    [PUMPFENNEL_GRAMMAR_EQUAL_RULES] = "a chain holds two equal rules",
-    [PUMPFENNEL_LENGTH] = "the length is not 1 to 16",
-    [PUMPFENNEL_TOO_MANY] = "the bank has too many derivations to count in 64 bits",
-    [PUMPFENNEL_HISTORY_SIZE] = "the diary's size is wrong, or it has more than 1,000 records",
-    [PUMPFENNEL_HISTORY_RECORD] = "a record of the diary is wrong",
-    [PUMPFENNEL_HISTORY_LINK] = "the diary's head or a next names no record",
-    [PUMPFENNEL_HISTORY_CHAIN] = "the diary's chain meets a record twice or misses one",
-    [PUMPFENNEL_HEARD_AMBIGUOUS] = "a sentence of the diary has two or more derivations",
-    [PUMPFENNEL_NUMBER_BEYOND] = "the number is too large",
-    [PUMPFENNEL_SENTENCE_UNDERIVABLE] = "the sentence has no derivation",
-    [PUMPFENNEL_SENTENCE_AMBIGUOUS] = "the sentence has two or more derivations",
-    [PUMPFENNEL_HISTORY_FULL] = "the diary is full",
-    [PUMPFENNEL_BUFFER_TOO_SHORT] = "the sentence's buffer is too short",
-};
-
 static void fail(const char *what, const char *why) {
     fprintf(stderr, "session: %s: %s\n", what, why);
     exit(2);
@@ -54,7 +26,7 @@ static void fail(const char *what, const char *why) {
 
 static void accepted(const char *what, uint8_t refusal) {
     if (refusal != PUMPFENNEL_ACCEPTED) {
-        fprintf(stderr, "session: %s: refused %d: %s\n", what, refusal, meanings[refusal]);
+        fprintf(stderr, "session: %s: refused %d: %s\n", what, refusal, pumpfennel_refusal_text(refusal));
         exit(2);
     }
 }
@@ -107,12 +79,13 @@ static uint64_t numeral(const char *text) {
 }
 
 int main(int argc, char **argv) {
-    static uint8_t bank[BANK_SIZE + 1], diary[DIARY_SIZE]; /* a longer bank is cut, and refused all the same */
-    uint8_t sentence[LONGEST];
+    static uint8_t bank[PUMPFENNEL_LARGEST_GRAMMAR + 1]; /* a longer bank is cut, and refused all the same */
+    static uint8_t diary[PUMPFENNEL_LARGEST_HISTORY];
+    uint8_t sentence[PUMPFENNEL_LONGEST_SENTENCE];
     uint64_t nonterminals, words, records, total, heard, left, number;
     if (argc != 5 && argc != 6) fail("usage", "session BANK DIARY LENGTH COUNT [SOURCE]");
     size_t bank_size = load(argv[1], bank, sizeof bank, 0);
-    size_t diary_size = load(argv[2], diary, sizeof diary, 4);
+    size_t diary_size = load(argv[2], diary, sizeof diary, PUMPFENNEL_HISTORY_SIZE(0));
     uint64_t length = numeral(argv[3]), count = numeral(argv[4]);
     const char *name = argc == 6 ? argv[5] : "/dev/urandom";
     FILE *source = fopen(name, "rb");
@@ -132,11 +105,11 @@ int main(int argc, char **argv) {
                                          &left, &number));
         uint8_t refusal = pumpfennel_append(diary, sizeof diary, sentence, length, &records);
         if (refusal == PUMPFENNEL_HISTORY_FULL) {
-            fprintf(stderr, "session: %s: %s\n", argv[2], meanings[refusal]);
+            fprintf(stderr, "session: %s: %s\n", argv[2], pumpfennel_refusal_text(refusal));
             return 1;
         }
         accepted("log", refusal);
-        save(argv[2], diary, 4 + 20 * records);
+        save(argv[2], diary, PUMPFENNEL_HISTORY_SIZE(records));
         printf("%" PRIu64 ":", number);
         for (uint64_t i = 0; i < length; i++) printf(" %d", sentence[i]);
         printf("\n");

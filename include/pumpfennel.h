@@ -3,18 +3,20 @@
  *
  * A grammar (document 01: bank) and a history (document 01: diary) are runs of bytes in document 01's layout; a
  * sentence is one byte a word. Each call returns 0 where it is accepted, or else the number of the first refusal that
- * applies; then every figure is 0 and every buffer is as it was.
+ * applies; then every figure is 0 and every buffer is as it was. Refusals have document 01's letters: a grammar has N
+ * nonterminals, W words, R rules and the start S, a history K records.
  *
  * Every answer is proved, for any bytes and any numbers. What C can't check is left to the caller:
- * - A pointer is valid for the length given with it, also where that is 0: then any pointer but NULL does.
+ * - A pointer is valid for the length given with it. Where that is 0 nothing is read or written through it, and it may
+ *   be NULL.
  * - A figure's pointer points to a uint64_t. A call writes all its figures, whatever they held.
  * - What a call writes (figures, and the buffer of unrank, draw and append) overlaps nothing else that it is given.
  *   What it only reads may overlap.
  * - No other thread writes to what a call is given, or reads what it writes, until it returns.
  *
  * The library keeps nothing between calls, and neither allocates nor reads or writes any file: calls on different
- * buffers may run in several threads. Tables lie on the stack. rank, remaining and draw take up to 100 KiB of it and
- * the others up to 16 KiB; with 160 KiB free every call is safe.
+ * buffers may run in several threads. Tables lie on the stack: PUMPFENNEL_LARGE_STACK and PUMPFENNEL_SMALL_STACK below
+ * say how much of it a call takes.
  */
 #ifndef PUMPFENNEL_H
 #define PUMPFENNEL_H
@@ -22,54 +24,128 @@
 #include <stddef.h>
 #include <stdint.h>
 
+/* version: from VERSION, by tools/generate */
+/* The version, as text and as one number: major * 10,000 + minor * 100 + patch. */
+#define PUMPFENNEL_VERSION "0.2.0"
+#define PUMPFENNEL_VERSION_NUMBER 200
+/* end of version */
+
+/* The most words of a sentence, and the most bytes of a grammar: 32 nonterminals and 255 rules. */
+#define PUMPFENNEL_LONGEST_SENTENCE 16
+#define PUMPFENNEL_LARGEST_GRAMMAR 1056
+
+/* The most records of a history, how many bytes so many records take, and the most bytes of a history without slack. */
+#define PUMPFENNEL_MOST_RECORDS 1000
+#define PUMPFENNEL_HISTORY_SIZE(records) (4 + 20 * (records))
+#define PUMPFENNEL_LARGEST_HISTORY 20004
+
+/* The most bytes of stack that a call takes: rank, remaining and draw the large one, the others the small one. */
+#define PUMPFENNEL_LARGE_STACK 102400
+#define PUMPFENNEL_SMALL_STACK 16384
+
 #ifdef __cplusplus
 extern "C" {
 #endif
 
+/* refusals: from refusals.txt, by tools/generate */
 /* What a call returns, with document 01's numbers and meanings. */
 enum pumpfennel_refusal {
     PUMPFENNEL_ACCEPTED = 0,
     /* The grammar has fewer than 4 bytes. */
     PUMPFENNEL_GRAMMAR_TOO_SHORT = 1,
-    /* The number of nonterminals, words or rules, or the start, is outside its range. */
-    PUMPFENNEL_GRAMMAR_RANGE = 2,
-    /* The grammar's size is not the one that these numbers give. */
-    PUMPFENNEL_GRAMMAR_SIZE = 3,
+    /* N, W, R or S is outside its range. */
+    PUMPFENNEL_GRAMMAR_OUT_OF_RANGE = 2,
+    /* The grammar's size is not 4 + N + 4R. */
+    PUMPFENNEL_GRAMMAR_WRONG_SIZE = 3,
     /* Some rule has a kind, a or b that its layout forbids. */
-    PUMPFENNEL_GRAMMAR_RULE = 4,
-    /* Some head or next in the grammar is above the number of rules. */
-    PUMPFENNEL_GRAMMAR_LINK = 5,
-    /* A rule is met a second time, walking the chains. */
-    PUMPFENNEL_GRAMMAR_RULE_TWICE = 6,
+    PUMPFENNEL_GRAMMAR_BAD_RULE = 4,
+    /* Some head or next in the grammar is above R. */
+    PUMPFENNEL_GRAMMAR_BAD_LINK = 5,
+    /* A rule is met a second time, walking the chains from nonterminal 0 up. */
+    PUMPFENNEL_GRAMMAR_RULE_MET_TWICE = 6,
     /* A rule is on no chain. */
-    PUMPFENNEL_GRAMMAR_RULE_UNCHAINED = 7,
+    PUMPFENNEL_GRAMMAR_RULE_ON_NO_CHAIN = 7,
     /* One chain holds two rules with the same kind, a and b. */
     PUMPFENNEL_GRAMMAR_EQUAL_RULES = 8,
     /* The length, or the sentence's length, is not 1 to 16. */
-    PUMPFENNEL_LENGTH = 9,
-    /* Some nonterminal has more than 2^64 - 1 derivations of some length up to the one asked for. */
-    PUMPFENNEL_TOO_MANY = 10,
-    /* The history has fewer than 4 bytes, more than 1,000 records, or fewer bytes than its records take. */
-    PUMPFENNEL_HISTORY_SIZE = 11,
+    PUMPFENNEL_BAD_LENGTH = 9,
+    /* Some count up to the length is above 2^64 - 1. */
+    PUMPFENNEL_TOO_MANY_DERIVATIONS = 10,
+    /* The history has fewer than 4 bytes, K is above 1,000, or it has fewer than 4 + 20K bytes. */
+    PUMPFENNEL_HISTORY_WRONG_SIZE = 11,
     /* Some record has a wrong length, a fourth byte that is not 0, or a non-zero byte beyond its words. */
-    PUMPFENNEL_HISTORY_RECORD = 12,
-    /* The history's head or some next is above the number of records. */
-    PUMPFENNEL_HISTORY_LINK = 13,
+    PUMPFENNEL_HISTORY_BAD_RECORD = 12,
+    /* The history's head or some next is above K. */
+    PUMPFENNEL_HISTORY_BAD_LINK = 13,
     /* The history's chain meets a record twice or misses one. */
-    PUMPFENNEL_HISTORY_CHAIN = 14,
-    /* A sentence of the history with the named length has two or more derivations (remaining, draw). */
+    PUMPFENNEL_HISTORY_BAD_CHAIN = 14,
+    /* A heard sentence of the length has two or more derivations. */
     PUMPFENNEL_HEARD_AMBIGUOUS = 15,
-    /* The number is the total or more (unrank), or what remains or more (draw). */
+    /* The number is not below how many there are to choose from. */
     PUMPFENNEL_NUMBER_BEYOND = 16,
-    /* The sentence has no derivation (rank). */
+    /* The sentence has no derivation. */
     PUMPFENNEL_SENTENCE_UNDERIVABLE = 17,
-    /* The sentence has two or more derivations (rank). */
+    /* The sentence has two or more derivations. */
     PUMPFENNEL_SENTENCE_AMBIGUOUS = 18,
-    /* The history has 1,000 records, or its buffer has no room for one more (append). */
+    /* The history has 1,000 records or no room for one more. */
     PUMPFENNEL_HISTORY_FULL = 19,
-    /* The sentence's buffer is shorter than the length (unrank, draw). */
+    /* The sentence's buffer is shorter than the length. */
     PUMPFENNEL_BUFFER_TOO_SHORT = 20
 };
+
+/* What a call returned, in words: a sentence without its first capital and its full stop. */
+static inline const char *pumpfennel_refusal_text(uint8_t refusal) {
+    switch (refusal) {
+    case PUMPFENNEL_ACCEPTED:
+        return "accepted";
+    case PUMPFENNEL_GRAMMAR_TOO_SHORT:
+        return "the grammar has fewer than 4 bytes";
+    case PUMPFENNEL_GRAMMAR_OUT_OF_RANGE:
+        return "N, W, R or S is outside its range";
+    case PUMPFENNEL_GRAMMAR_WRONG_SIZE:
+        return "the grammar's size is not 4 + N + 4R";
+    case PUMPFENNEL_GRAMMAR_BAD_RULE:
+        return "some rule has a kind, a or b that its layout forbids";
+    case PUMPFENNEL_GRAMMAR_BAD_LINK:
+        return "some head or next in the grammar is above R";
+    case PUMPFENNEL_GRAMMAR_RULE_MET_TWICE:
+        return "a rule is met a second time, walking the chains from nonterminal 0 up";
+    case PUMPFENNEL_GRAMMAR_RULE_ON_NO_CHAIN:
+        return "a rule is on no chain";
+    case PUMPFENNEL_GRAMMAR_EQUAL_RULES:
+        return "one chain holds two rules with the same kind, a and b";
+    case PUMPFENNEL_BAD_LENGTH:
+        return "the length, or the sentence's length, is not 1 to 16";
+    case PUMPFENNEL_TOO_MANY_DERIVATIONS:
+        return "some count up to the length is above 2^64 - 1";
+    case PUMPFENNEL_HISTORY_WRONG_SIZE:
+        return "the history has fewer than 4 bytes, K is above 1,000, or it has fewer than 4 + 20K bytes";
+    case PUMPFENNEL_HISTORY_BAD_RECORD:
+        return "some record has a wrong length, a fourth byte that is not 0, or a non-zero byte beyond its words";
+    case PUMPFENNEL_HISTORY_BAD_LINK:
+        return "the history's head or some next is above K";
+    case PUMPFENNEL_HISTORY_BAD_CHAIN:
+        return "the history's chain meets a record twice or misses one";
+    case PUMPFENNEL_HEARD_AMBIGUOUS:
+        return "a heard sentence of the length has two or more derivations";
+    case PUMPFENNEL_NUMBER_BEYOND:
+        return "the number is not below how many there are to choose from";
+    case PUMPFENNEL_SENTENCE_UNDERIVABLE:
+        return "the sentence has no derivation";
+    case PUMPFENNEL_SENTENCE_AMBIGUOUS:
+        return "the sentence has two or more derivations";
+    case PUMPFENNEL_HISTORY_FULL:
+        return "the history has 1,000 records or no room for one more";
+    case PUMPFENNEL_BUFFER_TOO_SHORT:
+        return "the sentence's buffer is shorter than the length";
+    default:
+        return "no such refusal";
+    }
+}
+/* end of refusals */
+
+/* The archive's version as one number, to be held against the header's PUMPFENNEL_VERSION_NUMBER. */
+uint64_t pumpfennel_version(void);
 
 /* Check bank: gives how many nonterminals and words the grammar has. Refusals 1 to 8. */
 uint8_t pumpfennel_check_grammar(const uint8_t *grammar, size_t grammar_len, uint64_t *nonterminals, uint64_t *words);
@@ -108,8 +184,8 @@ uint8_t pumpfennel_draw(const uint8_t *grammar, size_t grammar_len, const uint8_
                         uint64_t *number);
 
 /*
- * Log: writes the sentence as the history's newest record into the buffer, which has 4 + 20 bytes a record and room for
- * this one, and gives how many records there are now. Any bytes are words here. Refusals 9, 11 to 14, 19.
+ * Log: writes the sentence as the history's newest record into the buffer, which has PUMPFENNEL_HISTORY_SIZE bytes for
+ * the records and this one, and gives how many records there are now. Any bytes are words here. Refusals 9, 11 to 14, 19.
  */
 uint8_t pumpfennel_append(uint8_t *history, size_t history_len, const uint8_t *sentence, size_t sentence_len,
                           uint64_t *records);

@@ -7,10 +7,11 @@
  *   draw GRAMMAR HISTORY LENGTH DRAW BUFFER
  *   append BUFFER SENTENCE
  *
- * Bytes are in hex after an x, which stands alone where there are none. An answer is the refusal and the figures; after a
- * call with a buffer, the buffer too. Figures held other numbers before. What a call may only read lies in memory that
- * can't be written, and right behind every run of bytes lies memory that can't be read. Each call has a thread of its own
- * with a stack of 256 KiB; the last line has, for each call in the order above, the most bytes of it that were used.
+ * Bytes are in hex after an x, which stands alone where there are none; null is NULL with length 0. An answer is the
+ * refusal and the figures; after a call with a buffer, the buffer too. Figures held other numbers before. What a call may
+ * only read lies in memory that can't be written, and right behind every run of bytes lies memory that can't be read.
+ * Each call has a thread of its own with a stack of 256 KiB; the last line has, for each call in the order above, the
+ * most bytes of it that were used.
  */
 #define _GNU_SOURCE
 #include "pumpfennel.h"
@@ -65,7 +66,11 @@ static uint8_t *area(size_t size) {
 }
 
 static void read_bytes(const char *text, struct bytes *to, int writable) {
-    CHECK(text != NULL && text[0] == 'x' && strlen(text) / 2 <= AREA);
+    if (strcmp(text, "null") == 0) {
+        to->at = NULL, to->size = 0;
+        return;
+    }
+    CHECK(text[0] == 'x' && strlen(text) / 2 <= AREA);
     to->size = strlen(text) / 2;
     to->at = to->area + AREA - to->size;
     CHECK(mprotect(to->area, AREA, PROT_READ | PROT_WRITE) == 0);

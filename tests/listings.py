@@ -1,5 +1,6 @@
 #!/usr/bin/env python3
-"""Compares the listing program with the brute-force program, byte for byte, on inputs from fixed seeds.
+"""Compares the listing program with the brute-force program, byte for byte, on inputs from fixed seeds. On standard error it is
+to give a refusal's meaning, in the words of refusals.txt, and nothing else.
 
   listings.py PROGRAM
 
@@ -10,6 +11,8 @@ where some refusal of 1 to 15 was never reached.
 import collections
 import contextlib
 import itertools
+import pathlib
+import re
 import subprocess
 import sys
 import time
@@ -24,6 +27,8 @@ READ = 65536  # House bank and listing program: "reads up to 65,536 bytes of sta
 ENOUGH = 3  # so many wrong answers are shown, and then no more inputs are tried
 PATIENCE = 10  # seconds for an answer
 EMPTY = history([])
+REFUSALS = (pathlib.Path(__file__).resolve().parent.parent / 'refusals.txt').read_text()
+MEANINGS = {int(number): words for number, words in re.findall(r'^([0-9]+) \w+: (.*)$', REFUSALS, re.MULTILINE)}
 LENGTHS = [0, 1, 2, 3, 4, 5, 15, 16, 17, 18, 32, 128, 129, 254, 255]
 
 
@@ -269,7 +274,14 @@ def all_inputs():
 
 def refusal_of(output):
     """The refusal's number that an output has, or 0."""
-    return int(output.split()[1]) if output.startswith(b'refused ') else 0
+    refusal = re.fullmatch(rb'refused ([0-9]+)\n', output)
+    return int(refusal[1]) if refusal else 0
+
+
+def meaning_of(output):
+    """What is said on standard error beside an output: the meaning of a refusal."""
+    number = refusal_of(output)
+    return f'listing: refused: {MEANINGS.get(number)}\n'.encode() if number else b''
 
 
 def answered(running, data=None):
@@ -279,7 +291,8 @@ def answered(running, data=None):
     except subprocess.TimeoutExpired:
         running.kill()
         return running.communicate()[0] + b'no end within %d seconds\n' % PATIENCE
-    return output if running.returncode == 0 and not errors else output + b'exit status %d\n%s' % (running.returncode, errors)
+    well = running.returncode == 0 and errors == meaning_of(output)
+    return output if well else output + b'exit status %d\n%s' % (running.returncode, errors)
 
 
 def started(program):

@@ -23,7 +23,6 @@ HEADER = ROOT / 'include' / 'pumpfennel.h'
 ARCHIVE = ROOT / 'target' / 'staticlib' / 'libpumpfennel.a'
 STRICT = ['-Wall', '-Wextra', '-Werror']
 MOST = oracle.MOST
-LITTLE, LARGE = 16 * 1024, 100 * 1024  # the header's figures for the stack
 CALLS = ['check_grammar', 'check_history', 'count', 'unrank', 'rank', 'remaining', 'draw', 'append']
 
 
@@ -40,6 +39,11 @@ def compiled(*words):
     ran = run(*words, *STRICT, '-I', HEADER.parent)
     if ran.returncode != 0:
         raise AssertionError(ran.stderr.decode())
+
+
+def limit(name):
+    """A number that the header defines."""
+    return int(re.search(rf'^#define PUMPFENNEL_{name} (\d+)$', HEADER.read_text(), re.M)[1])
 
 
 def linked(test, source, standard, *more):
@@ -80,13 +84,40 @@ class Header(unittest.TestCase):
             compiled(*compiler('CXX', 'c++'), '-std=c++17', source, ARCHIVE, '-o', program)
             self.assertEqual(run(program).stdout, b'65536\n')
 
-    def test_the_numbers_run_from_0_to_20(self):
-        numbers = re.findall(r'^    PUMPFENNEL_[A-Z_]+ = (\d+)', HEADER.read_text(), re.M)
-        self.assertEqual(list(map(int, numbers)), list(range(21)))
+    def test_every_refusal_by_its_name(self):
+        """A call made by hand is refused with each name, and its text has the words that it should."""
+        ran = run(linked(self, ROOT / 'tests' / 'refusals.c', 'c99'))
+        self.assertEqual((ran.returncode, ran.stderr.decode()), (0, ''))
+        names = re.findall(r'^    PUMPFENNEL_\w+ = \d+,?$', HEADER.read_text(), re.M)
+        self.assertEqual(list(map(int, ran.stdout.split())), list(range(len(names))))
+
+    def test_one_version(self):
+        """In the header, the archive and the binding."""
+        with tempfile.TemporaryDirectory() as name:
+            source = pathlib.Path(name, 'version.c')
+            source.write_text('#include "pumpfennel.h"\n#include <stdio.h>\nint main(void) {\n'
+                              '    printf("%s %d ", PUMPFENNEL_VERSION, PUMPFENNEL_VERSION_NUMBER);\n'
+                              '    printf("%d\\n", (int)pumpfennel_version());\n'
+                              '    return 0;\n}\n')
+            version, number, archive = run(linked(self, source, 'c99')).stdout.decode().split()
+        major, minor, patch = map(int, version.split('.'))
+        self.assertEqual((int(number), int(archive)), (10000 * major + 100 * minor + patch,) * 2)
+        self.assertEqual(version + '\n', (ROOT / 'VERSION').read_text())
+        cargo = (ROOT / 'bindings' / 'rust' / 'Cargo.toml').read_text()
+        self.assertEqual(re.findall('^version = "(.*)"$', cargo, re.M), [version])
+
+    def test_the_limits(self):
+        """They are the largest that the brute-force program accepts; Calls holds the archive to the same."""
+        self.assertEqual([oracle.count(F, limit('LONGEST_SENTENCE') + more)[0] for more in (0, 1)], [0, 9])
+        self.assertEqual(oracle.check_grammar(largest_bank()), (0, 32, 255))
+        self.assertEqual(len(largest_bank()), limit('LARGEST_GRAMMAR'))
+        most = limit('MOST_RECORDS')
+        self.assertEqual([oracle.check_history(full_diary(most + more))[0] for more in (0, 1)], [0, 11])
+        self.assertEqual(len(full_diary(most)), limit('LARGEST_HISTORY'))
 
     def test_the_calls_are_the_archives(self):
-        declared = re.findall(r'^uint8_t (pumpfennel_\w+)\(', HEADER.read_text(), re.M)
-        self.assertEqual(declared, ['pumpfennel_' + call for call in CALLS])
+        declared = re.findall(r'^uint\d+_t (pumpfennel_\w+)\(', HEADER.read_text(), re.M)
+        self.assertEqual(declared, ['pumpfennel_' + call for call in ['version', *CALLS]])
         names = run('nm', '--extern-only', '--defined-only', ARCHIVE).stdout.decode()
         self.assertEqual(sorted(re.findall(r' [A-Z] (\S+)$', names, re.M)), sorted(declared))
 
@@ -110,6 +141,11 @@ def call_line(call, *args):
 
 def answer_line(call, *args):
     return ' '.join(map(word_of, getattr(oracle, call)(*args)))
+
+
+def with_null(line):
+    """The same call with NULL for every run of no bytes."""
+    return re.sub(r' x(?= |$)', ' null', line)
 
 
 def in_64_bits(*numbers):
@@ -151,6 +187,26 @@ def deep_banks():
     yield brimful()
 
 
+def largest_bank():
+    return grammar(255, 0, [[word(a) for a in range(255)]] + 31 * [[]])
+
+
+def full_diary(records):
+    return history(records * [b'\1'])
+
+
+def full_diaries():
+    """Deep trees, long sentences and a full diary of them: what takes most of the stack."""
+    for bank in list(deep_banks())[:3]:
+        numbers = [65 * i for i in range(1000)]
+        heard = [oracle.unrank(bank, 16, number, bytes(16))[2] for number in numbers]
+        yield 'rank', bank, heard[-1]
+        yield 'unrank', bank, 16, numbers[-1], bytes(16)
+        yield 'remaining', bank, history(heard), 16
+        yield 'draw', bank, history(heard), 16, 60000, bytes(16)
+        yield 'append', history(heard[1:], slack=bytes(20)), heard[0]
+
+
 def all_cases():
     for length in (1, 2, 3, 16):
         yield from cases_of(length, F, history([bytes([0, 1])]))
@@ -162,6 +218,9 @@ def all_cases():
     thousand = [oracle.unrank(oracle.matrix(), 5, 7 * i, bytes(5))[2] for i in range(1000)]
     for many in (0, 1, 999, 1000):
         yield from cases_of(5, oracle.matrix(), history(thousand[:many]))
+    yield from full_diaries()
+    for bank, diary in [(b'', b''), (F, b''), (b'', bytes(4)), (largest_bank(), full_diary(1000)), (F, full_diary(1001))]:
+        yield from cases_of(1, bank, diary)
     for _, _, bank in vectors.TRAPS:
         yield 'check_grammar', bank
     for _, _, diary in vectors.HISTORY_TRAPS:
@@ -181,6 +240,7 @@ class Calls(unittest.TestCase):
     def setUpClass(cls):
         program = linked(cls, ROOT / 'tests' / 'calls.c', 'c11', '-pthread')
         cls.expected = {call_line(*case): answer_line(*case) for case in all_cases()}
+        cls.expected.update({with_null(line): answer for line, answer in cls.expected.items()})
         given = ''.join(line + '\n' for line in cls.expected)
         cls.ran = run(program, given=given.encode())
         cls.lines = cls.ran.stdout.decode().splitlines()
@@ -201,14 +261,22 @@ class Calls(unittest.TestCase):
             'rank': bank | {9, 10, 17, 18}, 'remaining': bank | diary | {9, 10, 15},
             'draw': bank | diary | {9, 10, 15, 16, 20}, 'append': diary | {9, 19}})
 
+    def test_null_with_length_0(self):
+        """It stood for every pointer that has a length, and the answer was that for a run of no bytes."""
+        met = collections.defaultdict(set)
+        for call in self.expected:
+            name, *args = call.split()
+            met[name].update(place for place, arg in enumerate(args) if arg == 'null')
+        self.assertEqual(met, {'check_grammar': {0}, 'check_history': {0}, 'count': {0}, 'unrank': {0, 3}, 'rank': {0, 1},
+                               'remaining': {0, 1}, 'draw': {0, 1, 4}, 'append': {0, 1}})
+
     def test_stack(self):
-        """The header's figures hold, and the large ones are not far above the truth."""
+        """No call takes more than the header says, and one of its kind takes more than half of that."""
         used = dict(zip(CALLS, map(int, self.lines[-1].split())))
-        for call, most in used.items():
-            self.assertLess(most, LARGE if call in ('rank', 'remaining', 'draw') else LITTLE, call)
-        self.assertGreater(used['draw'], LARGE // 2)
-        self.assertIn('up to 100 KiB', HEADER.read_text())
-        self.assertIn('up to 16 KiB', HEADER.read_text())
+        large = {call: used.pop(call) for call in ('rank', 'remaining', 'draw')}
+        for most, taken in [(limit('LARGE_STACK'), large), (limit('SMALL_STACK'), used)]:
+            self.assertLess(max(taken.values()), most, taken)
+            self.assertGreater(max(taken.values()), most // 2, taken)
 
 
 # ---- The session
@@ -314,7 +382,8 @@ class Session(unittest.TestCase):
         self.diary.write_bytes(history(heard))
         source = random_bytes(55, 100)
         status, lines, errors = self.session(oracle.matrix(), 5, 5, source)
-        self.assertEqual((status, len(lines), errors), (1, 2, f'session: {self.diary}: the diary is full\n'))
+        full = 'the history has 1,000 records or no room for one more'
+        self.assertEqual((status, len(lines), errors), (1, 2, f'session: {self.diary}: {full}\n'))
         self.check_drawn(oracle.matrix(), 5, source, history(heard), lines)
         self.assertEqual(oracle.check_history(self.diary.read_bytes()), (0, 1000))
 

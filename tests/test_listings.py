@@ -130,9 +130,10 @@ class Comparing(unittest.TestCase):
             self.assertIn(f'found:\n{wrong(oracle.listing(self.inputs[0].data)).decode()}', printed)
             self.assertIn('1 inputs compared, 1 wrong answers', printed)
 
-    def test_the_exit_status_counts(self):
+    def test_the_exit_status_and_standard_error_count(self):
         self.assertIn(b'exit status 1', listings.run('false', b''))
         self.assertEqual(listings.run('cat', b'some'), b'some')
+        self.assertIn(b'exit status 0', listings.run('cat', b'refused 1\n'))
         self.assertEqual(listings.run_in_parts('cat', b'some more'), b'some more')
 
     def test_a_program_that_reads_less_than_all(self):

@@ -1,14 +1,16 @@
 //! The C functions as the archive has them.
 //!
-//! Each returns the refusal's number, 0 where the call is accepted. On a refusal every figure is 0 and every
+//! Each call returns the refusal's number, 0 where the call is accepted. On a refusal every figure is 0 and every
 //! lent buffer is as it was. Nothing is required of the bytes and numbers handed in.
 //!
 //! # Safety
 //!
-//! A pointer and the length after it are those of a slice, a pointer alone is that of a figure. None is null,
-//! also where the length is 0. What a call may write overlaps nothing else that it is lent.
+//! A pointer and the length after it are those of a slice, a pointer alone is that of a figure. Where the length is 0
+//! the pointer may be null. What a call may write overlaps nothing else that it is lent.
 
 unsafe extern "C" {
+    pub safe fn pumpfennel_version() -> u64;
+
     pub fn pumpfennel_check_grammar(
         grammar: *const u8,
         grammar_len: usize,

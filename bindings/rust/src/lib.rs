@@ -8,7 +8,8 @@
 //! The work is done by a proved archive, written by `rt staticlib pumpfennel` in the project's folder. This crate
 //! links it and gives each of its functions a safe face; it checks nothing itself and allocates nothing. No call
 //! requires anything of the bytes it is handed: what is wrong with them is a [`Refusal`]. After a refusal every
-//! lent buffer is as it was. Nothing is kept between calls. A call takes less than 128 KiB of stack.
+//! lent buffer is as it was. Nothing is kept between calls. Tables lie on the stack: [`LARGE_STACK`] and
+//! [`SMALL_STACK`] say how much of it a call takes.
 //!
 //! # The house matrix grammar
 //!
@@ -33,7 +34,7 @@
 //! assert_eq!(pumpfennel::rank(&grammar, &sentence)?.number, DerivationNumber(31415));
 //!
 //! // A history with room for 30 records. Once the sentence is heard, no draw gives it again.
-//! let mut history = [0; 4 + 20 * 30];
+//! let mut history = [0; pumpfennel::history_size(30)];
 //! pumpfennel::append(&mut history, &sentence)?;
 //! assert_eq!(pumpfennel::remaining(&grammar, &history, 5)?.remaining, 99_999);
 //! let drawn = pumpfennel::draw(&grammar, &history, 5, DrawNumber(31415), &mut sentence)?;
@@ -48,6 +49,35 @@ pub mod ffi;
 mod refusal;
 
 pub use refusal::Refusal;
+
+/// The most words of a sentence.
+pub const LONGEST_SENTENCE: usize = 16;
+
+/// The most bytes of a grammar: 32 nonterminals and 255 rules.
+pub const LARGEST_GRAMMAR: usize = 4 + 32 + 4 * 255;
+
+/// The most records of a history.
+pub const MOST_RECORDS: usize = 1000;
+
+/// The most bytes of a history without slack.
+pub const LARGEST_HISTORY: usize = history_size(MOST_RECORDS);
+
+/// The most bytes of stack that [`rank`], [`remaining`] or [`draw`] takes.
+pub const LARGE_STACK: usize = 100 * 1024;
+
+/// The most bytes of stack that another call takes.
+pub const SMALL_STACK: usize = 16 * 1024;
+
+/// How many bytes a history of so many records takes.
+pub const fn history_size(records: usize) -> usize {
+    4 + 20 * records
+}
+
+/// The archive's version as one number: major * 10,000 + minor * 100 + patch. It is this crate's version, unless an
+/// older or newer archive was linked.
+pub fn version() -> u64 {
+    ffi::pumpfennel_version()
+}
 
 /// How many derivations stand before one, among those of the start and its length.
 #[derive(Clone, Copy, Debug, PartialEq, Eq, PartialOrd, Ord, Hash)]
@@ -174,7 +204,7 @@ pub fn count(grammar: &[u8], length: u64) -> Result<u64, Refusal> {
 /// let mut sentence = [7; 4];
 /// assert_eq!(pumpfennel::unrank(&grammar, 3, DerivationNumber(5), &mut sentence), Ok(8));
 /// assert_eq!(sentence, [1, 0, 1, 7]);
-/// assert_eq!(pumpfennel::unrank(&grammar, 3, DerivationNumber(8), &mut sentence), Err(Refusal::Beyond));
+/// assert_eq!(pumpfennel::unrank(&grammar, 3, DerivationNumber(8), &mut sentence), Err(Refusal::NumberBeyond));
 /// ```
 ///
 /// # Errors
@@ -205,7 +235,7 @@ pub fn unrank(grammar: &[u8], length: u64, number: DerivationNumber, sentence: &
 /// let grammar = [2, 2, 4, 0, 1, 3, 1, 1, 1, 2, 1, 0, 1, 0, 0, 0, 0, 4, 0, 1, 0, 0];
 /// let ranked = Ranked { number: DerivationNumber(5), total: 8 };
 /// assert_eq!(pumpfennel::rank(&grammar, &[1, 0, 1]), Ok(ranked));
-/// assert_eq!(pumpfennel::rank(&grammar, &[1, 0, 2]), Err(Refusal::Underivable));
+/// assert_eq!(pumpfennel::rank(&grammar, &[1, 0, 2]), Err(Refusal::SentenceUnderivable));
 /// ```
 ///
 /// # Errors
@@ -275,7 +305,7 @@ pub fn remaining(grammar: &[u8], history: &[u8], length: u64) -> Result<Remainin
 /// assert_eq!(pumpfennel::draw(&grammar, &history, 2, DrawNumber(1), &mut sentence)?, drawn);
 /// assert_eq!(sentence, [1, 0]);
 /// let past = pumpfennel::draw(&grammar, &history, 2, DrawNumber(3), &mut sentence);
-/// assert_eq!(past, Err(Refusal::Beyond));
+/// assert_eq!(past, Err(Refusal::NumberBeyond));
 /// # Ok::<(), Refusal>(())
 /// ```
 ///
@@ -316,7 +346,7 @@ pub fn draw(
 /// assert_eq!(pumpfennel::append(&mut history, &[0, 1]), Ok(1));
 /// assert_eq!(history[..10], [1, 0, 1, 0, 0, 0, 2, 0, 0, 1]);
 /// assert_eq!(history[10..], [0; 14]);
-/// assert_eq!(pumpfennel::append(&mut history, &[0, 1]), Err(pumpfennel::Refusal::NoRoom));
+/// assert_eq!(pumpfennel::append(&mut history, &[0, 1]), Err(pumpfennel::Refusal::HistoryFull));
 /// ```
 ///
 /// # Errors

@@ -1,50 +1,51 @@
 use std::error::Error;
 use std::fmt;
 
+// refusals: from refusals.txt, by tools/generate
 /// Why a call says no. The numbers are those of document 01's list; the first that applies is returned.
 #[derive(Clone, Copy, Debug, PartialEq, Eq, PartialOrd, Ord, Hash)]
 #[non_exhaustive]
 #[repr(u8)]
 pub enum Refusal {
-    /// 1: the grammar has fewer than 4 bytes.
+    /// The grammar has fewer than 4 bytes.
     GrammarTooShort = 1,
-    /// 2: N, W, R or S is outside its range.
+    /// N, W, R or S is outside its range.
     GrammarOutOfRange = 2,
-    /// 3: the grammar's size is not 4 + N + 4R.
+    /// The grammar's size is not 4 + N + 4R.
     GrammarWrongSize = 3,
-    /// 4: some rule has a kind, a or b that its layout forbids.
-    BadRule = 4,
-    /// 5: some head or next in the grammar is above R.
+    /// Some rule has a kind, a or b that its layout forbids.
+    GrammarBadRule = 4,
+    /// Some head or next in the grammar is above R.
     GrammarBadLink = 5,
-    /// 6: a rule is met a second time, walking the chains from nonterminal 0 up.
-    RuleMetTwice = 6,
-    /// 7: a rule is on no chain.
-    RuleOnNoChain = 7,
-    /// 8: one chain holds two rules with the same kind, a and b.
-    RuleRepeated = 8,
-    /// 9: the length, or the sentence's length, is not 1 to 16.
+    /// A rule is met a second time, walking the chains from nonterminal 0 up.
+    GrammarRuleMetTwice = 6,
+    /// A rule is on no chain.
+    GrammarRuleOnNoChain = 7,
+    /// One chain holds two rules with the same kind, a and b.
+    GrammarEqualRules = 8,
+    /// The length, or the sentence's length, is not 1 to 16.
     BadLength = 9,
-    /// 10: a nonterminal has more than 2^64 - 1 derivations of a length up to the one named.
-    TooLarge = 10,
-    /// 11: the history has fewer than 4 bytes, K is above 1,000, or it has fewer than 4 + 20K bytes.
-    HistoryBadSize = 11,
-    /// 12: some record has a wrong length, a fourth byte that is not 0, or a non-zero byte beyond its words.
-    BadRecord = 12,
-    /// 13: the history's head or some next is above K.
+    /// Some count up to the length is above 2^64 - 1.
+    TooManyDerivations = 10,
+    /// The history has fewer than 4 bytes, K is above 1,000, or it has fewer than 4 + 20K bytes.
+    HistoryWrongSize = 11,
+    /// Some record has a wrong length, a fourth byte that is not 0, or a non-zero byte beyond its words.
+    HistoryBadRecord = 12,
+    /// The history's head or some next is above K.
     HistoryBadLink = 13,
-    /// 14: the history's chain meets a record twice or misses one.
+    /// The history's chain meets a record twice or misses one.
     HistoryBadChain = 14,
-    /// 15: a sentence of the history, of the named length, has two or more derivations.
-    HistoryAmbiguous = 15,
-    /// 16: the number is the total or more, or the draw number is the remaining count or more.
-    Beyond = 16,
-    /// 17: the sentence has no derivation.
-    Underivable = 17,
-    /// 18: the sentence has two or more derivations.
-    Ambiguous = 18,
-    /// 19: the history has 1,000 records already, or its buffer no room for one more.
-    NoRoom = 19,
-    /// 20: the sentence buffer is shorter than the length.
+    /// A heard sentence of the length has two or more derivations.
+    HeardAmbiguous = 15,
+    /// The number is not below how many there are to choose from.
+    NumberBeyond = 16,
+    /// The sentence has no derivation.
+    SentenceUnderivable = 17,
+    /// The sentence has two or more derivations.
+    SentenceAmbiguous = 18,
+    /// The history has 1,000 records or no room for one more.
+    HistoryFull = 19,
+    /// The sentence's buffer is shorter than the length.
     BufferTooShort = 20,
 }
 
@@ -54,30 +55,63 @@ impl Refusal {
         Refusal::GrammarTooShort,
         Refusal::GrammarOutOfRange,
         Refusal::GrammarWrongSize,
-        Refusal::BadRule,
+        Refusal::GrammarBadRule,
         Refusal::GrammarBadLink,
-        Refusal::RuleMetTwice,
-        Refusal::RuleOnNoChain,
-        Refusal::RuleRepeated,
+        Refusal::GrammarRuleMetTwice,
+        Refusal::GrammarRuleOnNoChain,
+        Refusal::GrammarEqualRules,
         Refusal::BadLength,
-        Refusal::TooLarge,
-        Refusal::HistoryBadSize,
-        Refusal::BadRecord,
+        Refusal::TooManyDerivations,
+        Refusal::HistoryWrongSize,
+        Refusal::HistoryBadRecord,
         Refusal::HistoryBadLink,
         Refusal::HistoryBadChain,
-        Refusal::HistoryAmbiguous,
-        Refusal::Beyond,
-        Refusal::Underivable,
-        Refusal::Ambiguous,
-        Refusal::NoRoom,
+        Refusal::HeardAmbiguous,
+        Refusal::NumberBeyond,
+        Refusal::SentenceUnderivable,
+        Refusal::SentenceAmbiguous,
+        Refusal::HistoryFull,
         Refusal::BufferTooShort,
     ];
 
-    /// The number in document 01's list, 1 to 20.
+    /// What the refusal says in words: a sentence without its first capital and its full stop.
+    pub const fn text(self) -> &'static str {
+        match self {
+            Refusal::GrammarTooShort => "the grammar has fewer than 4 bytes",
+            Refusal::GrammarOutOfRange => "N, W, R or S is outside its range",
+            Refusal::GrammarWrongSize => "the grammar's size is not 4 + N + 4R",
+            Refusal::GrammarBadRule => "some rule has a kind, a or b that its layout forbids",
+            Refusal::GrammarBadLink => "some head or next in the grammar is above R",
+            Refusal::GrammarRuleMetTwice => "a rule is met a second time, walking the chains from nonterminal 0 up",
+            Refusal::GrammarRuleOnNoChain => "a rule is on no chain",
+            Refusal::GrammarEqualRules => "one chain holds two rules with the same kind, a and b",
+            Refusal::BadLength => "the length, or the sentence's length, is not 1 to 16",
+            Refusal::TooManyDerivations => "some count up to the length is above 2^64 - 1",
+            Refusal::HistoryWrongSize => {
+                "the history has fewer than 4 bytes, K is above 1,000, or it has fewer than 4 + 20K bytes"
+            }
+            Refusal::HistoryBadRecord => {
+                "some record has a wrong length, a fourth byte that is not 0, or a non-zero byte beyond its words"
+            }
+            Refusal::HistoryBadLink => "the history's head or some next is above K",
+            Refusal::HistoryBadChain => "the history's chain meets a record twice or misses one",
+            Refusal::HeardAmbiguous => "a heard sentence of the length has two or more derivations",
+            Refusal::NumberBeyond => "the number is not below how many there are to choose from",
+            Refusal::SentenceUnderivable => "the sentence has no derivation",
+            Refusal::SentenceAmbiguous => "the sentence has two or more derivations",
+            Refusal::HistoryFull => "the history has 1,000 records or no room for one more",
+            Refusal::BufferTooShort => "the sentence's buffer is shorter than the length",
+        }
+    }
+}
+// end of refusals
+
+impl Refusal {
+    /// The number in document 01's list, from 1.
     ///
     /// ```
     /// # use pumpfennel::Refusal;
-    /// assert_eq!(Refusal::Beyond.number(), 16);
+    /// assert_eq!(Refusal::NumberBeyond.number(), 16);
     /// ```
     pub const fn number(self) -> u8 {
         self as u8
@@ -87,7 +121,7 @@ impl Refusal {
     ///
     /// ```
     /// # use pumpfennel::Refusal;
-    /// assert_eq!(Refusal::from_number(16), Some(Refusal::Beyond));
+    /// assert_eq!(Refusal::from_number(16), Some(Refusal::NumberBeyond));
     /// assert_eq!(Refusal::from_number(0), None);
     /// ```
     pub fn from_number(number: u8) -> Option<Refusal> {
@@ -97,34 +131,7 @@ impl Refusal {
 
 impl fmt::Display for Refusal {
     fn fmt(&self, f: &mut fmt::Formatter<'_>) -> fmt::Result {
-        f.write_str(match self {
-            Refusal::GrammarTooShort => "the grammar has fewer than 4 bytes",
-            Refusal::GrammarOutOfRange => {
-                "the grammar's count of nonterminals, words or rules, or its start, is outside its range"
-            }
-            Refusal::GrammarWrongSize => "the grammar's size does not fit its counts of nonterminals and rules",
-            Refusal::BadRule => "a rule of the grammar has a kind or an operand that its layout forbids",
-            Refusal::GrammarBadLink => "a head or next in the grammar is above the count of rules",
-            Refusal::RuleMetTwice => "a rule of the grammar is met a second time along the chains",
-            Refusal::RuleOnNoChain => "a rule of the grammar is on no chain",
-            Refusal::RuleRepeated => "a chain of the grammar holds two rules with the same kind and operands",
-            Refusal::BadLength => "the length is not 1 to 16",
-            Refusal::TooLarge => "a nonterminal has more than 2^64 - 1 derivations of some length up to the one named",
-            Refusal::HistoryBadSize => {
-                "the history has fewer than 4 bytes, more than 1,000 records, or fewer bytes than its records need"
-            }
-            Refusal::BadRecord => {
-                "a record of the history has a wrong length, a fourth byte that is not 0, or a byte beyond its words"
-            }
-            Refusal::HistoryBadLink => "the history's head or some next is above its count of records",
-            Refusal::HistoryBadChain => "the history's chain meets a record twice or misses one",
-            Refusal::HistoryAmbiguous => "a sentence of the history, of the named length, has two or more derivations",
-            Refusal::Beyond => "the number is past the last derivation, or the draw number past the last draw",
-            Refusal::Underivable => "the sentence has no derivation",
-            Refusal::Ambiguous => "the sentence has two or more derivations",
-            Refusal::NoRoom => "the history has 1,000 records, or its buffer has no room for one more",
-            Refusal::BufferTooShort => "the sentence buffer is shorter than the length",
-        })
+        f.write_str(self.text())
     }
 }
 

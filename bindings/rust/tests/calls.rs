@@ -263,7 +263,7 @@ fn draws_as_one_list() {
             assert_eq!(drawn, unheard, "{shown}");
             for q in [found.remaining, found.remaining + 1, found.total.max(found.remaining), 1 << 32, u64::MAX] {
                 let answer = pumpfennel::draw(&case.grammar, history, case.length, DrawNumber(q), &mut [0; 16]);
-                assert_eq!(answer, Err(Refusal::Beyond), "draw {q}\n{shown}");
+                assert_eq!(answer, Err(Refusal::NumberBeyond), "draw {q}\n{shown}");
             }
             draws += drawn.len();
         }
@@ -291,48 +291,65 @@ fn a_thousand_draws_and_logs() {
         assert!(heard.insert(sentence), "{sentence:?} came twice");
         assert_eq!(pumpfennel::append(&mut history, &sentence), Ok(k + 1));
     }
-    assert_eq!(pumpfennel::append(&mut history, &[1]), Err(Refusal::NoRoom));
+    assert_eq!(pumpfennel::append(&mut history, &[1]), Err(Refusal::HistoryFull));
     assert_eq!(history[4 + 20 * 1000..], [0; 20]);
 }
 
 // ---- The binding itself
-
-#[test]
-fn refusals_by_number() {
-    for (refusal, number) in Refusal::ALL.into_iter().zip(1..) {
-        assert_eq!(refusal.number(), number);
-        assert_eq!(Refusal::from_number(number), Some(refusal));
-        let error: Box<dyn std::error::Error> = Box::new(refusal);
-        assert!(!error.to_string().is_empty());
-    }
-    assert_eq!(Refusal::ALL.len(), 20);
-    assert!([0, 21, 255].into_iter().all(|number| Refusal::from_number(number).is_none()));
-    let messages: BTreeSet<String> = Refusal::ALL.iter().map(Refusal::to_string).collect();
-    assert_eq!(messages.len(), 20);
-}
 
 /// Slices with no byte at all, as Rust has them.
 #[test]
 fn empty_slices() {
     let grammar = generate::f_words(2).bytes();
     assert_eq!(pumpfennel::check_grammar(&[]), Err(Refusal::GrammarTooShort));
-    assert_eq!(pumpfennel::check_history(&[]), Err(Refusal::HistoryBadSize));
+    assert_eq!(pumpfennel::check_history(&[]), Err(Refusal::HistoryWrongSize));
     assert_eq!(pumpfennel::count(&[], 2), Err(Refusal::GrammarTooShort));
     assert_eq!(pumpfennel::unrank(&grammar, 2, DerivationNumber(0), &mut []), Err(Refusal::BufferTooShort));
     assert_eq!(pumpfennel::rank(&grammar, &[]), Err(Refusal::BadLength));
-    assert_eq!(pumpfennel::remaining(&grammar, &[], 2), Err(Refusal::HistoryBadSize));
+    assert_eq!(pumpfennel::remaining(&grammar, &[], 2), Err(Refusal::HistoryWrongSize));
     assert_eq!(pumpfennel::draw(&grammar, &[0; 4], 2, DrawNumber(0), &mut []), Err(Refusal::BufferTooShort));
-    assert_eq!(pumpfennel::append(&mut [], &[1]), Err(Refusal::HistoryBadSize));
+    assert_eq!(pumpfennel::append(&mut [], &[1]), Err(Refusal::HistoryWrongSize));
     assert_eq!(pumpfennel::append(&mut [0; 24], &[]), Err(Refusal::BadLength));
 }
 
-/// The stack that the crate's documentation names is enough for the largest call.
+/// The stack that the crate names is enough for the largest call, with what a thread takes itself.
 #[test]
 fn stack() {
     let grammar = generate::f_words(15).bytes();
     let sentences: Vec<Vec<u8>> = (0..1000).map(|i| vec![(i % 15) as u8; 16]).collect();
     let history = generate::history(&sentences, &(1..=1000).collect::<Vec<usize>>(), &[]);
     let call = move || pumpfennel::draw(&grammar, &history, 16, DrawNumber(5), &mut [0; 16]);
-    let thread = std::thread::Builder::new().stack_size(192 << 10).spawn(call).expect("a thread");
+    let size = pumpfennel::LARGE_STACK + (16 << 10);
+    let thread = std::thread::Builder::new().stack_size(size).spawn(call).expect("a thread");
     assert!(thread.join().expect("an answer").is_ok());
+}
+
+/// A number that the header defines.
+fn of_header(name: &str) -> u64 {
+    let line = format!("#define PUMPFENNEL_{name} ");
+    let header = include_str!("../../../include/pumpfennel.h");
+    header.lines().find_map(|text| text.strip_prefix(&line)).expect(name).parse().expect(name)
+}
+
+#[test]
+fn limits_are_the_headers() {
+    let limits = [
+        ("LONGEST_SENTENCE", pumpfennel::LONGEST_SENTENCE),
+        ("LARGEST_GRAMMAR", pumpfennel::LARGEST_GRAMMAR),
+        ("MOST_RECORDS", pumpfennel::MOST_RECORDS),
+        ("LARGEST_HISTORY", pumpfennel::LARGEST_HISTORY),
+        ("LARGE_STACK", pumpfennel::LARGE_STACK),
+        ("SMALL_STACK", pumpfennel::SMALL_STACK),
+    ];
+    for (name, limit) in limits {
+        assert_eq!(limit as u64, of_header(name), "{name}");
+    }
+}
+
+/// The crate, the archive and the header have one.
+#[test]
+fn one_version() {
+    let parts: Vec<u64> = env!("CARGO_PKG_VERSION").split('.').map(|part| part.parse().expect("a number")).collect();
+    assert_eq!(pumpfennel::version(), 10_000 * parts[0] + 100 * parts[1] + parts[2]);
+    assert_eq!(pumpfennel::version(), of_header("VERSION_NUMBER"));
 }

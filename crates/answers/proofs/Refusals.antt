@@ -5,10 +5,11 @@ use mathlib.Core.Bool.{Bool, true, false, _&&_}
 use mathlib.Core.List.{List, [], _∷_, _++_}
 use Prim.Native.Nat.{ℕ, zero, suc, _<_}
 use native.Mathlib.Omega.{arith}
+use lib.ListN.{length}
 use borrow.Author.Tests.{ltb-true}
 use lib.Dec.{ltb}
 use Rattle.lists.proofs.Tests.{and-left, and-right}
-use Rattle.answers.specs.Answer.{Row, firstThatApplies, zeros, answerOf}
+use Rattle.answers.specs.Answer.{Row, firstThatApplies, given, refused, answerOf}
 
 -- ---- line by line
 
@@ -72,12 +73,12 @@ answer-number zero figures before after = refl
 answer-number (suc n) figures before after = refl
 
 pub answer-accepted : {n : ℕ} (figures before after : List ℕ) → n ≡ 0
-    → answerOf n figures before after ≡ record { refusal = 0; figures = figures; buffer = after }
+    → answerOf n figures before after ≡ given figures after
 unfolding answerOf
 answer-accepted figures before after e = rw e
 
 pub answer-refused : (n : ℕ) (figures before after : List ℕ) → 0 < n
-    → answerOf n figures before after ≡ record { refusal = n; figures = zeros figures; buffer = before }
+    → answerOf n figures before after ≡ refused n (length figures) before
 unfolding answerOf
 answer-refused zero figures before after h = absurd (omega arith)
 answer-refused (suc n) figures before after h = refl

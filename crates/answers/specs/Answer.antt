@@ -2,8 +2,9 @@
 -- every other figure is 0 and every buffer unchanged."
 -- Assumes nothing: these are definitions.
 use mathlib.Core.Bool.{Bool, cond}
-use mathlib.Core.List.{List, [], _∷_, map}
+use mathlib.Core.List.{List, [], _∷_}
 use Prim.Native.Nat.{ℕ, zero, suc}
+use lib.ListN.{length, replicate}
 
 -- a line of the list of refusals: whether it applies, and its number
 abbrev pub Row : Type 0
@@ -20,13 +21,18 @@ pub record Answer : Type 0 where
   pub figures : List ℕ
   pub buffer : List ℕ
 
-abbrev pub zeros : List ℕ → List ℕ
-zeros l = map (λ x. 0) l
+-- accepted: the figures, and the buffer as it is written
+abbrev pub given : (figures buffer : List ℕ) → Answer
+given figures buffer = record { refusal = 0; figures = figures; buffer = buffer }
 
--- by the refusal's number: accepted, with the figures and the buffer as written; or refused, with zeros and the buffer as it was
+-- refused: the number, each of `count` figures 0, and the buffer as it was
+abbrev pub refused : (number count : ℕ) (buffer : List ℕ) → Answer
+refused number count buffer = record { refusal = number; figures = replicate count 0; buffer = buffer }
+
+-- by the refusal's number, which is 0 where the call is accepted
 unfoldable pub answerOf : ℕ → (figures before after : List ℕ) → Answer
-answerOf zero figures before after = record { refusal = 0; figures = figures; buffer = after }
-answerOf (suc n) figures before after = record { refusal = suc n; figures = zeros figures; buffer = before }
+answerOf zero figures before after = given figures after
+answerOf (suc n) figures before after = refused (suc n) (length figures) before
 
 -- what a call with this list of refusals answers
 abbrev pub answer : List Row → (figures before after : List ℕ) → Answer

@@ -1,1 +1,3 @@
-// What a call answers, for the contracts of the crates above. No code.
+// What a call answers, for the contracts of the crates above.
+
+pub mod refusal;

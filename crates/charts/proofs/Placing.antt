@@ -1,4 +1,4 @@
--- RowAs of spans, length after length: those of a length begin where those of the shorter ones end, and the last end at the room for all.
+-- Rows of spans, length after length: those of a length begin where those of the shorter ones end, and the last end at the room for all.
 -- So every span has a row of its own.
 -- Assumes nothing.
 use mathlib.Core.Path.{_≡_, refl, sym, ap, _∙_}

@@ -11,7 +11,7 @@ use crate::maps::CHART;
 use crate::maps::NONE;
 use grammar::rules;
 
-// RowAs of a plan. By length: the left lengths at which spans are cut, the positions of the needed spans, the nonterminals with a
+// Rows of a plan. By length: the left lengths at which spans are cut, the positions of the needed spans, the nonterminals with a
 // derivation. By left nonterminal: its right ones.
 pub const CUTS: usize = 0;
 

@@ -11,15 +11,17 @@ use lib.ListN.{length}
 use Rattle.lists.proofs.Tests.{within-low, within-high, within-both}
 use Rattle.answers.specs.Answer.{Answer, firstThatApplies}
 use Rattle.answers.specs.Length.{badLength}
+use Rattle.answers.specs.Refusals.{refusalNumber}
+use Rattle.answers.specs.declared.refusal.Refusal.{Refusal}
+use Rattle.answers.specs.declared.refusal.Refusal.the-variants.{BadLength, TooManyDerivations}
+use Rattle.answers.proofs.Numbers.{number-some}
 use Rattle.answers.proofs.Refusals.{row-applies, row-passed, rows-stop, rows-pass, answer-number, answer-accepted, answer-refused}
 use Rattle.grammar.specs.Layout.{nonterminals, words, start}
 use Rattle.grammar.specs.Chains.{chain}
 use Rattle.grammar.specs.Inner.Rules.{startIn}
 use Rattle.grammar.specs.Refusals.{grammarRows, grammarRefusal, Accepted}
-use Rattle.grammar.specs.Answers.{refusalNumber, said, checkGrammar}
+use Rattle.grammar.specs.Answers.{grammarSays, checkGrammar}
 use Rattle.grammar.specs.Inner.Reading.{ReadAs}
-use Rattle.grammar.specs.declared.checks.GrammarRefusal.{GrammarRefusal}
-use Rattle.grammar.specs.declared.checks.GrammarRefusal.the-variants.{TooShort, OutOfRange, WrongSize, BadRule, BadLink, MetTwice, OnNoChain, Repeated}
 use Rattle.grammar.specs.declared.checks.GrammarAnswer.{GrammarAnswer}
 use Rattle.grammar.specs.declared.checks.GrammarAnswer.the-variants as checked
 use Rattle.counting.specs.Totals.{T}
@@ -27,35 +29,15 @@ use Rattle.counting.specs.Refusals.{tooLarge, openRows, preparedRows}
 use Rattle.lists.specs.Inner.Tables.{Kept}
 use Rattle.counting.specs.Inner.Counted.{countAt}
 use Rattle.counting.specs.Inner.Filling.{Filling, FilledAs}
-use Rattle.counting.specs.Answers.{countNumber}
 use Rattle.counting.specs.Inner.Preparing.{OpenedAs, Lent, PreparedAs}
 use Rattle.counting.specs.Answers as answers
-use Rattle.counting.specs.declared.prepare.CountRefusal.{CountRefusal}
-use Rattle.counting.specs.declared.prepare.CountRefusal.the-variants.{Grammar, Length, TooLarge}
 use Rattle.counting.specs.declared.prepare.Prepared.{Prepared}
 use Rattle.counting.specs.declared.prepare.Prepared.the-variants.{Ready, Refused}
 use Rattle.counting.specs.declared.count.CountAnswer.the-variants as counted
 use Rattle.lists.proofs.Tables.{kept-same}
 use Rattle.counting.proofs.Tabled.{tabled-T, tabled-large}
 
--- ---- refusals have numbers above 0
-
-grammar-number : (r : GrammarRefusal) → 0 < refusalNumber r
-grammar-number TooShort = omega arith
-grammar-number OutOfRange = omega arith
-grammar-number WrongSize = omega arith
-grammar-number BadRule = omega arith
-grammar-number BadLink = omega arith
-grammar-number MetTwice = omega arith
-grammar-number OnNoChain = omega arith
-grammar-number Repeated = omega arith
-
-pub count-number : (r : CountRefusal) → 0 < countNumber r
-count-number (Grammar r) = grammar-number r
-count-number Length = omega arith
-count-number TooLarge = omega arith
-
-refused-ready : {r : CountRefusal} → Refused r ≡ Ready → ⊥
+refused-ready : {r : Refusal} → Refused r ≡ Ready → ⊥
 refused-ready e = let q : _≡_ {A = ℕ} 0 1 = cc in omega arith
 
 -- ---- what reading the grammar says
@@ -64,11 +46,11 @@ past-grammar : (g : List ℕ) (n : ℕ) → Accepted g → firstThatApplies (ope
 past-grammar g n ok = rows-pass (grammarRows g) _ refl ok
 
 module _ {g : List ℕ} {before after : List (List ℕ)} {a : GrammarAnswer} (h : ReadAs g before after a) where
-  read-number : said a .refusal ≡ grammarRefusal g
+  read-number : grammarSays a .refusal ≡ grammarRefusal g
   unfolding checkGrammar
   read-number = ap (λ (x : Answer). x .refusal) (h .says) ∙ answer-number (grammarRefusal g) (nonterminals g ∷ words g ∷ []) [] []
 
-  read-accepted : {N W : ℕ} → a ≡ checked.Accepted N W → Accepted g
+  read-accepted : {N W : ℕ} → a ≡ checked.Given N W → Accepted g
   read-accepted e = sym read-number ∙ rw e
 
   read-kept : Kept 4 256 before after
@@ -77,20 +59,20 @@ module _ {g : List ℕ} {before after : List (List ℕ)} {a : GrammarAnswer} (h 
   -- ---- each answer of opening
 
   module _ {n : ℕ} where
-    open-refused : {r : CountRefusal} → firstThatApplies (openRows g n) ≡ countNumber r → OpenedAs g n before after (Refused r)
+    open-refused : {r : Refusal} → firstThatApplies (openRows g n) ≡ refusalNumber r → OpenedAs g n before after (Refused r)
     open-refused e = record { refusal = sym e; ready = λ z. absurd (refused-ready z); kept = read-kept }
 
-    pub open-by-grammar : {r : GrammarRefusal} → a ≡ checked.Refused r → OpenedAs g n before after (Refused (Grammar r))
+    pub open-by-grammar : {r : Refusal} → a ≡ checked.Refused r → OpenedAs g n before after (Refused r)
     open-by-grammar {r} e =
         let k : grammarRefusal g ≡ refusalNumber r = sym read-number ∙ rw e in
-        open-refused (rows-stop (grammarRows g) _ (omega (arith, grammar-number r)) ∙ k)
+        open-refused (rows-stop (grammarRows g) _ (omega (arith, number-some r)) ∙ k)
 
-    module _ {N W : ℕ} (e : a ≡ checked.Accepted N W) where
-      pub open-too-short : n < 1 → OpenedAs g n before after (Refused Length)
+    module _ {N W : ℕ} (e : a ≡ checked.Given N W) where
+      pub open-too-short : n < 1 → OpenedAs g n before after (Refused BadLength)
       unfolding badLength
       open-too-short l = open-refused (past-grammar g n (read-accepted e) ∙ row-applies 9 [] (within-low 1 16 n l))
 
-      pub open-too-long : 16 < n → OpenedAs g n before after (Refused Length)
+      pub open-too-long : 16 < n → OpenedAs g n before after (Refused BadLength)
       unfolding badLength
       open-too-long l = open-refused (past-grammar g n (read-accepted e) ∙ row-applies 9 [] (within-high 1 16 n l))
 
@@ -105,11 +87,11 @@ module _ {g : List ℕ} {before after : List (List ℕ)} {a : GrammarAnswer} (h 
 -- ---- each answer of preparing
 
 module _ {g : List ℕ} {n : ℕ} {rules₀ rules totals₀ : List (List ℕ)} {p : Prepared} (lent : Lent rules₀ totals₀) (o : OpenedAs g n rules₀ rules p) where
-  pub prepare-by-opening : {r : CountRefusal} → p ≡ Refused r → PreparedAs g n rules₀ rules totals₀ totals₀ (Refused r)
+  pub prepare-by-opening : {r : Refusal} → p ≡ Refused r → PreparedAs g n rules₀ rules totals₀ totals₀ (Refused r)
   prepare-by-opening {r} e =
-      let k : firstThatApplies (openRows g n) ≡ countNumber r = sym (o .refusal) ∙ rw e in
+      let k : firstThatApplies (openRows g n) ≡ refusalNumber r = sym (o .refusal) ∙ rw e in
       record {
-        refusal = sym (rows-stop (openRows g n) ((tooLarge g n, 10) ∷ []) (omega (arith, count-number r)) ∙ k);
+        refusal = sym (rows-stop (openRows g n) ((tooLarge g n, 10) ∷ []) (omega (arith, number-some r)) ∙ k);
         ready = λ z. absurd (refused-ready z);
         rules-kept = o .kept;
         totals-kept = kept-same (lent .wide);
@@ -133,7 +115,7 @@ module _ {g : List ℕ} {n : ℕ} {rules₀ rules totals₀ : List (List ℕ)} {
       totals-stay : Kept 17 32 totals₀ totals
       totals-stay = record { long = f .long; wide = f .wide; rest = f .rest }
 
-      pub prepare-too-large : fits ≡ false → PreparedAs g n rules₀ rules totals₀ totals (Refused TooLarge)
+      pub prepare-too-large : fits ≡ false → PreparedAs g n rules₀ rules totals₀ totals (Refused TooManyDerivations)
       prepare-too-large z = record {
         refusal = sym (past-opening ∙ row-applies 10 [] (not-false (tooLarge g n) (sym fits-says ∙ z)));
         ready = λ z. absurd (refused-ready z);
@@ -155,11 +137,11 @@ module _ {g : List ℕ} {n : ℕ} {rules₀ rules totals₀ : List (List ℕ)} {
 -- ---- *Count*
 
 module _ {g : List ℕ} {n : ℕ} {rules₀ rules totals₀ totals : List (List ℕ)} {p : Prepared} (s : PreparedAs g n rules₀ rules totals₀ totals p) where
-  pub count-refused : {r : CountRefusal} → p ≡ Refused r → answers.said (counted.Refused r) ≡ answers.countOf g n
+  pub count-refused : {r : Refusal} → p ≡ Refused r → answers.countSays (counted.Refused r) ≡ answers.countOf g n
   unfolding answers.countOf
   count-refused {r} e =
-      let k : firstThatApplies (preparedRows g n) ≡ countNumber r = sym (s .refusal) ∙ rw e in
-      rw k (sym (answer-refused (countNumber r) (T (chain g) (start g) n ∷ []) [] [] (count-number r)))
+      let k : firstThatApplies (preparedRows g n) ≡ refusalNumber r = sym (s .refusal) ∙ rw e in
+      rw k (sym (answer-refused (refusalNumber r) (T (chain g) (start g) n ∷ []) [] [] (number-some r)))
 
   module _ (e : p ≡ Ready) {S : ℕ} (f : S ≡ startIn rules) where
     pub count-asks : (17 ≤ length totals) × (S < 32) × (n ≤ 16)
@@ -167,7 +149,7 @@ module _ {g : List ℕ} {n : ℕ} {rules₀ rules totals₀ totals : List (List 
         let t = s .ready e in
         (t .counted .long, omega (arith, t .holds .table .starts, t .holds .table .few), t .counted .short)
 
-    pub count-given : {x : ℕ} → x ≡ countAt totals S n → answers.said (counted.Counted x) ≡ answers.countOf g n
+    pub count-given : {x : ℕ} → x ≡ countAt totals S n → answers.countSays (counted.Given x) ≡ answers.countOf g n
     unfolding answers.countOf
     count-given {x} u =
         let t = s .ready e in

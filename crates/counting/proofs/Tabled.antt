@@ -21,7 +21,7 @@ use Rattle.counting.proofs.Totals.{pairTotal, split-moved, total-none, 
 use Rattle.counting.proofs.Sentences.{sentences-none, sentences-one, sentences-more}
 
 -- two chains have the same words and the same pair rules, and these lead nowhere else
-pub record Alike (c d : ℕ → List Rule) (N : ℕ) : Type 0 where
+pub record SameRules (c d : ℕ → List Rule) (N : ℕ) : Type 0 where
   pub words : (A : ℕ) → A < N → wordsOf (c A) ≡ wordsOf (d A)
   pub pairs : (A : ℕ) → A < N → pairsOf (c A) ≡ pairsOf (d A)
   pub inside : (A : ℕ) (x : ℕ × ℕ) → A < N → x ∈ pairsOf (c A) → (x .0 < N) × (x .1 < N)
@@ -34,7 +34,7 @@ list-same f h B C k zero l e = refl
 list-same f h B C k (suc j) l e =
     rw (e k (omega arith) .0, e (suc j) (omega arith) .1, list-same f h B C (suc k) j (omega arith) (λ i u. e i (omega arith)))
 
-module _ {c d : ℕ → List Rule} {N : ℕ} (s : Alike c d N) where
+module _ {c d : ℕ → List Rule} {N : ℕ} (s : SameRules c d N) where
   -- ---- the same totals
 
   module _ (v : ℕ → ℕ → ℕ) where
@@ -82,7 +82,7 @@ module _ {c d : ℕ → List Rule} {N : ℕ} (s : Alike c d N) where
 -- ---- a grammar and its table of rules
 
 module _ {g : List ℕ} {rules : List (List ℕ)} (h : Holds g rules) where
-  pub tabled-alike : Alike (chain g) (ruled rules) (nonterminals g)
+  pub tabled-alike : SameRules (chain g) (ruled rules) (nonterminals g)
   tabled-alike = record {
     words = λ A l. sym (words-ruled rules A ∙ h .words-are A l);
     pairs = λ A l. sym (pairs-ruled rules A ∙ h .pairs-are A l);

@@ -1,33 +1,14 @@
 // What the calls with a grammar and a length share: the refusals 1 to 8 and 9 with the table of rules, and 10 with the table of totals.
-ghost use mathlib.Core.Path.{_≡_};
 ghost use Rattle.grammar.specs.Inner.Rules.{Roomy};
-ghost use Rattle.counting.specs.Answers.{countNumber};
 ghost use Rattle.counting.specs.Inner.Preparing.{OpenedAs, Lent, PreparedAs};
 use crate::tallies;
+use answers::refusal::Refusal;
 use grammar::checks;
 use grammar::checks::GrammarAnswer;
-use grammar::checks::GrammarRefusal;
-
-pub enum CountRefusal {
-    Grammar(GrammarRefusal),
-    Length,
-    TooLarge,
-}
 
 pub enum Prepared {
     Ready,
-    Refused(CountRefusal),
-}
-
-// The refusal's number in document 01's list.
-pub fn refusal_number(r: CountRefusal) -> u8
-    ensures { λ x. ⌜ x ≡ countNumber r ⌝ }
-{
-    match r {
-        CountRefusal::Grammar(x) => checks::refusal_number(x),
-        CountRefusal::Length => 9,
-        CountRefusal::TooLarge => 10,
-    }
+    Refused(Refusal),
 }
 
 // 1 to 9.
@@ -37,17 +18,17 @@ pub fn open(g: &[u8], n: u64, rules: &mut [[u8; 256]]) -> Prepared
 {
     let checked = checks::read(g, rules);
     match checked {
-        GrammarAnswer::Refused(r) => return Prepared::Refused(CountRefusal::Grammar(r)),
-        GrammarAnswer::Accepted {
+        GrammarAnswer::Refused(r) => return Prepared::Refused(r),
+        GrammarAnswer::Given {
             nonterminals: _,
             words: _,
         } => {}
     }
     if n < 1 {
-        return Prepared::Refused(CountRefusal::Length);
+        return Prepared::Refused(Refusal::BadLength);
     }
     if 16 < n {
-        return Prepared::Refused(CountRefusal::Length);
+        return Prepared::Refused(Refusal::BadLength);
     }
     Prepared::Ready
 }
@@ -65,5 +46,5 @@ pub fn prepare(g: &[u8], n: u64, rules: &mut [[u8; 256]], totals: &mut [[u64; 32
     if tallies::fill(rules, n as usize, totals) {
         return Prepared::Ready;
     }
-    Prepared::Refused(CountRefusal::TooLarge)
+    Prepared::Refused(Refusal::TooManyDerivations)
 }

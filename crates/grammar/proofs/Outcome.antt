@@ -14,16 +14,18 @@ use Rattle.lists.proofs.Members.{upFrom-∈, ∈-upFrom}
 use Rattle.lists.proofs.Searches.{times-few, times-many, times-full}
 use Rattle.lists.proofs.Tests.{or-true, to-at, to-clear}
 use Rattle.answers.specs.Answer.{firstThatApplies}
+use Rattle.answers.specs.Refusals.{refusalNumber}
+use Rattle.answers.specs.declared.refusal.Refusal.{Refusal}
 use Rattle.answers.proofs.Refusals.{answer-accepted, answer-refused}
+use Rattle.answers.proofs.Numbers.{number-some}
 use Rattle.grammar.specs.Layout.{nonterminals, words, rules, sizeOf}
 use Rattle.grammar.specs.Chains.{met}
 use Rattle.grammar.specs.Refusals.{tooShort, wrongSize, headAbove, nextAbove, badLink, metTwice, onNoChain, grammarRows, grammarRefusal}
 use Rattle.grammar.specs.Inner.Rules.{Holds}
 use Rattle.grammar.specs.Inner.Entering.{Kept}
-use Rattle.grammar.specs.Answers.{refusalNumber, checkGrammar}
+use Rattle.grammar.specs.Answers.{checkGrammar}
 use Rattle.grammar.specs.Inner.Reading.{ReadAs}
-use Rattle.grammar.specs.declared.checks.GrammarRefusal.{GrammarRefusal}
-use Rattle.grammar.specs.declared.checks.GrammarAnswer.the-variants.{Accepted, Refused}
+use Rattle.grammar.specs.declared.checks.GrammarAnswer.the-variants.{Given, Refused}
 use Rattle.grammar.proofs.Entering.{below-inside}
 
 -- the first k lines don't apply
@@ -31,18 +33,18 @@ abbrev pub Passed : List ℕ → ℕ → Type 0
 Passed g k = grammarRefusal g ≡ firstThatApplies (drop k (grammarRows g))
 
 module _ {g : List ℕ} {old new : List (List ℕ)} (kept : Kept old new) where
-  pub refused : (r : GrammarRefusal) → grammarRefusal g ≡ refusalNumber r → 0 < refusalNumber r → ReadAs g old new (Refused r)
+  pub refused : (r : Refusal) → grammarRefusal g ≡ refusalNumber r → ReadAs g old new (Refused r)
   unfolding checkGrammar
-  refused r e h =
+  refused r e =
       record {
-        says = rw e (sym (answer-refused (refusalNumber r) (nonterminals g ∷ words g ∷ []) [] [] h));
-        holds = λ z. absurd (omega arith);
+        says = rw e (sym (answer-refused (refusalNumber r) (nonterminals g ∷ words g ∷ []) [] [] (number-some r)));
+        holds = λ z. absurd (omega (arith, number-some r));
         long = kept .long;
         wide = kept .wide;
         rest = kept .rest;
       }
 
-  pub accepted : Passed g 8 → Holds g new → ReadAs g old new (Accepted (nonterminals g) (words g))
+  pub accepted : Passed g 8 → Holds g new → ReadAs g old new (Given (nonterminals g) (words g))
   unfolding checkGrammar firstThatApplies
   accepted e i =
       record {

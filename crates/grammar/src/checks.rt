@@ -8,42 +8,16 @@ ghost use Rattle.grammar.specs.Refusals.{outOfRange, fits, headAbove, re
 ghost use Rattle.grammar.specs.Inner.Rules.{Roomy};
 ghost use Rattle.grammar.specs.Inner.Entering.{Sorted};
 ghost use Rattle.grammar.specs.Inner.Checks.{Sized, Readable, FoundAs, beginsAt, entryAt, Stamping, StampedAs};
-ghost use Rattle.grammar.specs.Answers.{refusalNumber, said, checkGrammar};
+ghost use Rattle.grammar.specs.Answers.{grammarSays, checkGrammar};
 ghost use Rattle.grammar.specs.Inner.Reading.{ReadAs};
 use crate::entries;
 use crate::rules;
 use crate::rules::wide;
-
-pub enum GrammarRefusal {
-    TooShort,
-    OutOfRange,
-    WrongSize,
-    BadRule,
-    BadLink,
-    MetTwice,
-    OnNoChain,
-    Repeated,
-}
+use answers::refusal::Refusal;
 
 pub enum GrammarAnswer {
-    Accepted { nonterminals: u8, words: u8 },
-    Refused(GrammarRefusal),
-}
-
-// The refusal's number in document 01's list.
-pub fn refusal_number(r: GrammarRefusal) -> u8
-    ensures { λ x. ⌜ x ≡ refusalNumber r ⌝ }
-{
-    match r {
-        GrammarRefusal::TooShort => 1,
-        GrammarRefusal::OutOfRange => 2,
-        GrammarRefusal::WrongSize => 3,
-        GrammarRefusal::BadRule => 4,
-        GrammarRefusal::BadLink => 5,
-        GrammarRefusal::MetTwice => 6,
-        GrammarRefusal::OnNoChain => 7,
-        GrammarRefusal::Repeated => 8,
-    }
+    Given { nonterminals: u8, words: u8 },
+    Refused(Refusal),
 }
 
 // 2.
@@ -200,44 +174,44 @@ pub fn read(g: &[u8], rules: &mut [[u8; 256]]) -> GrammarAnswer
     ensures { λ r. ⌜ ReadAs (now (g .entry)) (now (rules .entry)) (now (rules .exit)) r ⌝ }
 {
     if g.len() < 4 {
-        return GrammarAnswer::Refused(GrammarRefusal::TooShort);
+        return GrammarAnswer::Refused(Refusal::GrammarTooShort);
     }
     if out_of_range(g) {
-        return GrammarAnswer::Refused(GrammarRefusal::OutOfRange);
+        return GrammarAnswer::Refused(Refusal::GrammarOutOfRange);
     }
     let n = wide(g[0]);
     let r = wide(g[2]);
     if g.len() != 4 + n + 4 * r {
-        return GrammarAnswer::Refused(GrammarRefusal::WrongSize);
+        return GrammarAnswer::Refused(Refusal::GrammarWrongSize);
     }
     let faults = faults_in(g, n, r);
     if faults.rule {
-        return GrammarAnswer::Refused(GrammarRefusal::BadRule);
+        return GrammarAnswer::Refused(Refusal::GrammarBadRule);
     }
     if faults.link {
-        return GrammarAnswer::Refused(GrammarRefusal::BadLink);
+        return GrammarAnswer::Refused(Refusal::GrammarBadLink);
     }
     if head_above(g, n, r) {
-        return GrammarAnswer::Refused(GrammarRefusal::BadLink);
+        return GrammarAnswer::Refused(Refusal::GrammarBadLink);
     }
     if entries::build(g, rules) {
-        return GrammarAnswer::Refused(GrammarRefusal::MetTwice);
+        return GrammarAnswer::Refused(Refusal::GrammarRuleMetTwice);
     }
     // fewer rules are met than there are
     if rules::words_from(rules, n) + rules::pairs_from(rules, n) < r {
-        return GrammarAnswer::Refused(GrammarRefusal::OnNoChain);
+        return GrammarAnswer::Refused(Refusal::GrammarRuleOnNoChain);
     }
     if repeated(g, rules) {
-        return GrammarAnswer::Refused(GrammarRefusal::Repeated);
+        return GrammarAnswer::Refused(Refusal::GrammarEqualRules);
     }
-    GrammarAnswer::Accepted {
+    GrammarAnswer::Given {
         nonterminals: g[0],
         words: g[1],
     }
 }
 
 pub fn check(g: &[u8]) -> GrammarAnswer
-    ensures { λ r. ⌜ said r ≡ checkGrammar (now (g .entry)) ⌝ }
+    ensures { λ r. ⌜ grammarSays r ≡ checkGrammar (now (g .entry)) ⌝ }
 {
     let mut rules = [[0u8; 256]; 4];
     read(g, &mut rules)

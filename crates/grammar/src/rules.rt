@@ -1,4 +1,5 @@
-// The table of rules by the names of its rows: `rules[WORDS][i]`. *Count* and *Give* lend the first four rows, the other calls all.
+// The table of rules by the names of its rows: `rules[WORDS][i]`. The first four rows are what *Count* and *Give* need; the links follow for the calls that
+// read sentences.
 ghost use mathlib.Core.Path.{_≡_};
 ghost use Prim.Native.Nat.{_+_, _≤_, _<_};
 ghost use lib.ListN.{length};

@@ -9,17 +9,18 @@ use borrow.Author.Tests.{lt-ltb, le-ltb, eq-eqb, ne-eqb}
 use lib.ListN.{length, getD, drop}
 use lib.Dec.{ltb, eqb, lit<}
 use Rattle.lists.proofs.Tests.{within-low, within-high, within-both, or-true}
+use Rattle.answers.specs.Answer as answer
 use Rattle.answers.specs.Answer.{Answer, firstThatApplies}
+use Rattle.answers.specs.Refusals.{refusalNumber}
+use Rattle.answers.specs.declared.refusal.Refusal.{Refusal}
 use Rattle.answers.specs.Length.{badLength}
 use Rattle.answers.proofs.Refusals.{row-applies, row-passed, rows-stop, rows-pass, answer-number, answer-accepted, answer-refused}
-use Rattle.history.specs.declared.checks.HistoryRefusal.{HistoryRefusal}
-use Rattle.history.specs.declared.checks.HistoryRefusal.the-variants.{BadSize, BadRecord, BadLink, BadChain}
 use Rattle.history.specs.declared.checks.HistoryAnswer.{HistoryAnswer}
-use Rattle.history.specs.declared.checks.HistoryAnswer.the-variants.{Accepted as Counted, Refused}
+use Rattle.history.specs.declared.checks.HistoryAnswer.the-variants.{Given, Refused}
 use Rattle.history.specs.Layout.{recordsOf}
 use Rattle.history.specs.Refusals.{historyRows, historyRefusal, Accepted}
 use Rattle.history.specs.Writing.{appended}
-use Rattle.history.specs.Answers.{refusalNumber, said, checkHistory, noRoom, appendRows, appendOf}
+use Rattle.history.specs.Answers.{historySays, checkHistory, noRoom, appendRows, appendOf}
 
 -- ---- *Check diary*
 
@@ -27,11 +28,11 @@ use Rattle.history.specs.Answers.{refusalNumber, said, checkHistory, noR
 abbrev pub Passed : List ℕ → ℕ → Type 0
 Passed h k = historyRefusal h ≡ firstThatApplies (drop k (historyRows h))
 
-pub refused : (h : List ℕ) (n : ℕ) → historyRefusal h ≡ n → 0 < n → record { refusal = n; figures = 0 ∷ []; buffer = [] } ≡ checkHistory h
+pub refused : (h : List ℕ) (n : ℕ) → historyRefusal h ≡ n → 0 < n → answer.refused n 1 [] ≡ checkHistory h
 unfolding checkHistory
 refused h n e l = rw e (sym (answer-refused n (recordsOf h ∷ []) [] [] l))
 
-pub accepted : (h : List ℕ) → Passed h 4 → record { refusal = 0; figures = recordsOf h ∷ []; buffer = [] } ≡ checkHistory h
+pub accepted : (h : List ℕ) → Passed h 4 → answer.given (recordsOf h ∷ []) [] ≡ checkHistory h
 unfolding checkHistory firstThatApplies
 accepted h e = sym (answer-accepted (recordsOf h ∷ []) [] [] e)
 
@@ -44,25 +45,19 @@ unfolding checkHistory
 check-figures h e ok = ap (λ (x : Answer). x .figures) (e ∙ answer-accepted (recordsOf h ∷ []) [] [] ok)
 
 -- what each case of the answer says
-pub check-accepted : (h : List ℕ) {a : HistoryAnswer} {k : ℕ} → said a ≡ checkHistory h → a ≡ Counted k → Accepted h × (k ≡ recordsOf h)
+pub check-accepted : (h : List ℕ) {a : HistoryAnswer} {k : ℕ} → historySays a ≡ checkHistory h → a ≡ Given k → Accepted h × (k ≡ recordsOf h)
 check-accepted h {k = k} e f =
     let ok : Accepted h = sym (check-number h (rw f at e)) in
     (ok, ap (λ (l : List ℕ). getD l 0 0) (check-figures h (rw f at e) ok))
 
-pub check-refused : (h : List ℕ) {a : HistoryAnswer} {r : HistoryRefusal} → said a ≡ checkHistory h → a ≡ Refused r → historyRefusal h ≡ refusalNumber r
+pub check-refused : (h : List ℕ) {a : HistoryAnswer} {r : Refusal} → historySays a ≡ checkHistory h → a ≡ Refused r → historyRefusal h ≡ refusalNumber r
 check-refused h e f = sym (check-number h (rw f at e))
-
-pub number-some : (r : HistoryRefusal) → 0 < refusalNumber r
-number-some BadSize = lit< tt
-number-some BadRecord = lit< tt
-number-some BadLink = lit< tt
-number-some BadChain = lit< tt
 
 -- ---- *Log*
 
 module _ (h s : List ℕ) where
   -- the refusal, with the bytes as they were
-  log-refused : (n : ℕ) → firstThatApplies (appendRows h s) ≡ n → 0 < n → record { refusal = n; figures = 0 ∷ []; buffer = h } ≡ appendOf h s
+  log-refused : (n : ℕ) → firstThatApplies (appendRows h s) ≡ n → 0 < n → answer.refused n 1 h ≡ appendOf h s
   unfolding appendOf
   log-refused n e l = rw e (sym (answer-refused n (suc (recordsOf h) ∷ []) h (appended h s) l))
 
@@ -74,10 +69,10 @@ module _ (h s : List ℕ) where
   unfolding badLength
   length-high l = within-high 1 16 (length s) l
 
-  pub log-low : length s < 1 → record { refusal = 9; figures = 0 ∷ []; buffer = h } ≡ appendOf h s
+  pub log-low : length s < 1 → answer.refused 9 1 h ≡ appendOf h s
   log-low l = log-refused 9 (row-applies 9 _ (length-low l)) (lit< tt)
 
-  pub log-high : 16 < length s → record { refusal = 9; figures = 0 ∷ []; buffer = h } ≡ appendOf h s
+  pub log-high : 16 < length s → answer.refused 9 1 h ≡ appendOf h s
   log-high l = log-refused 9 (row-applies 9 _ (length-high l)) (lit< tt)
 
   module _ (some : 1 ≤ length s) (short : length s ≤ 16) where
@@ -85,17 +80,17 @@ module _ (h s : List ℕ) where
     unfolding badLength
     past-length = row-passed 9 _ (within-both 1 16 (length s) some short)
 
-    pub log-history : (n : ℕ) → historyRefusal h ≡ n → 0 < n → record { refusal = n; figures = 0 ∷ []; buffer = h } ≡ appendOf h s
+    pub log-history : (n : ℕ) → historyRefusal h ≡ n → 0 < n → answer.refused n 1 h ≡ appendOf h s
     log-history n e l = log-refused n (past-length ∙ rows-stop (historyRows h) _ (omega arith) ∙ e) l
 
     past-history : Accepted h → firstThatApplies (appendRows h s) ≡ firstThatApplies ((noRoom h, 19) ∷ [])
     past-history ok = past-length ∙ rows-pass (historyRows h) _ refl ok
 
-    pub log-room : Accepted h → noRoom h ≡ true → record { refusal = 19; figures = 0 ∷ []; buffer = h } ≡ appendOf h s
+    pub log-room : Accepted h → noRoom h ≡ true → answer.refused 19 1 h ≡ appendOf h s
     log-room ok e = log-refused 19 (past-history ok ∙ row-applies 19 [] e) (lit< tt)
 
     pub log-accepted : {k : ℕ} {after : List ℕ} → Accepted h → noRoom h ≡ false → k ≡ suc (recordsOf h) → after ≡ appended h s
-        → record { refusal = 0; figures = k ∷ []; buffer = after } ≡ appendOf h s
+        → answer.given (k ∷ []) after ≡ appendOf h s
     unfolding appendOf firstThatApplies
     log-accepted ok r e f = rw (e, f) (sym (answer-accepted (suc (recordsOf h) ∷ []) h (appended h s) (past-history ok ∙ row-passed 19 [] r)))
 

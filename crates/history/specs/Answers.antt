@@ -5,30 +5,23 @@ use mathlib.Core.List.{List, [], _∷_, _++_}
 use Prim.Native.Nat.{ℕ, suc, _+_, _*_}
 use lib.ListN.{length}
 use lib.Dec.{ltb, eqb}
-use Rattle.answers.specs.Answer.{Row, Answer, answer}
+use Rattle.answers.specs.Answer.{Row, Answer, given, refused, answer}
+use Rattle.answers.specs.Refusals.{refusalNumber}
 use Rattle.answers.specs.Length.{badLength}
-use Rattle.history.specs.declared.checks.HistoryRefusal.{HistoryRefusal}
-use Rattle.history.specs.declared.checks.HistoryRefusal.the-variants.{BadSize, BadRecord, BadLink, BadChain}
 use Rattle.history.specs.declared.checks.HistoryAnswer.{HistoryAnswer}
-use Rattle.history.specs.declared.checks.HistoryAnswer.the-variants.{Accepted, Refused}
+use Rattle.history.specs.declared.checks.HistoryAnswer.the-variants.{Given, Refused}
 use Rattle.history.specs.declared.append.AppendAnswer.{AppendAnswer}
-use Rattle.history.specs.declared.append.AppendAnswer.the-variants.{Appended, BadLength, NotAppended, NoRoom}
+use Rattle.history.specs.declared.append.AppendAnswer.the-variants as appends
 use Rattle.history.specs.Layout.{recordsOf}
 use Rattle.history.specs.Refusals.{historyRows}
 use Rattle.history.specs.Writing.{appended}
 
-abbrev pub refusalNumber : HistoryRefusal → ℕ
-refusalNumber BadSize = 11
-refusalNumber BadRecord = 12
-refusalNumber BadLink = 13
-refusalNumber BadChain = 14
-
 -- ---- *Check diary*
 
 -- the paper's number and figure of each case
-abbrev pub said : HistoryAnswer → Answer
-said (Accepted k) = record { refusal = 0; figures = k ∷ []; buffer = [] }
-said (Refused r) = record { refusal = refusalNumber r; figures = 0 ∷ []; buffer = [] }
+abbrev pub historySays : HistoryAnswer → Answer
+historySays (Given k) = given (k ∷ []) []
+historySays (Refused r) = refused (refusalNumber r) 1 []
 
 -- "*Check diary* gives K."
 unfoldable pub checkHistory : List ℕ → Answer
@@ -37,11 +30,9 @@ checkHistory h = answer (historyRows h) (recordsOf h ∷ []) [] []
 -- ---- *Log*
 
 -- the paper's number, figure and bytes of each case
-abbrev pub appendSaid : AppendAnswer → List ℕ → Answer
-appendSaid (Appended k) out = record { refusal = 0; figures = k ∷ []; buffer = out }
-appendSaid BadLength out = record { refusal = 9; figures = 0 ∷ []; buffer = out }
-appendSaid (NotAppended r) out = record { refusal = refusalNumber r; figures = 0 ∷ []; buffer = out }
-appendSaid NoRoom out = record { refusal = 19; figures = 0 ∷ []; buffer = out }
+abbrev pub appendSays : AppendAnswer → List ℕ → Answer
+appendSays (appends.Given k) out = given (k ∷ []) out
+appendSays (appends.Refused r) out = refused (refusalNumber r) 1 out
 
 -- "19. K is 1,000 or the buffer has fewer than 4 + 20(K + 1) bytes (*Log*)."
 unfoldable pub noRoom : List ℕ → Bool

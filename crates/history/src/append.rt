@@ -4,17 +4,15 @@ ghost use Prim.Native.Nat.{_+_, _≤_, _<_};
 ghost use lib.ListN.{length, getD};
 ghost use Rattle.history.specs.Writing.{overwritten, twoBytes, recordBytes, appended};
 ghost use Rattle.history.specs.Inner.Checks.{Room};
-ghost use Rattle.history.specs.Answers.{appendSaid, appendOf};
+ghost use Rattle.history.specs.Answers.{appendSays, appendOf};
 use crate::checks;
 use crate::checks::HistoryAnswer;
-use crate::checks::HistoryRefusal;
 use crate::records;
+use answers::refusal::Refusal;
 
 pub enum AppendAnswer {
-    Appended(u64),
-    BadLength,
-    NotAppended(HistoryRefusal),
-    NoRoom,
+    Given(u64),
+    Refused(Refusal),
 }
 
 // Byte i of a record.
@@ -68,27 +66,27 @@ fn write(h: &mut [u8], new: usize, sentence: &[u8])
 }
 
 pub fn append(h: &mut [u8], sentence: &[u8]) -> AppendAnswer
-    ensures { λ a. ⌜ appendSaid a (now (h .exit)) ≡ appendOf (now (h .entry)) (now (sentence .entry)) ⌝ }
+    ensures { λ a. ⌜ appendSays a (now (h .exit)) ≡ appendOf (now (h .entry)) (now (sentence .entry)) ⌝ }
 {
     if sentence.len() < 1 {
-        return AppendAnswer::BadLength;
+        return AppendAnswer::Refused(Refusal::BadLength);
     }
     if 16 < sentence.len() {
-        return AppendAnswer::BadLength;
+        return AppendAnswer::Refused(Refusal::BadLength);
     }
     let a = checks::check(h);
     match a {
-        HistoryAnswer::Refused(r) => AppendAnswer::NotAppended(r),
-        HistoryAnswer::Accepted(k) => {
+        HistoryAnswer::Refused(r) => AppendAnswer::Refused(r),
+        HistoryAnswer::Given(k) => {
             if k == 1000 {
-                return AppendAnswer::NoRoom;
+                return AppendAnswer::Refused(Refusal::HistoryFull);
             }
             let new = k as usize + 1;
             if h.len() < 4 + 20 * new {
-                return AppendAnswer::NoRoom;
+                return AppendAnswer::Refused(Refusal::HistoryFull);
             }
             write(h, new, sentence);
-            AppendAnswer::Appended(k + 1)
+            AppendAnswer::Given(k + 1)
         }
     }
 }

@@ -5,31 +5,13 @@ ghost use Prim.Native.Nat.{_+_, _-_, _≤_};
 ghost use lib.ListN.{length};
 ghost use Rattle.history.specs.Refusals.{badSize, someNonzero, misfit, badLink, badChain};
 ghost use Rattle.history.specs.Inner.Checks.{Sized, TestedAs};
-ghost use Rattle.history.specs.Answers.{refusalNumber, said, checkHistory};
+ghost use Rattle.history.specs.Answers.{historySays, checkHistory};
 use crate::records;
-
-pub enum HistoryRefusal {
-    BadSize,
-    BadRecord,
-    BadLink,
-    BadChain,
-}
+use answers::refusal::Refusal;
 
 pub enum HistoryAnswer {
-    Accepted(u64),
-    Refused(HistoryRefusal),
-}
-
-// The refusal's number in document 01's list.
-pub fn refusal_number(r: HistoryRefusal) -> u8
-    ensures { λ x. ⌜ x ≡ refusalNumber r ⌝ }
-{
-    match r {
-        HistoryRefusal::BadSize => 11,
-        HistoryRefusal::BadRecord => 12,
-        HistoryRefusal::BadLink => 13,
-        HistoryRefusal::BadChain => 14,
-    }
+    Given(u64),
+    Refused(Refusal),
 }
 
 // 11.
@@ -128,21 +110,21 @@ fn bad_chain(h: &[u8], k: usize) -> bool
 }
 
 pub fn check(h: &[u8]) -> HistoryAnswer
-    ensures { λ a. ⌜ said a ≡ checkHistory (now (h .entry)) ⌝ }
+    ensures { λ a. ⌜ historySays a ≡ checkHistory (now (h .entry)) ⌝ }
 {
     if bad_size(h) {
-        return HistoryAnswer::Refused(HistoryRefusal::BadSize);
+        return HistoryAnswer::Refused(Refusal::HistoryWrongSize);
     }
     let k = records::two_at(h, 0);
     let t = test_records(h, k);
     if t.bad {
-        return HistoryAnswer::Refused(HistoryRefusal::BadRecord);
+        return HistoryAnswer::Refused(Refusal::HistoryBadRecord);
     }
     if t.far {
-        return HistoryAnswer::Refused(HistoryRefusal::BadLink);
+        return HistoryAnswer::Refused(Refusal::HistoryBadLink);
     }
     if bad_chain(h, k) {
-        return HistoryAnswer::Refused(HistoryRefusal::BadChain);
+        return HistoryAnswer::Refused(Refusal::HistoryBadChain);
     }
-    HistoryAnswer::Accepted(k as u64)
+    HistoryAnswer::Given(k as u64)
 }

@@ -2,7 +2,7 @@
 -- Assumes nothing: these are definitions.
 use mathlib.Core.List.{List, [], _∷_}
 use Prim.Native.Nat.{ℕ}
-use Rattle.answers.specs.Answer.{Answer}
+use Rattle.answers.specs.Answer.{Answer, given}
 
 -- "The house matrix bank is a fixed run of 229 bytes: N 9, W 50, R 54, S 0." What its rules and chains are is a theorem of
 -- proofs/Rules.antt.
@@ -22,4 +22,4 @@ table =
 
 -- what *Check bank* answers on it
 abbrev pub accepted : Answer
-accepted = record { refusal = 0; figures = 9 ∷ 50 ∷ []; buffer = [] }
+accepted = given (9 ∷ 50 ∷ []) []

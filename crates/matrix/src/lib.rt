@@ -1,6 +1,6 @@
 // The house matrix grammar (document 01: house matrix bank), as a constant table: nine nonterminals, fifty words, 54 rules.
 ghost use mathlib.Core.Path.{_≡_};
-ghost use Rattle.grammar.specs.Answers.{said};
+ghost use Rattle.grammar.specs.Answers.{grammarSays};
 ghost use Rattle.matrix.specs.Table.{table, accepted};
 use grammar::checks;
 use grammar::checks::GrammarAnswer;
@@ -246,7 +246,7 @@ pub fn bytes() -> [u8; 229]
 
 // The reader accepts it, with nine nonterminals and fifty words.
 pub fn check() -> GrammarAnswer
-    ensures { λ r. ⌜ said r ≡ accepted ⌝ }
+    ensures { λ r. ⌜ grammarSays r ≡ accepted ⌝ }
 {
     checks::check(&MATRIX)
 }

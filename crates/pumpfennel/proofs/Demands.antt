@@ -1,12 +1,12 @@
 -- The demands hold. Demand 1's part on refusals is how every answer is made; demands 2 and 3 and the examples stand in the crates `ranking`
 -- and `sampling`.
 -- Assumes nothing.
-use mathlib.Core.Path.{_≡_, refl, sym, ap, _∙_}
+use mathlib.Core.Path.{_≡_, sym, ap, _∙_}
 use mathlib.Core.List.{List, [], _∷_, _++_}
 use Prim.Native.Nat.{ℕ, suc}
 use native.Mathlib.Omega.{arith}
-use lib.ListN.{length, drop, replicate}
-use Rattle.answers.specs.Answer.{Row, Answer, firstThatApplies, zeros, answerOf}
+use lib.ListN.{length, drop}
+use Rattle.answers.specs.Answer.{Row, Answer, firstThatApplies, answer}
 use Rattle.answers.proofs.Refusals.{answer-number, answer-refused}
 use Rattle.grammar.specs.Layout.{nonterminals, words}
 use Rattle.grammar.specs.Trees.{sentence}
@@ -35,28 +35,27 @@ use Rattle.matrix.proofs.Single.{no-two, counts-fit}
 use Rattle.pumpfennel.specs.Demands.{Refuses, Demand1, Demands}
 
 -- an answer by its list of refusals
-refuses : (rows : List Row) (figures before after : List ℕ) {count : ℕ} → zeros figures ≡ replicate count 0
-    → Refuses rows count before (answerOf (firstThatApplies rows) figures before after)
-refuses rows figures before after e =
+refuses : (rows : List Row) (figures before after : List ℕ) → Refuses rows (length figures) before (answer rows figures before after)
+refuses rows figures before after =
     let n = firstThatApplies rows in
     let number = answer-number n figures before after in
     record {
       first = number;
-      figures = λ h. ap (λ (a : Answer). a .figures) (answer-refused n figures before after (rw number at h)) ∙ e;
+      figures = λ h. ap (λ (a : Answer). a .figures) (answer-refused n figures before after (rw number at h));
       buffer = λ h. ap (λ (a : Answer). a .buffer) (answer-refused n figures before after (rw number at h));
     }
 
 demand-1 : Demand1
 unfolding checkGrammar checkHistory countOf unrankOf rankOf remainingTo drawTo appendOf
 demand-1 = record {
-  check-bank = λ g. refuses (grammarRows g) (nonterminals g ∷ words g ∷ []) [] [] refl;
-  check-diary = λ h. refuses (historyRows h) (recordsOf h ∷ []) [] [] refl;
-  count = λ g n. refuses (preparedRows g n) (totalOf g n ∷ []) [] [] refl;
-  give = λ g n d out. refuses (unrankRows g n d out) (totalOf g n ∷ []) out (entryOf g n d ++ drop n out) refl;
-  number = λ g s. refuses (rankRows g s) (numberOf g s ∷ totalOf g (length s) ∷ []) [] [] refl;
-  left = λ g h a. refuses (remainingRows g h a) (totalOf g (a .length) ∷ heardOf g h a ∷ leftOf g h a ∷ []) [] [] refl;
-  draw = λ g h a q out. refuses (drawRows g h a q out) (leftOf g h a ∷ drawn g h a q .number ∷ []) out (sentence (drawn g h a q .tree) ++ drop (a .length) out) refl;
-  log = λ h s. refuses (appendRows h s) (suc (recordsOf h) ∷ []) h (appended h s) refl;
+  check-bank = λ g. refuses (grammarRows g) (nonterminals g ∷ words g ∷ []) [] [];
+  check-diary = λ h. refuses (historyRows h) (recordsOf h ∷ []) [] [];
+  count = λ g n. refuses (preparedRows g n) (totalOf g n ∷ []) [] [];
+  give = λ g n d out. refuses (unrankRows g n d out) (totalOf g n ∷ []) out (entryOf g n d ++ drop n out);
+  number = λ g s. refuses (rankRows g s) (numberOf g s ∷ totalOf g (length s) ∷ []) [] [];
+  left = λ g h a. refuses (remainingRows g h a) (totalOf g (a .length) ∷ heardOf g h a ∷ leftOf g h a ∷ []) [] [];
+  draw = λ g h a q out. refuses (drawRows g h a q out) (leftOf g h a ∷ drawn g h a q .number ∷ []) out (sentence (drawn g h a q .tree) ++ drop (a .length) out);
+  log = λ h s. refuses (appendRows h s) (suc (recordsOf h) ∷ []) h (appended h s);
 }
 
 -- ---- the house matrix bank

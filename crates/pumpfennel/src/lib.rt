@@ -8,9 +8,9 @@ ghost use Rattle.history.specs.Answers.{checkHistory, appendOf};
 ghost use Rattle.ranking.specs.Answers.{unrankOf, rankOf};
 ghost use Rattle.sampling.specs.Answers.{remainingOf, drawOf};
 ghost use Rattle.pumpfennel.specs.Calls.{gives};
+use answers::refusal;
 use counting::count;
 use counting::count::CountAnswer;
-use counting::prepare;
 use grammar::checks;
 use grammar::checks::GrammarAnswer;
 use history::append;
@@ -23,10 +23,11 @@ use ranking::unrank::DerivationNumber;
 use ranking::unrank::UnrankAnswer;
 use sampling::draw;
 use sampling::draw::DrawAnswer;
-use sampling::prepare::refusal_number;
 use sampling::remaining;
 use sampling::remaining::RemainingAnswer;
 use sampling::skip::DrawNumber;
+
+mod version;
 
 // *Check bank*.
 #[no_mangle]
@@ -39,7 +40,7 @@ pub extern "C" fn pumpfennel_check_grammar(
 {
     let a = checks::check(grammar);
     match a {
-        GrammarAnswer::Accepted {
+        GrammarAnswer::Given {
             nonterminals: n,
             words: w,
         } => {
@@ -50,7 +51,7 @@ pub extern "C" fn pumpfennel_check_grammar(
         GrammarAnswer::Refused(r) => {
             *nonterminals = 0;
             *words = 0;
-            checks::refusal_number(r)
+            refusal::number(r)
         }
     }
 }
@@ -62,13 +63,13 @@ pub extern "C" fn pumpfennel_check_history(history: &[u8], records: &mut u64) ->
 {
     let a = history::checks::check(history);
     match a {
-        HistoryAnswer::Accepted(k) => {
+        HistoryAnswer::Given(k) => {
             *records = k;
             0
         }
         HistoryAnswer::Refused(r) => {
             *records = 0;
-            history::checks::refusal_number(r)
+            refusal::number(r)
         }
     }
 }
@@ -80,13 +81,13 @@ pub extern "C" fn pumpfennel_count(grammar: &[u8], length: u64, total: &mut u64)
 {
     let a = count::count(grammar, length);
     match a {
-        CountAnswer::Counted(t) => {
+        CountAnswer::Given(t) => {
             *total = t;
             0
         }
         CountAnswer::Refused(r) => {
             *total = 0;
-            prepare::refusal_number(r)
+            refusal::number(r)
         }
     }
 }
@@ -108,17 +109,9 @@ pub extern "C" fn pumpfennel_unrank(
             *total = t;
             0
         }
-        UnrankAnswer::NotGiven(r) => {
+        UnrankAnswer::Refused(r) => {
             *total = 0;
-            prepare::refusal_number(r)
-        }
-        UnrankAnswer::Beyond => {
-            *total = 0;
-            16
-        }
-        UnrankAnswer::Short => {
-            *total = 0;
-            20
+            refusal::number(r)
         }
     }
 }
@@ -135,25 +128,15 @@ pub extern "C" fn pumpfennel_rank(
 {
     let a = rank::rank(grammar, sentence);
     match a {
-        RankAnswer::Ranked(d, t) => {
+        RankAnswer::Given(d, t) => {
             *number = d.0;
             *total = t;
             0
         }
-        RankAnswer::NotRanked(r) => {
+        RankAnswer::Refused(r) => {
             *number = 0;
             *total = 0;
-            prepare::refusal_number(r)
-        }
-        RankAnswer::Underivable => {
-            *number = 0;
-            *total = 0;
-            17
-        }
-        RankAnswer::Ambiguous => {
-            *number = 0;
-            *total = 0;
-            18
+            refusal::number(r)
         }
     }
 }
@@ -172,17 +155,17 @@ pub extern "C" fn pumpfennel_remaining(
 {
     let a = remaining::remaining(grammar, history, length);
     match a {
-        RemainingAnswer::Remaining(t, k, l) => {
+        RemainingAnswer::Given(t, k, l) => {
             *total = t;
             *heard = k;
             *remaining = l;
             0
         }
-        RemainingAnswer::NotRemaining(r) => {
+        RemainingAnswer::Refused(r) => {
             *total = 0;
             *heard = 0;
             *remaining = 0;
-            refusal_number(r)
+            refusal::number(r)
         }
     }
 }
@@ -202,25 +185,15 @@ pub extern "C" fn pumpfennel_draw(
 {
     let a = draw::draw(grammar, history, length, DrawNumber(draw), sentence);
     match a {
-        DrawAnswer::Drawn(l, d) => {
+        DrawAnswer::Given(l, d) => {
             *remaining = l;
             *number = d.0;
             0
         }
-        DrawAnswer::NotDrawn(r) => {
+        DrawAnswer::Refused(r) => {
             *remaining = 0;
             *number = 0;
-            refusal_number(r)
-        }
-        DrawAnswer::Beyond => {
-            *remaining = 0;
-            *number = 0;
-            16
-        }
-        DrawAnswer::Short => {
-            *remaining = 0;
-            *number = 0;
-            20
+            refusal::number(r)
         }
     }
 }
@@ -232,21 +205,13 @@ pub extern "C" fn pumpfennel_append(history: &mut [u8], sentence: &[u8], records
 {
     let a = append::append(history, sentence);
     match a {
-        AppendAnswer::Appended(k) => {
+        AppendAnswer::Given(k) => {
             *records = k;
             0
         }
-        AppendAnswer::BadLength => {
+        AppendAnswer::Refused(r) => {
             *records = 0;
-            9
-        }
-        AppendAnswer::NotAppended(r) => {
-            *records = 0;
-            history::checks::refusal_number(r)
-        }
-        AppendAnswer::NoRoom => {
-            *records = 0;
-            19
+            refusal::number(r)
         }
     }
 }

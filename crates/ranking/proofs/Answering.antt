@@ -9,17 +9,17 @@ use native.Mathlib.Decide.{decLt}
 use lib.ListN.{length, drop}
 use lib.Dec.{ltb, leb, eqb, lit<}
 use borrow.Author.Tests.{le-leb, lt-leb, lt-ltb, le-ltb, eq-eqb, ne-eqb}
-use Rattle.answers.specs.Answer.{Row, firstThatApplies}
+use Rattle.answers.specs.Answer.{Row, firstThatApplies, given, refused}
+use Rattle.answers.specs.Refusals.{refusalNumber}
+use Rattle.answers.specs.declared.refusal.Refusal.{Refusal}
+use Rattle.answers.proofs.Numbers.{number-some}
 use Rattle.answers.proofs.Refusals.{row-applies, row-passed, rows-stop, rows-pass, answer-accepted, answer-refused}
 use Rattle.grammar.specs.Inner.Rules.{startIn, Holds}
 use Rattle.counting.specs.Refusals.{most, preparedRows}
 use Rattle.counting.specs.Inner.Counted.{Counted}
-use Rattle.counting.specs.Answers.{countNumber}
 use Rattle.counting.specs.Inner.Preparing.{preparedNumber, PreparedAs}
 use Rattle.counting.specs.declared.prepare.Prepared.{Prepared}
 use Rattle.counting.specs.declared.prepare.Prepared.the-variants.{Ready, Refused}
-use Rattle.counting.specs.declared.prepare.CountRefusal.{CountRefusal}
-use Rattle.counting.proofs.Preparing.{count-number}
 use Rattle.ranking.specs.Answers.{totalOf, entryOf, unrankOf, readingsOf, numberOf, rankOf}
 use Rattle.ranking.specs.Inner.Inside.{totalIn, entryIn, readingsIn, numberIn, unrankIn, rankIn}
 use Rattle.ranking.proofs.Inside.{total-is, entry-is, readings-are, number-is}
@@ -32,18 +32,18 @@ total-fits {rules} {n = n} c = c .fits (startIn rules) n (record { inside = c .t
 
 module _ (rules : List (List ℕ)) (n d : ℕ) (out : List ℕ) where
   give-refused : (k : ℕ) → firstThatApplies ((leb (totalIn rules n) d, 16) ∷ (ltb (length out) n, 20) ∷ []) ≡ k → 0 < k
-      → record { refusal = k; figures = 0 ∷ []; buffer = out } ≡ unrankIn rules n d out
+      → refused k 1 out ≡ unrankIn rules n d out
   unfolding unrankIn
   give-refused k e h = rw e (sym (answer-refused k (totalIn rules n ∷ []) out (entryIn rules n d ++ drop n out) h))
 
-  pub give-beyond : totalIn rules n ≤ d → record { refusal = 16; figures = 0 ∷ []; buffer = out } ≡ unrankIn rules n d out
+  pub give-beyond : totalIn rules n ≤ d → refused 16 1 out ≡ unrankIn rules n d out
   give-beyond h = give-refused 16 (row-applies 16 _ (le-leb (totalIn rules n) d h)) (lit< tt)
 
-  pub give-short : d < totalIn rules n → length out < n → record { refusal = 20; figures = 0 ∷ []; buffer = out } ≡ unrankIn rules n d out
+  pub give-short : d < totalIn rules n → length out < n → refused 20 1 out ≡ unrankIn rules n d out
   give-short h l = give-refused 20 (row-passed 16 _ (lt-leb (totalIn rules n) d h) ∙ row-applies 20 _ (lt-ltb (length out) n l)) (lit< tt)
 
   pub give-written : d < totalIn rules n → n ≤ length out → (total : ℕ) (words : List ℕ) → total ≡ totalIn rules n → words ≡ entryIn rules n d ++ drop n out
-      → record { refusal = 0; figures = total ∷ []; buffer = words } ≡ unrankIn rules n d out
+      → given (total ∷ []) words ≡ unrankIn rules n d out
   unfolding unrankIn firstThatApplies
   give-written h l total words e f =
       rw (e, f)
@@ -54,21 +54,21 @@ module _ (rules : List (List ℕ)) (n d : ℕ) (out : List ℕ) where
 
 module _ (rules : List (List ℕ)) (s : List ℕ) where
   rank-refused : (k : ℕ) → firstThatApplies ((eqb (readingsIn rules s) 0, 17) ∷ (leb 2 (readingsIn rules s), 18) ∷ []) ≡ k → 0 < k
-      → record { refusal = k; figures = 0 ∷ 0 ∷ []; buffer = [] } ≡ rankIn rules s
+      → refused k 2 [] ≡ rankIn rules s
   unfolding rankIn
   rank-refused k e h = rw e (sym (answer-refused k (numberIn rules s ∷ totalIn rules (length s) ∷ []) [] [] h))
 
-  pub rank-none : readingsIn rules s ≡ 0 → record { refusal = 17; figures = 0 ∷ 0 ∷ []; buffer = [] } ≡ rankIn rules s
+  pub rank-none : readingsIn rules s ≡ 0 → refused 17 2 [] ≡ rankIn rules s
   rank-none e = rank-refused 17 (row-applies 17 _ (eq-eqb (readingsIn rules s) 0 e)) (lit< tt)
 
-  pub rank-several : 2 ≤ readingsIn rules s → record { refusal = 18; figures = 0 ∷ 0 ∷ []; buffer = [] } ≡ rankIn rules s
+  pub rank-several : 2 ≤ readingsIn rules s → refused 18 2 [] ≡ rankIn rules s
   rank-several h =
       rank-refused 18
       (row-passed 17 _ (ne-eqb (readingsIn rules s) 0 (λ e. omega arith)) ∙ row-applies 18 _ (le-leb 2 (readingsIn rules s) h))
       (lit< tt)
 
   pub rank-found : readingsIn rules s ≡ 1 → (d total : ℕ) → d ≡ numberIn rules s → total ≡ totalIn rules (length s)
-      → record { refusal = 0; figures = d ∷ total ∷ []; buffer = [] } ≡ rankIn rules s
+      → given (d ∷ total ∷ []) [] ≡ rankIn rules s
   unfolding rankIn firstThatApplies
   rank-found one d total e f =
       rw (e, f)
@@ -83,7 +83,7 @@ module _ {g : List ℕ} {n : ℕ} {rules₀ rules totals₀ totals : List (List 
   pub prepared-none : p ≡ Ready → firstThatApplies (preparedRows g n) ≡ 0
   prepared-none e = sym (q .refusal) ∙ ap preparedNumber e
 
-  pub prepared-refused : (r : CountRefusal) → p ≡ Refused r → countNumber r ≡ firstThatApplies (preparedRows g n)
+  pub prepared-refused : (r : Refusal) → p ≡ Refused r → refusalNumber r ≡ firstThatApplies (preparedRows g n)
   prepared-refused r e = sym (ap preparedNumber e) ∙ q .refusal
 
 -- none of 1 to 10 applies: what is left of a call's refusals
@@ -91,15 +91,15 @@ pub left-of : (g : List ℕ) (n : ℕ) (rows : List Row) → firstThatApplies (p
 left-of g n rows e = rows-pass (preparedRows g n) rows refl e
 
 -- one of 1 to 10 applies
-pub refused-of : (g : List ℕ) (n : ℕ) (r : CountRefusal) (rows : List Row) → countNumber r ≡ firstThatApplies (preparedRows g n)
-    → firstThatApplies (preparedRows g n ++ rows) ≡ countNumber r
-refused-of g n r rows e = rows-stop (preparedRows g n) rows (omega (arith, count-number r)) ∙ sym e
+pub refused-of : (g : List ℕ) (n : ℕ) (r : Refusal) (rows : List Row) → refusalNumber r ≡ firstThatApplies (preparedRows g n)
+    → firstThatApplies (preparedRows g n ++ rows) ≡ refusalNumber r
+refused-of g n r rows e = rows-stop (preparedRows g n) rows (omega (arith, number-some r)) ∙ sym e
 
 module _ (g : List ℕ) (n d : ℕ) (out : List ℕ) where
-  pub give-unprepared : (r : CountRefusal) → countNumber r ≡ firstThatApplies (preparedRows g n)
-      → record { refusal = countNumber r; figures = 0 ∷ []; buffer = out } ≡ unrankOf g n d out
+  pub give-unprepared : (r : Refusal) → refusalNumber r ≡ firstThatApplies (preparedRows g n)
+      → refused (refusalNumber r) 1 out ≡ unrankOf g n d out
   unfolding unrankOf
-  give-unprepared r e = rw (refused-of g n r _ e) (sym (answer-refused (countNumber r) (totalOf g n ∷ []) out (entryOf g n d ++ drop n out) (count-number r)))
+  give-unprepared r e = rw (refused-of g n r _ e) (sym (answer-refused (refusalNumber r) (totalOf g n ∷ []) out (entryOf g n d ++ drop n out) (number-some r)))
 
   pub give-tabled : {rules : List (List ℕ)} → firstThatApplies (preparedRows g n) ≡ 0 → Holds g rules → unrankIn rules n d out ≡ unrankOf g n d out
   unfolding unrankOf unrankIn
@@ -116,10 +116,10 @@ module _ (g : List ℕ) (n d : ℕ) (out : List ℕ) where
       ]
 
 module _ (g s : List ℕ) where
-  pub rank-unprepared : (r : CountRefusal) → countNumber r ≡ firstThatApplies (preparedRows g (length s))
-      → record { refusal = countNumber r; figures = 0 ∷ 0 ∷ []; buffer = [] } ≡ rankOf g s
+  pub rank-unprepared : (r : Refusal) → refusalNumber r ≡ firstThatApplies (preparedRows g (length s))
+      → refused (refusalNumber r) 2 [] ≡ rankOf g s
   unfolding rankOf
-  rank-unprepared r e = rw (refused-of g (length s) r _ e) (sym (answer-refused (countNumber r) (numberOf g s ∷ totalOf g (length s) ∷ []) [] [] (count-number r)))
+  rank-unprepared r e = rw (refused-of g (length s) r _ e) (sym (answer-refused (refusalNumber r) (numberOf g s ∷ totalOf g (length s) ∷ []) [] [] (number-some r)))
 
   pub rank-tabled : {rules : List (List ℕ)} → firstThatApplies (preparedRows g (length s)) ≡ 0 → Holds g rules → rankIn rules s ≡ rankOf g s
   unfolding rankOf rankIn

@@ -16,7 +16,7 @@ use Rattle.lists.proofs.Members.{getD-∈, ∈-place, At-getD, At-inside}
 use Rattle.lists.proofs.Tests.{same-eq, same-refl}
 use Rattle.lists.proofs.Searches.{place-lt, place-hit, place-only}
 use Rattle.lists.proofs.Strikes.{exactly-many}
-use Rattle.answers.specs.Answer.{Answer, firstThatApplies}
+use Rattle.answers.specs.Answer.{Answer, firstThatApplies, given}
 use Rattle.answers.proofs.Refusals.{row-applies, row-passed, row-clear, rows-pass, rows-clear, answer-number, answer-accepted}
 use Rattle.grammar.specs.Layout.{start}
 use Rattle.grammar.specs.Chains.{chain}
@@ -31,7 +31,7 @@ use Rattle.counting.proofs.Sentences.{sentence-length}
 use Rattle.counting.proofs.Totals.{sums}
 use Rattle.counting.proofs.Counts.{T-counts, T-length, T-sentences}
 use Rattle.ranking.specs.Answers.{fullList, totalOf, entryOf, unrankRows, unrankOf, derives, readingsOf, numberOf, rankRows, rankOf}
-use Rattle.ranking.specs.Demand2.{Derivation, HasNumber, OneDerivation, told, written, Demand2}
+use Rattle.ranking.specs.Demand2.{Derivation, HasNumber, OneDerivation, Demand2}
 use Rattle.ranking.proofs.Inside.{entry-of}
 
 module _ (g : List ℕ) where
@@ -90,7 +90,7 @@ module _ (g : List ℕ) where
     unfolding unrankOf
     give-passed = sym (answer-number (firstThatApplies (unrankRows g n d out)) (totalOf g n ∷ []) out (entryOf g n d ++ drop n out)) ∙ ok
 
-    give-answer : unrankOf g n d out ≡ written (totalOf g n ∷ []) (entryOf g n d ++ drop n out)
+    give-answer : unrankOf g n d out ≡ given (totalOf g n ∷ []) (entryOf g n d ++ drop n out)
     unfolding unrankOf
     give-answer = answer-accepted (totalOf g n ∷ []) out (entryOf g n d ++ drop n out) give-passed
 
@@ -110,7 +110,7 @@ module _ (g : List ℕ) where
     unfolding rankOf
     rank-passed = sym (answer-number (firstThatApplies (rankRows g s)) (numberOf g s ∷ totalOf g (length s) ∷ []) [] []) ∙ ok
 
-    rank-answer : rankOf g s ≡ told (numberOf g s ∷ totalOf g (length s) ∷ [])
+    rank-answer : rankOf g s ≡ given (numberOf g s ∷ totalOf g (length s) ∷ []) []
     unfolding rankOf
     rank-answer = answer-accepted (numberOf g s ∷ totalOf g (length s) ∷ []) [] [] rank-passed
 
@@ -130,7 +130,7 @@ module _ (g : List ℕ) where
   unfolding countOf
   count-rows n ok = sym (answer-number (firstThatApplies (preparedRows g n)) (totalOf g n ∷ []) [] []) ∙ ok
 
-  count-answer : (n : ℕ) → countOf g n .refusal ≡ 0 → countOf g n ≡ told (totalOf g n ∷ [])
+  count-answer : (n : ℕ) → countOf g n .refusal ≡ 0 → countOf g n ≡ given (totalOf g n ∷ []) []
   unfolding countOf
   count-answer n ok = answer-accepted (totalOf g n ∷ []) [] [] (count-rows n ok)
 
@@ -155,8 +155,8 @@ module _ (g : List ℕ) where
       answer-number (firstThatApplies (rankRows g s)) (numberOf g s ∷ totalOf g (length s) ∷ []) [] []
       ∙ rows-pass (preparedRows g (length s)) ((eqb (readingsOf g s) 0, 17) ∷ (leb 2 (readingsOf g s), 18) ∷ []) refl e
 
-  give-after : (s out : List ℕ) (d : ℕ) → rankOf g s ≡ told (d ∷ totalOf g (length s) ∷ []) → length s ≤ length out
-      → unrankOf g (length s) d out ≡ written (totalOf g (length s) ∷ []) (s ++ drop (length s) out)
+  give-after : (s out : List ℕ) (d : ℕ) → rankOf g s ≡ given (d ∷ totalOf g (length s) ∷ []) [] → length s ≤ length out
+      → unrankOf g (length s) d out ≡ given (totalOf g (length s) ∷ []) (s ++ drop (length s) out)
   unfolding unrankOf firstThatApplies
   give-after s out d e l =
       let ok : rankOf g s .refusal ≡ 0 = ap (λ (a : Answer). a .refusal) e in
@@ -170,7 +170,7 @@ module _ (g : List ℕ) where
       ∙ rw (number-says s one))
 
   number-after : (n d : ℕ) (out s : List ℕ) → unrankOf g n d out .refusal ≡ 0 → s ≡ take n (unrankOf g n d out .buffer) → rankOf g s .refusal ≡ 0
-      → rankOf g s ≡ told (d ∷ totalOf g n ∷ [])
+      → rankOf g s ≡ given (d ∷ totalOf g n ∷ []) []
   number-after n d out s ok e k =
       let given = ap (λ (a : Answer). take n (a .buffer)) (give-answer n d out ok) in
       let front : take n (entryOf g n d ++ drop n out) ≡ entryOf g n d = rw (entry-length n d out ok) at (take-append-seam (entryOf g n d) (drop n out)) in

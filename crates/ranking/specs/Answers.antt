@@ -6,18 +6,18 @@ use Prim.Native.Nat.{ℕ}
 use lib.ListN.{length, getD, drop}
 use lib.Dec.{ltb, leb, eqb}
 use Rattle.lists.specs.Searched.{howMany, firstPlace, same}
-use Rattle.answers.specs.Answer.{Row, Answer, answer}
+use Rattle.answers.specs.Answer.{Row, Answer, given, refused, answer}
+use Rattle.answers.specs.Refusals.{refusalNumber}
 use Rattle.grammar.specs.Layout.{start}
 use Rattle.grammar.specs.Chains.{chain}
 use Rattle.grammar.specs.Trees.{Tree, leaf, sentence}
 use Rattle.grammar.specs.FullList.{trees}
 use Rattle.counting.specs.Totals.{T}
 use Rattle.counting.specs.Refusals.{preparedRows}
-use Rattle.counting.specs.Answers.{countNumber}
 use Rattle.ranking.specs.declared.unrank.UnrankAnswer.{UnrankAnswer}
-use Rattle.ranking.specs.declared.unrank.UnrankAnswer.the-variants.{Given, NotGiven, Beyond, Short}
+use Rattle.ranking.specs.declared.unrank.UnrankAnswer.the-variants as unranks
 use Rattle.ranking.specs.declared.rank.RankAnswer.{RankAnswer}
-use Rattle.ranking.specs.declared.rank.RankAnswer.the-variants.{Ranked, NotRanked, Underivable, Ambiguous}
+use Rattle.ranking.specs.declared.rank.RankAnswer.the-variants as ranks
 
 -- the full list of the start symbol and a length
 abbrev pub fullList : List ℕ → ℕ → List Tree
@@ -30,11 +30,9 @@ totalOf g n = T (chain g) (start g) n
 -- ---- *Give*
 
 -- the paper's number, figure and bytes of each case
-abbrev pub unrankSaid : UnrankAnswer → List ℕ → Answer
-unrankSaid (Given t) out = record { refusal = 0; figures = t ∷ []; buffer = out }
-unrankSaid (NotGiven r) out = record { refusal = countNumber r; figures = 0 ∷ []; buffer = out }
-unrankSaid Beyond out = record { refusal = 16; figures = 0 ∷ []; buffer = out }
-unrankSaid Short out = record { refusal = 20; figures = 0 ∷ []; buffer = out }
+abbrev pub unrankSays : UnrankAnswer → List ℕ → Answer
+unrankSays (unranks.Given t) out = given (t ∷ []) out
+unrankSays (unranks.Refused r) out = refused (refusalNumber r) 1 out
 
 -- the sentence with derivation number d: that of the full list's entry d
 abbrev pub entryOf : List ℕ → ℕ → ℕ → List ℕ
@@ -51,11 +49,9 @@ unrankOf g n d out = answer (unrankRows g n d out) (totalOf g n ∷ []) out (ent
 -- ---- *Number*
 
 -- the paper's number and figures of each case
-abbrev pub rankSaid : RankAnswer → Answer
-rankSaid (Ranked d t) = record { refusal = 0; figures = d .0 ∷ t ∷ []; buffer = [] }
-rankSaid (NotRanked r) = record { refusal = countNumber r; figures = 0 ∷ 0 ∷ []; buffer = [] }
-rankSaid Underivable = record { refusal = 17; figures = 0 ∷ 0 ∷ []; buffer = [] }
-rankSaid Ambiguous = record { refusal = 18; figures = 0 ∷ 0 ∷ []; buffer = [] }
+abbrev pub rankSays : RankAnswer → Answer
+rankSays (ranks.Given d t) = given (d .0 ∷ t ∷ []) []
+rankSays (ranks.Refused r) = refused (refusalNumber r) 2 []
 
 -- the derivation has the sentence s
 abbrev pub derives : List ℕ → Tree → Bool

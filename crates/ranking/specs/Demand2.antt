@@ -8,7 +8,7 @@ use Prim.Native.Nat.{ℕ, _≤_}
 use lib.ListN.{length, take, drop}
 use Rattle.lists.specs.Joined.{_∈_, At}
 use Rattle.lists.specs.Ordered.{Pairwise, Exactly}
-use Rattle.answers.specs.Answer.{Answer}
+use Rattle.answers.specs.Answer.{given}
 use Rattle.grammar.specs.Layout.{start}
 use Rattle.grammar.specs.Chains.{chain, Chained}
 use Rattle.grammar.specs.Refusals.{Accepted}
@@ -39,13 +39,6 @@ pub record OneDerivation (g s : List ℕ) (t : Tree) : Type 0 where
   pub says : sentence t ≡ s
   pub alone : (u : Tree) → Derivation g (length s) u → sentence u ≡ s → u ≡ t
 
--- an answer of a call that is lent no buffer, and one with the buffer as it is then
-abbrev pub told : List ℕ → Answer
-told figures = record { refusal = 0; figures = figures; buffer = [] }
-
-abbrev pub written : List ℕ → List ℕ → Answer
-written figures buffer = record { refusal = 0; figures = figures; buffer = buffer }
-
 pub record Demand2 (g : List ℕ) : Type 0 where
   -- the chains that derivations are made of, and the full list of them
   pub chained : Accepted g → Chained g
@@ -54,20 +47,20 @@ pub record Demand2 (g : List ℕ) : Type 0 where
   -- refused
   pub sums : Sums (chain g)
   pub counted : (A m : ℕ) → Exactly (T (chain g) A m) (Derives (chain g) A m)
-  pub counts : (n : ℕ) → countOf g n .refusal ≡ 0 → countOf g n ≡ told (totalOf g n ∷ [])
+  pub counts : (n : ℕ) → countOf g n .refusal ≡ 0 → countOf g n ≡ given (totalOf g n ∷ []) []
   -- *Give*, where it isn't refused, writes the sentence of the derivation that has the number d
   pub gives : (n d : ℕ) (out : List ℕ) → unrankOf g n d out .refusal ≡ 0
-      → (t : Tree) × HasNumber g n t d × (unrankOf g n d out ≡ written (totalOf g n ∷ []) (sentence t ++ drop n out))
+      → (t : Tree) × HasNumber g n t d × (unrankOf g n d out ≡ given (totalOf g n ∷ []) (sentence t ++ drop n out))
   -- *Number*, where it isn't refused, gives the number of the sentence's one derivation
   pub numbers : (s : List ℕ) → rankOf g s .refusal ≡ 0
-      → (t : Tree) × OneDerivation g s t × (d : ℕ) × HasNumber g (length s) t d × (rankOf g s ≡ told (d ∷ totalOf g (length s) ∷ []))
+      → (t : Tree) × OneDerivation g s t × (d : ℕ) × HasNumber g (length s) t d × (rankOf g s ≡ given (d ∷ totalOf g (length s) ∷ []) [])
   -- where T can be given, *Number* refuses with 17 a sentence without a derivation, with 18 one with two or more, and no other
   pub readings : (s : List ℕ) → countOf g (length s) .refusal ≡ 0
       → (k : ℕ) × Exactly k (λ t. Derivation g (length s) t × (sentence t ≡ s))
       × (k ≡ 0 → rankOf g s .refusal ≡ 17) × (k ≡ 1 → rankOf g s .refusal ≡ 0) × (2 ≤ k → rankOf g s .refusal ≡ 18)
   -- *Give* after *Number*: a sentence's number gives the sentence
-  pub there : (s out : List ℕ) (d : ℕ) → rankOf g s ≡ told (d ∷ totalOf g (length s) ∷ []) → length s ≤ length out
-      → unrankOf g (length s) d out ≡ written (totalOf g (length s) ∷ []) (s ++ drop (length s) out)
+  pub there : (s out : List ℕ) (d : ℕ) → rankOf g s ≡ given (d ∷ totalOf g (length s) ∷ []) [] → length s ≤ length out
+      → unrankOf g (length s) d out ≡ given (totalOf g (length s) ∷ []) (s ++ drop (length s) out)
   -- *Number* after *Give*: a sentence that was given has the number that it was given by, unless it has a second derivation
   pub back : (n d : ℕ) (out s : List ℕ) → unrankOf g n d out .refusal ≡ 0 → s ≡ take n (unrankOf g n d out .buffer) → rankOf g s .refusal ≡ 0
-      → rankOf g s ≡ told (d ∷ totalOf g n ∷ [])
+      → rankOf g s ≡ given (d ∷ totalOf g n ∷ []) []

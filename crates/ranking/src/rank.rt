@@ -1,16 +1,16 @@
 // *Number*: the derivation number of a sentence.
 ghost use mathlib.Core.Path.{_≡_};
 ghost use lib.ListN.{length};
-ghost use Rattle.ranking.specs.Answers.{rankSaid, rankOf};
+ghost use Rattle.ranking.specs.Answers.{rankSays, rankOf};
 ghost use Rattle.ranking.specs.Inner.Inside.{rankIn};
 ghost use Rattle.ranking.specs.Inner.Ranking.{FindSought, FoundAs, NumberSought, Roomy};
 use crate::unrank;
 use crate::unrank::DerivationNumber;
+use answers::refusal::Refusal;
 use charts::chart;
 use charts::maps;
 use charts::ready;
 use counting::prepare;
-use counting::prepare::CountRefusal;
 use counting::prepare::Prepared;
 use grammar::rules;
 use walk::nodes;
@@ -24,10 +24,8 @@ pub enum Found {
 }
 
 pub enum RankAnswer {
-    Ranked(DerivationNumber, u64),
-    NotRanked(CountRefusal),
-    Underivable,
-    Ambiguous,
+    Given(DerivationNumber, u64),
+    Refused(Refusal),
 }
 
 // The derivations of a sentence of the plan's length: chosen by the sentence, measured by the counts.
@@ -66,7 +64,7 @@ pub fn find(
 // With the tables at hand.
 fn number_by(rules: &mut [[u8; 256]], sentence: &[u8], totals: &mut [[u64; 32]]) -> RankAnswer
     requires { ⌜ NumberSought (now rules) (now sentence) (now totals) ⌝ }
-    ensures { λ r. ⌜ rankSaid r ≡ rankIn (now (rules .entry)) (now (sentence .entry)) ⌝ }
+    ensures { λ r. ⌜ rankSays r ≡ rankIn (now (rules .entry)) (now (sentence .entry)) ⌝ }
 {
     let n = sentence.len();
     let set_row = [0u32; 32];
@@ -78,29 +76,29 @@ fn number_by(rules: &mut [[u8; 256]], sentence: &[u8], totals: &mut [[u64; 32]])
     let mut sets = [0u32; 154];
     let f = find(rules, &plan, &mut map, &counts, sentence, &mut sets, totals);
     match f {
-        Found::None => RankAnswer::Underivable,
-        Found::Many => RankAnswer::Ambiguous,
-        Found::One(d) => RankAnswer::Ranked(d, unrank::total(rules, totals, n)),
+        Found::None => RankAnswer::Refused(Refusal::SentenceUnderivable),
+        Found::Many => RankAnswer::Refused(Refusal::SentenceAmbiguous),
+        Found::One(d) => RankAnswer::Given(d, unrank::total(rules, totals, n)),
     }
 }
 
 // With room for the chart of the sentence.
 fn number(g: &[u8], sentence: &[u8], totals: &mut [[u64; 32]]) -> RankAnswer
     requires { ⌜ Roomy (length (now sentence)) (now totals) ⌝ }
-    ensures { λ r. ⌜ rankSaid r ≡ rankOf (now (g .entry)) (now (sentence .entry)) ⌝ }
+    ensures { λ r. ⌜ rankSays r ≡ rankOf (now (g .entry)) (now (sentence .entry)) ⌝ }
 {
     let row = [0u8; 256];
     let mut rules = [row; 13];
     let p = prepare::prepare(g, sentence.len() as u64, &mut rules, totals);
     match p {
-        Prepared::Refused(r) => RankAnswer::NotRanked(r),
+        Prepared::Refused(r) => RankAnswer::Refused(r),
         Prepared::Ready => number_by(&mut rules, sentence, totals),
     }
 }
 
 // A chart of up to five words takes 33 rows, of sixteen 154: clearing them is much of the time that a short sentence takes.
 pub fn rank(g: &[u8], sentence: &[u8]) -> RankAnswer
-    ensures { λ r. ⌜ rankSaid r ≡ rankOf (now (g .entry)) (now (sentence .entry)) ⌝ }
+    ensures { λ r. ⌜ rankSays r ≡ rankOf (now (g .entry)) (now (sentence .entry)) ⌝ }
 {
     let row = [0u64; 32];
     if sentence.len() <= 5 {

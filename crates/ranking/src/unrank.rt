@@ -3,11 +3,11 @@ ghost use mathlib.Core.Path.{_≡_};
 ghost use mathlib.Core.List.{_++_};
 ghost use lib.ListN.{drop};
 ghost use Rattle.counting.specs.Inner.Counted.{Counted};
-ghost use Rattle.ranking.specs.Answers.{unrankSaid, unrankOf};
+ghost use Rattle.ranking.specs.Answers.{unrankSays, unrankOf};
 ghost use Rattle.ranking.specs.Inner.Inside.{totalIn, entryIn, WriteSought, unrankIn};
+use answers::refusal::Refusal;
 use charts::maps;
 use counting::prepare;
-use counting::prepare::CountRefusal;
 use counting::prepare::Prepared;
 use counting::tallies;
 use grammar::rules;
@@ -18,9 +18,7 @@ pub struct DerivationNumber(pub u64);
 
 pub enum UnrankAnswer {
     Given(u64),
-    NotGiven(CountRefusal),
-    Beyond,
-    Short,
+    Refused(Refusal),
 }
 
 // T(S, n), from the table.
@@ -68,21 +66,21 @@ fn give(
     out: &mut [u8],
 ) -> UnrankAnswer
     requires { ⌜ Counted (now rules) (now totals) n ⌝ }
-    ensures { λ r. ⌜ unrankSaid r (now (out .exit)) ≡ unrankIn (now (rules .entry)) n (number .0) (now (out .entry)) ⌝ }
+    ensures { λ r. ⌜ unrankSays r (now (out .exit)) ≡ unrankIn (now (rules .entry)) n (number .0) (now (out .entry)) ⌝ }
 {
     let t = total(rules, totals, n);
     if t <= number.0 {
-        return UnrankAnswer::Beyond;
+        return UnrankAnswer::Refused(Refusal::NumberBeyond);
     }
     if out.len() < n {
-        return UnrankAnswer::Short;
+        return UnrankAnswer::Refused(Refusal::BufferTooShort);
     }
     write(rules, totals, n, number, out);
     UnrankAnswer::Given(t)
 }
 
 pub fn unrank(g: &[u8], n: u64, number: DerivationNumber, out: &mut [u8]) -> UnrankAnswer
-    ensures { λ r. ⌜ unrankSaid r (now (out .exit)) ≡ unrankOf (now (g .entry)) n (number .0) (now (out .entry)) ⌝ }
+    ensures { λ r. ⌜ unrankSays r (now (out .exit)) ≡ unrankOf (now (g .entry)) n (number .0) (now (out .entry)) ⌝ }
 {
     let byte_row = [0u8; 256];
     let mut rules = [byte_row; 4];
@@ -90,7 +88,7 @@ pub fn unrank(g: &[u8], n: u64, number: DerivationNumber, out: &mut [u8]) -> Unr
     let mut totals = [row; 17];
     let p = prepare::prepare(g, n, &mut rules, &mut totals);
     match p {
-        Prepared::Refused(r) => UnrankAnswer::NotGiven(r),
+        Prepared::Refused(r) => UnrankAnswer::Refused(r),
         Prepared::Ready => give(&rules, &totals, n as usize, number, out),
     }
 }

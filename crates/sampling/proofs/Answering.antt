@@ -22,15 +22,15 @@ use Rattle.lists.proofs.Tests.{and-left, and-right, some-ext}
 use Rattle.lists.proofs.Struck.{struck-map}
 use Rattle.lists.proofs.Tables.{wide-made}
 use Rattle.lists.proofs.Strikes.{keep-length, keep-∈, ∈-keep, struck-rising, skip-lt}
-use Rattle.answers.specs.Answer.{Row, firstThatApplies, answerOf, answer}
+use Rattle.answers.specs.Answer.{Row, firstThatApplies, given, refused, answerOf, answer}
+use Rattle.answers.specs.Refusals.{refusalNumber}
+use Rattle.answers.specs.declared.refusal.Refusal.{Refusal}
+use Rattle.answers.proofs.Numbers.{number-some}
 use Rattle.answers.proofs.Refusals.{row-applies, row-passed, rows-stop, rows-pass, answer-accepted, answer-refused}
 use Rattle.grammar.specs.Trees.{sentence}
 use Rattle.grammar.specs.Inner.Rules as grammar
 use Rattle.counting.specs.Refusals.{preparedRows}
-use Rattle.counting.specs.Answers.{countNumber}
 use Rattle.counting.specs.Inner.Preparing.{Tabled}
-use Rattle.counting.specs.declared.prepare.CountRefusal.{CountRefusal}
-use Rattle.counting.proofs.Preparing.{count-number}
 use Rattle.counting.proofs.Counts.{T-sentences}
 use Rattle.ranking.specs.Answers.{fullList, totalOf, readingsOf, numberOf}
 use Rattle.ranking.specs.Inner.Inside.{fullIn, totalIn, entryIn, readingsIn, WriteSought}
@@ -42,17 +42,14 @@ use Rattle.history.specs.Layout.{recordsOf, headOf, recordWords}
 use Rattle.history.specs.Heard.{sentencesIn, heard}
 use Rattle.history.proofs.Acceptance.{known}
 use Rattle.history.proofs.Chain.{numbers-zero}
-use Rattle.history.proofs.Outcome.{number-some}
 use Rattle.sorting.specs.Inner.Sorted.{SortedAs}
 use Rattle.sampling.specs.Question.{Question, plainly}
 use Rattle.sampling.specs.Unheard.{Entry, outside, ofLength, heardOf, leftOf, ambiguous}
-use Rattle.sampling.specs.Inner.Collect.{barred, numbersIn, ambiguousIn, Holds}
-use Rattle.sampling.specs.Answers.{sampleNumber, remainingRows, remainingTo, drawn, drawTo}
+use Rattle.sampling.specs.Inner.Collect.{barred, numbersIn, ambiguousIn, CollectedIs}
+use Rattle.sampling.specs.Answers.{remainingRows, remainingTo, drawn, drawTo}
 use Rattle.sampling.specs.Inner.Skipping.{Skips}
-use Rattle.sampling.specs.Inner.Preparing.{Room, Lent, Heard, Hold, NumbersAs, Recorded, RecordedAs, Drawable, Prepared, PreparedAs}
+use Rattle.sampling.specs.Inner.Preparing.{Room, Lent, Heard, Hold, NumbersAs, Recorded, RecordedAs, Drawable, SampledIs, SampledAs}
 use Rattle.sampling.specs.declared.heard.Collected.the-variants.{Numbers}
-use Rattle.sampling.specs.declared.prepare.SampleRefusal.{SampleRefusal}
-use Rattle.sampling.specs.declared.prepare.SampleRefusal.the-variants.{Count, History, Ambiguous as NotSingle}
 use Rattle.sampling.specs.declared.prepare.Sampled.{Sampled}
 use Rattle.sampling.specs.declared.prepare.Sampled.the-variants.{Ready, Refused as NotReady}
 use Rattle.sampling.specs.Inner.Drawing.{DrawSought, drawSkipping}
@@ -80,7 +77,7 @@ pub part-few : (k n : ℕ) (l : List ℕ) → k ≤ n → length (take (k - 0) l
 part-few k n l h = omega (arith, length-take (k - 0) l)
 
 -- the numbers stand then at the front of the whole
-pub heard-sorted : (rules : List (List ℕ)) (h : List ℕ) (n : ℕ) (before part rest : List ℕ) (k m : ℕ) → Holds rules h n before (Numbers k)
+pub heard-sorted : (rules : List (List ℕ)) (h : List ℕ) (n : ℕ) (before part rest : List ℕ) (k m : ℕ) → CollectedIs rules h n before (Numbers k)
     → SortedAs (take (k - 0) before) part m → Hold rules h n (part ++ rest) (Ready m)
 heard-sorted rules h n before part rest k m c s =
     let z : k - 0 ≡ k = omega arith in
@@ -99,8 +96,8 @@ none-heard rules h n numbers diary none =
 -- ---- 11 to 15, by the tables
 
 module _ (rules : List (List ℕ)) (h : List ℕ) (n : ℕ) (numbers : List ℕ) where
-  pub unaccepted : (r : SampleRefusal) → history.historyRefusal h ≡ sampleNumber r → 0 < sampleNumber r → RecordedAs rules h n numbers (NotReady r)
-  unaccepted r e l = record { recorded = sym (rows-stop (history.historyRows h) ((ambiguousIn rules h n, 15) ∷ []) (omega arith) ∙ e) }
+  pub unaccepted : (r : Refusal) → history.historyRefusal h ≡ refusalNumber r → RecordedAs rules h n numbers (NotReady r)
+  unaccepted r e = record { recorded = sym (rows-stop (history.historyRows h) ((ambiguousIn rules h n, 15) ∷ []) (omega (arith, number-some r)) ∙ e) }
 
   pub heard-recorded : {s : Sampled} → history.Accepted h → NumbersAs rules h n numbers s → RecordedAs rules h n numbers s
   heard-recorded {s = Ready k} ok q = record { recorded = (ok, q .hold .0, q .hold .1) }
@@ -155,15 +152,15 @@ module _ {g : List ℕ} {rules : List (List ℕ)} (t : grammar.Holds g rules) (h
 -- ---- 1 to 15
 
 module _ (g h : List ℕ) (n : ℕ) {rules totals : List (List ℕ)} where
-  pub unprepared : (r : CountRefusal) → countNumber r ≡ firstThatApplies (preparedRows g n) → {numbers : List ℕ} → Room h numbers
-      → PreparedAs g h (plainly n) rules totals numbers (NotReady (Count r))
+  pub unprepared : (r : Refusal) → refusalNumber r ≡ firstThatApplies (preparedRows g n) → {numbers : List ℕ} → Room h numbers
+      → SampledAs g h (plainly n) rules totals numbers (NotReady r)
   unprepared r e room = record { prepared = sym (refused-of g n r (history.historyRows h ++ ((ambiguous g h (plainly n), 15) ∷ [])) e); room = room }
 
   module _ (none : firstThatApplies (preparedRows g n) ≡ 0) (t : Tabled g n rules totals) where
     past-grammar : firstThatApplies (remainingRows g h (plainly n)) ≡ firstThatApplies (history.historyRows h ++ ((ambiguousIn rules h n, 15) ∷ []))
     past-grammar = rw (ambiguous-is (t .holds) h n) (left-of g n (history.historyRows h ++ ((ambiguous g h (plainly n), 15) ∷ [])) none)
 
-    pub recorded-prepared : {numbers : List ℕ} {s : Sampled} → Room h numbers → RecordedAs rules h n numbers s → PreparedAs g h (plainly n) rules totals numbers s
+    pub recorded-prepared : {numbers : List ℕ} {s : Sampled} → Room h numbers → RecordedAs rules h n numbers s → SampledAs g h (plainly n) rules totals numbers s
     unfolding firstThatApplies
     recorded-prepared {numbers} {s = Ready k} room q = record {
       prepared = record {
@@ -178,21 +175,15 @@ module _ (g h : List ℕ) (n : ℕ) {rules totals : List (List ℕ)} where
     }
     recorded-prepared {s = NotReady r} room q = record { prepared = q .recorded ∙ sym past-grammar; room = room }
 
-pub prepared-case : {g h : List ℕ} {a : Question} {rules totals : List (List ℕ)} {numbers : List ℕ} {s u : Sampled} → PreparedAs g h a rules totals numbers s → s ≡ u
-    → Prepared g h a rules totals numbers u
+pub prepared-case : {g h : List ℕ} {a : Question} {rules totals : List (List ℕ)} {numbers : List ℕ} {s u : Sampled} → SampledAs g h a rules totals numbers s → s ≡ u
+    → SampledIs g h a rules totals numbers u
 prepared-case q e = (rw e at q) .prepared
-
--- a refusal has a number
-pub sample-some : (r : SampleRefusal) → 0 < sampleNumber r
-sample-some (Count r) = count-number r
-sample-some (History r) = number-some r
-sample-some NotSingle = lit< tt
 
 -- ---- *Left*
 
 module _ (g h : List ℕ) (n : ℕ) where
   pub left-refused : (k : ℕ) → k ≡ firstThatApplies (remainingRows g h (plainly n)) → 0 < k
-      → record { refusal = k; figures = 0 ∷ 0 ∷ 0 ∷ []; buffer = [] } ≡ remainingTo g h (plainly n)
+      → refused k 3 [] ≡ remainingTo g h (plainly n)
   unfolding remainingTo
   left-refused k e l = rw (← e) (sym (answer-refused k (totalOf g n ∷ heardOf g h (plainly n) ∷ leftOf g h (plainly n) ∷ []) [] [] l))
 
@@ -205,7 +196,7 @@ module _ (g h : List ℕ) (n : ℕ) where
     pub heard-few : (t : ℕ) → t ≡ totalIn rules n → k ≤ t
     heard-few t e = omega (arith, total-is (d .tabled .holds) n, heard-count, heard-length g h n (d .diary) (d .clear), unheard-all g h n)
 
-    pub left-counted : (t : ℕ) → t ≡ totalIn rules n → record { refusal = 0; figures = t ∷ k ∷ (t - k) ∷ []; buffer = [] } ≡ remainingTo g h (plainly n)
+    pub left-counted : (t : ℕ) → t ≡ totalIn rules n → given (t ∷ k ∷ (t - k) ∷ []) [] ≡ remainingTo g h (plainly n)
     unfolding remainingTo
     left-counted t e =
         rw (e ∙ total-is (d .tabled .holds) n, heard-count)
@@ -237,13 +228,13 @@ module _ (rules : List (List ℕ)) (n : ℕ) (heard : List ℕ) (q : ℕ) (out :
   abbrev left : ℕ
   left = totalIn rules n - length heard
 
-  pub skipping-beyond : left ≤ q → record { refusal = 16; figures = 0 ∷ 0 ∷ []; buffer = out } ≡ drawSkipping rules n heard q out
+  pub skipping-beyond : left ≤ q → refused 16 2 out ≡ drawSkipping rules n heard q out
   unfolding drawSkipping
   skipping-beyond l =
       let e : firstThatApplies ((leb left q, 16) ∷ (ltb (length out) n, 20) ∷ []) ≡ 16 = row-applies 16 _ (le-leb left q l) in
       rw e (sym (answer-refused 16 (left ∷ skip q heard ∷ []) out (entryIn rules n (skip q heard) ++ drop n out) (lit< tt)))
 
-  pub skipping-short : q < left → length out < n → record { refusal = 20; figures = 0 ∷ 0 ∷ []; buffer = out } ≡ drawSkipping rules n heard q out
+  pub skipping-short : q < left → length out < n → refused 20 2 out ≡ drawSkipping rules n heard q out
   unfolding drawSkipping
   skipping-short l m =
       let e : firstThatApplies ((leb left q, 16) ∷ (ltb (length out) n, 20) ∷ []) ≡ 20
@@ -251,7 +242,7 @@ module _ (rules : List (List ℕ)) (n : ℕ) (heard : List ℕ) (q : ℕ) (out :
       rw e (sym (answer-refused 20 (left ∷ skip q heard ∷ []) out (entryIn rules n (skip q heard) ++ drop n out) (lit< tt)))
 
   pub skipping-written : (l d : ℕ) (words : List ℕ) → q < left → n ≤ length out → l ≡ left → d ≡ skip q heard → words ≡ entryIn rules n d ++ drop n out
-      → record { refusal = 0; figures = l ∷ d ∷ []; buffer = words } ≡ drawSkipping rules n heard q out
+      → given (l ∷ d ∷ []) words ≡ drawSkipping rules n heard q out
   unfolding drawSkipping firstThatApplies
   skipping-written l d words h k e f w =
       rw (w, e, f)
@@ -280,7 +271,7 @@ draw-sought {h = h} {numbers = numbers} {n = n} {k = k} d room =
 
 module _ (g h : List ℕ) (n q : ℕ) (out : List ℕ) where
   pub draw-refused : (k : ℕ) → k ≡ firstThatApplies (remainingRows g h (plainly n)) → 0 < k
-      → record { refusal = k; figures = 0 ∷ 0 ∷ []; buffer = out } ≡ drawTo g h (plainly n) q out
+      → refused k 2 out ≡ drawTo g h (plainly n) q out
   unfolding drawTo
   draw-refused k e l =
       let last : List Row = (leb (leftOf g h (plainly n)) q, 16) ∷ (ltb (length out) n, 20) ∷ [] in

@@ -26,7 +26,7 @@ use Rattle.history.specs.Inner.Reading.{sentenceAt, nextAt}
 use Rattle.history.specs.Heard.{sentencesIn}
 use Rattle.history.proofs.Chain.{chained}
 use Rattle.history.proofs.Reading.{read-end, read-record}
-use Rattle.sampling.specs.Inner.Collect.{numbersIn, manyIn, ambiguousIn, HeardSought, Adds, HeardFoundAs, Holds, CollectedAs}
+use Rattle.sampling.specs.Inner.Collect.{numbersIn, manyIn, ambiguousIn, HeardSought, Adds, HeardFoundAs, CollectedIs, CollectedAs}
 use Rattle.sampling.specs.declared.heard.Collected.{Collected}
 use Rattle.sampling.specs.declared.heard.Collected.the-variants.{Numbers, Ambiguous}
 
@@ -186,5 +186,5 @@ module _ (plan : List (List ℕ)) {rules : List (List ℕ)} {h : List ℕ} {numb
 
 -- what is collected, once its case is known
 pub collect-case : {rules plan : List (List ℕ)} {h : List ℕ} {numbers : List ℕ} {c d : Collected} → CollectedAs rules plan h numbers c → c ≡ d
-    → Holds rules h (lengthIn plan) numbers d
+    → CollectedIs rules h (lengthIn plan) numbers d
 collect-case q e = (rw e at q) .holds

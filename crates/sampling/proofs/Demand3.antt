@@ -22,7 +22,7 @@ use Rattle.lists.proofs.Orders.{pairwise-one, distinct-place, exactly-unique}
 use Rattle.lists.proofs.Struck.{numbered-∈, ∈-numbered}
 use Rattle.lists.proofs.Tests.{both-ways, both-fail}
 use Rattle.lists.proofs.Strikes.{keep-∈, ∈-keep, keep-pairwise, keep-at, struck-ext, draws}
-use Rattle.answers.specs.Answer.{Answer, Row, firstThatApplies, answerOf, answer}
+use Rattle.answers.specs.Answer.{Answer, Row, firstThatApplies, given, refused, answerOf, answer}
 use Rattle.answers.proofs.Refusals.{row-applies, row-passed, rows-stop, rows-tail, rows-pass, answer-number, answer-accepted, answer-refused}
 use Rattle.grammar.specs.Layout.{start}
 use Rattle.grammar.specs.Chains.{chain}
@@ -31,7 +31,7 @@ use Rattle.grammar.proofs.Enumeration.{sound, complete}
 use Rattle.grammar.proofs.Order as order
 use Rattle.counting.specs.Refusals.{preparedRows}
 use Rattle.ranking.specs.Answers.{fullList, totalOf, readingsOf}
-use Rattle.ranking.specs.Demand2.{HasNumber, OneDerivation, written}
+use Rattle.ranking.specs.Demand2.{HasNumber, OneDerivation}
 use Rattle.ranking.proofs.Demand2.{at-has, one-derivation, exactly-readings}
 use Rattle.history.specs.Refusals as history
 use Rattle.history.specs.Heard.{heard}
@@ -39,7 +39,7 @@ use Rattle.sampling.specs.Question.{plainly}
 use Rattle.sampling.specs.Unheard.{Entry, entriesFrom, outside, unheard, heardOf, leftOf, ambiguous}
 use Rattle.sampling.specs.Inner.Collect.{barred}
 use Rattle.sampling.specs.Answers.{remainingRows, remainingOf, drawn, drawOf, remainingTo, drawTo}
-use Rattle.sampling.specs.Demand3.{Single, Premises, shown, asShown, refused, Demand3, Derivable, Once, SameBarred, Alike}
+use Rattle.sampling.specs.Demand3.{Single, Premises, shown, asShown, Demand3, Derivable, Once, SameBarred, Alike}
 use Rattle.sampling.proofs.Barred.{listed-length, entry, kept, unheard-is, unheard-length, unheard-at, heard-length, heard-exactly, heard-left, left-length}
 use Rattle.sampling.proofs.Premises.{heard-single, premises-pass, pass-premises}
 
@@ -58,13 +58,13 @@ abbrev drawFrom : (n q : ℕ) (out : List ℕ) (l : List Entry) → Answer
 drawFrom n q out l = answer (lastRows n q out l) (length l ∷ entryAt l q .number ∷ []) out (sentence (entryAt l q .tree) ++ drop n out)
 
 module _ (n q : ℕ) (out : List ℕ) (l : List Entry) where
-  from-beyond : length l ≤ q → drawFrom n q out l ≡ refused 16 out
+  from-beyond : length l ≤ q → drawFrom n q out l ≡ refused 16 2 out
   from-beyond h =
       let e : firstThatApplies (lastRows n q out l) ≡ 16 = row-applies 16 ((ltb (length out) n, 20) ∷ []) (le-leb (length l) q h) in
       rw e (answer-refused 16 (length l ∷ entryAt l q .number ∷ []) out (sentence (entryAt l q .tree) ++ drop n out) (omega arith))
 
   from-accepted : firstThatApplies (lastRows n q out l) ≡ 0
-      → drawFrom n q out l ≡ written (length l ∷ entryAt l q .number ∷ []) (sentence (entryAt l q .tree) ++ drop n out)
+      → drawFrom n q out l ≡ given (length l ∷ entryAt l q .number ∷ []) (sentence (entryAt l q .tree) ++ drop n out)
   from-accepted e = answer-accepted (length l ∷ entryAt l q .number ∷ []) out (sentence (entryAt l q .tree) ++ drop n out) e
 
   from-refusal : drawFrom n q out l .refusal ≡ firstThatApplies (lastRows n q out l)
@@ -76,7 +76,7 @@ module _ (n q : ℕ) (out : List ℕ) (l : List Entry) where
   from-passed h k =
       row-passed 16 ((ltb (length out) n, 20) ∷ []) (lt-leb (length l) q h) ∙ row-passed 20 [] (le-ltb (length out) n k)
 
-  from-short : q < length l → length out < n → drawFrom n q out l ≡ refused 20 out
+  from-short : q < length l → length out < n → drawFrom n q out l ≡ refused 20 2 out
   from-short h k =
       let e : firstThatApplies (lastRows n q out l) ≡ 20
       = row-passed 16 ((ltb (length out) n, 20) ∷ []) (lt-leb (length l) q h) ∙ row-applies 20 [] (lt-ltb (length out) n k) in
@@ -190,11 +190,11 @@ module _ (g h : List ℕ) (n : ℕ) (p : Premises g h (plainly n)) where
   left-is : leftOf g h (plainly n) ≡ length (unheard g h (plainly n))
   left-is = left-length g h n (p .diary) clear
 
-  remaining-is : remainingOf g h n ≡ written (totalOf g n ∷ heardOf g h (plainly n) ∷ length (unheard g h (plainly n)) ∷ []) []
+  remaining-is : remainingOf g h n ≡ given (totalOf g n ∷ heardOf g h (plainly n) ∷ length (unheard g h (plainly n)) ∷ []) []
   unfolding remainingTo
   remaining-is =
       answer-accepted (totalOf g n ∷ heardOf g h (plainly n) ∷ leftOf g h (plainly n) ∷ []) [] [] passed
-      ∙ ap (λ (m : ℕ). written (totalOf g n ∷ heardOf g h (plainly n) ∷ m ∷ []) []) left-is
+      ∙ ap (λ (m : ℕ). given (totalOf g n ∷ heardOf g h (plainly n) ∷ m ∷ []) []) left-is
 
   draw-is : (q : ℕ) (out : List ℕ) → drawOf g h n q out ≡ drawFrom n q out (unheard g h (plainly n))
   unfolding drawTo
@@ -205,7 +205,7 @@ module _ (g h : List ℕ) (n : ℕ) (p : Premises g h (plainly n)) where
       left-is
 
   draw-accepted : (q : ℕ) (out : List ℕ) → q < length (unheard g h (plainly n)) → n ≤ length out
-      → drawOf g h n q out ≡ written (length (unheard g h (plainly n)) ∷ drawn g h (plainly n) q .number ∷ []) (sentence (drawn g h (plainly n) q .tree) ++ drop n out)
+      → drawOf g h n q out ≡ given (length (unheard g h (plainly n)) ∷ drawn g h (plainly n) q .number ∷ []) (sentence (drawn g h (plainly n) q .tree) ++ drop n out)
   draw-accepted q out k l = draw-is q out ∙ from-accepted n q out (unheard g h (plainly n)) (from-passed n q out (unheard g h (plainly n)) k l)
 
   draw-figures : (q : ℕ) (out : List ℕ) → drawOf g h n q out .refusal ≡ 0 → (d : ℕ) × (drawOf g h n q out .figures ≡ length (unheard g h (plainly n)) ∷ d ∷ [])
@@ -306,12 +306,12 @@ module _ (g h : List ℕ) (n : ℕ) (p : Premises g h (plainly n)) where
 -- ---- a refusal of *Left* is one of *Draw* too
 
 module _ (g h : List ℕ) (n : ℕ) (some : 0 < firstThatApplies (remainingRows g h (plainly n))) where
-  left-refused : remainingOf g h n ≡ record { refusal = firstThatApplies (remainingRows g h (plainly n)); figures = 0 ∷ 0 ∷ 0 ∷ []; buffer = [] }
+  left-refused : remainingOf g h n ≡ refused (firstThatApplies (remainingRows g h (plainly n))) 3 []
   unfolding remainingTo
   left-refused =
       answer-refused (firstThatApplies (remainingRows g h (plainly n))) (totalOf g n ∷ heardOf g h (plainly n) ∷ leftOf g h (plainly n) ∷ []) [] [] some
 
-  draw-refused : (q : ℕ) (out : List ℕ) → drawOf g h n q out ≡ refused (firstThatApplies (remainingRows g h (plainly n))) out
+  draw-refused : (q : ℕ) (out : List ℕ) → drawOf g h n q out ≡ refused (firstThatApplies (remainingRows g h (plainly n))) 2 out
   unfolding drawTo
   draw-refused q out =
       ap (λ (r : ℕ). answerOf r (leftOf g h (plainly n) ∷ drawn g h (plainly n) q .number ∷ []) out (sentence (drawn g h (plainly n) q .tree) ++ drop n out))
@@ -386,8 +386,8 @@ module _ (g h h′ : List ℕ) (n : ℕ) (diary : history.Accepted h) (diary′ 
   module _ (some : 0 < firstThatApplies (remainingRows g h (plainly n))) where
     refused-alike : Alike g h h′ (plainly n)
     refused-alike = record {
-      left = left-refused g h n some ∙ ap (λ (r : ℕ). record { refusal = r; figures = 0 ∷ 0 ∷ 0 ∷ []; buffer = [] }) refusal-same ∙ sym (left-refused g h′ n (rw (← refusal-same) some));
-      draw = λ q out. draw-refused g h n some q out ∙ ap (λ (r : ℕ). refused r out) refusal-same ∙ sym (draw-refused g h′ n (rw (← refusal-same) some) q out);
+      left = left-refused g h n some ∙ ap (λ (r : ℕ). refused r 3 []) refusal-same ∙ sym (left-refused g h′ n (rw (← refusal-same) some));
+      draw = λ q out. draw-refused g h n some q out ∙ ap (λ (r : ℕ). refused r 2 out) refusal-same ∙ sym (draw-refused g h′ n (rw (← refusal-same) some) q out);
     }
 
   pub alike : Alike g h h′ (plainly n)

@@ -13,7 +13,7 @@ use borrow.Author.Tests.{le-ltb, lt-leb, le-leb}
 use Rattle.lists.specs.Joined.{upFrom}
 use Rattle.lists.specs.Linked.{metFrom}
 use Rattle.lists.specs.Searched.{someBelow, same}
-use Rattle.answers.specs.Answer.{firstThatApplies}
+use Rattle.answers.specs.Answer.{firstThatApplies, given, refused}
 use Rattle.answers.specs.Length.{badLength}
 use Rattle.answers.proofs.Refusals.{row-applies, row-passed, rows-pass, answer-accepted, answer-refused}
 use Rattle.grammar.specs.Chains.{Rule, rest, chain}
@@ -26,7 +26,6 @@ use Rattle.counting.specs.Answers.{countOf}
 use Rattle.counting.proofs.Totals.{split-step, split-end, split-skip, T-one, T-more}
 use Rattle.counting.proofs.OneLength.{OneLength, words-alone}
 use Rattle.ranking.specs.Answers.{entryOf, unrankRows, unrankOf, numberOf, rankRows, rankOf}
-use Rattle.ranking.specs.Demand2.{told, written}
 use Rattle.history.specs.Layout.{twoAt, recordWords}
 use Rattle.history.specs.Chain.{numbersFrom}
 use Rattle.history.specs.Heard.{heard}
@@ -34,7 +33,7 @@ use Rattle.history.specs.Refusals as history
 use Rattle.sampling.specs.Question.{plainly}
 use Rattle.sampling.specs.Unheard.{unheard, heardOf, leftOf, ambiguous}
 use Rattle.sampling.specs.Answers.{remainingRows, remainingOf, drawn, drawRows, drawOf, remainingTo, drawTo}
-use Rattle.sampling.specs.Demand3.{Premises, refused, SameBarred}
+use Rattle.sampling.specs.Demand3.{Premises, SameBarred}
 use Rattle.sampling.specs.Examples.{F, G, heard01, heardTwice, Examples}
 use Rattle.sampling.proofs.Premises.{prepared-pass, heard-single, premises-pass}
 
@@ -104,7 +103,7 @@ F-counts (suc (suc A)) m a l u = absurd (omega arith)
 F-prepared : (n : ℕ) → 1 ≤ n → n ≤ 16 → firstThatApplies (preparedRows F n) ≡ 0
 F-prepared n l u = prepared-pass F n F-accepted l u (λ A m a b c. F-counts A m a b (omega arith))
 
-F-count : (n t : ℕ) → 1 ≤ n → n ≤ 16 → T (chain F) 0 n ≡ t → countOf F n ≡ told (t ∷ [])
+F-count : (n t : ℕ) → 1 ≤ n → n ≤ 16 → T (chain F) 0 n ≡ t → countOf F n ≡ given (t ∷ []) []
 unfolding countOf
 F-count n t l u e = answer-accepted (T (chain F) 0 n ∷ []) [] [] (F-prepared n l u) ∙ rw e
 
@@ -117,7 +116,7 @@ entry-five : entryOf F 3 5 ≡ 1 ∷ 0 ∷ 1 ∷ []
 unfolding trees treesTo metFrom rest
 entry-five = refl
 
-gives-five : (out : List ℕ) → 3 ≤ length out → unrankOf F 3 5 out ≡ written (8 ∷ []) (1 ∷ 0 ∷ 1 ∷ drop 3 out)
+gives-five : (out : List ℕ) → 3 ≤ length out → unrankOf F 3 5 out ≡ given (8 ∷ []) (1 ∷ 0 ∷ 1 ∷ drop 3 out)
 unfolding unrankOf firstThatApplies
 gives-five out l =
     answer-accepted (T (chain F) 0 3 ∷ []) out (entryOf F 3 5 ++ drop 3 out)
@@ -126,7 +125,7 @@ gives-five out l =
     ∙ row-passed 20 [] (le-ltb (length out) 3 l))
     ∙ rw (F-eight, entry-five)
 
-gives-no-eight : (out : List ℕ) → unrankOf F 3 8 out ≡ record { refusal = 16; figures = 0 ∷ []; buffer = out }
+gives-no-eight : (out : List ℕ) → unrankOf F 3 8 out ≡ refused 16 1 out
 unfolding unrankOf
 gives-no-eight out =
     let e : firstThatApplies (unrankRows F 3 8 out) ≡ 16
@@ -134,7 +133,7 @@ gives-no-eight out =
     ∙ row-applies 16 ((ltb (length out) 3, 20) ∷ []) (le-leb (T (chain F) 0 3) 8 (omega (arith, F-eight))) in
     rw e (answer-refused 16 (T (chain F) 0 3 ∷ []) out (entryOf F 3 8 ++ drop 3 out) (omega arith))
 
-ranks-101 : rankOf F (1 ∷ 0 ∷ 1 ∷ []) ≡ told (5 ∷ 8 ∷ [])
+ranks-101 : rankOf F (1 ∷ 0 ∷ 1 ∷ []) ≡ given (5 ∷ 8 ∷ []) []
 unfolding rankOf firstThatApplies trees treesTo metFrom rest
 ranks-101 =
     answer-accepted (5 ∷ T (chain F) 0 3 ∷ []) [] []
@@ -181,31 +180,31 @@ unheard-three = refl
 passes : firstThatApplies (remainingRows F heard01 (plainly 2)) ≡ 0
 passes = premises-pass F heard01 2 example-premises
 
-left-of-two : remainingOf F heard01 2 ≡ told (4 ∷ 1 ∷ 3 ∷ [])
+left-of-two : remainingOf F heard01 2 ≡ given (4 ∷ 1 ∷ 3 ∷ []) []
 unfolding remainingTo
 left-of-two =
     answer-accepted (T (chain F) 0 2 ∷ heardOf F heard01 (plainly 2) ∷ leftOf F heard01 (plainly 2) ∷ []) [] [] passes
-    ∙ ap (λ (x : ℕ). told (x ∷ heardOf F heard01 (plainly 2) ∷ leftOf F heard01 (plainly 2) ∷ [])) (T-doubled 0)
-    ∙ ap (λ (x : ℕ). told (4 ∷ x ∷ leftOf F heard01 (plainly 2) ∷ [])) heard-one
-    ∙ ap (λ (x : ℕ). told (4 ∷ 1 ∷ x ∷ [])) left-three
+    ∙ ap (λ (x : ℕ). given (x ∷ heardOf F heard01 (plainly 2) ∷ leftOf F heard01 (plainly 2) ∷ []) []) (T-doubled 0)
+    ∙ ap (λ (x : ℕ). given (4 ∷ x ∷ leftOf F heard01 (plainly 2) ∷ []) []) heard-one
+    ∙ ap (λ (x : ℕ). given (4 ∷ 1 ∷ x ∷ []) []) left-three
 
 draw-below : (q : ℕ) (out : List ℕ) → q < 3 → 2 ≤ length out
-    → drawOf F heard01 2 q out ≡ written (3 ∷ drawn F heard01 (plainly 2) q .number ∷ []) (sentence (drawn F heard01 (plainly 2) q .tree) ++ drop 2 out)
+    → drawOf F heard01 2 q out ≡ given (3 ∷ drawn F heard01 (plainly 2) q .number ∷ []) (sentence (drawn F heard01 (plainly 2) q .tree) ++ drop 2 out)
 unfolding drawTo firstThatApplies
 draw-below q out h l =
     answer-accepted (leftOf F heard01 (plainly 2) ∷ drawn F heard01 (plainly 2) q .number ∷ []) out (sentence (drawn F heard01 (plainly 2) q .tree) ++ drop 2 out)
     (rows-pass (remainingRows F heard01 (plainly 2)) ((leb (leftOf F heard01 (plainly 2)) q, 16) ∷ (ltb (length out) 2, 20) ∷ []) refl passes
     ∙ row-passed 16 ((ltb (length out) 2, 20) ∷ []) (lt-leb (leftOf F heard01 (plainly 2)) q (omega (arith, left-three)))
     ∙ row-passed 20 [] (le-ltb (length out) 2 l))
-    ∙ ap (λ (x : ℕ). written (x ∷ drawn F heard01 (plainly 2) q .number ∷ []) (sentence (drawn F heard01 (plainly 2) q .tree) ++ drop 2 out)) left-three
+    ∙ ap (λ (x : ℕ). given (x ∷ drawn F heard01 (plainly 2) q .number ∷ []) (sentence (drawn F heard01 (plainly 2) q .tree) ++ drop 2 out)) left-three
 
 draws-three : (out : List ℕ) → 2 ≤ length out
     → map (λ q. drawOf F heard01 2 q out) (upFrom 0 3)
-    ≡ written (3 ∷ 0 ∷ []) (0 ∷ 0 ∷ drop 2 out) ∷ written (3 ∷ 2 ∷ []) (1 ∷ 0 ∷ drop 2 out) ∷ written (3 ∷ 3 ∷ []) (1 ∷ 1 ∷ drop 2 out) ∷ []
+    ≡ given (3 ∷ 0 ∷ []) (0 ∷ 0 ∷ drop 2 out) ∷ given (3 ∷ 2 ∷ []) (1 ∷ 0 ∷ drop 2 out) ∷ given (3 ∷ 3 ∷ []) (1 ∷ 1 ∷ drop 2 out) ∷ []
 draws-three out l =
     rw (draw-below 0 out (omega arith) l, draw-below 1 out (omega arith) l, draw-below 2 out (omega arith) l, unheard-three)
 
-draw-beyond : (out : List ℕ) → drawOf F heard01 2 3 out ≡ refused 16 out
+draw-beyond : (out : List ℕ) → drawOf F heard01 2 3 out ≡ refused 16 2 out
 unfolding drawTo
 draw-beyond out =
     let e : firstThatApplies (drawRows F heard01 (plainly 2) 3 out) ≡ 16
@@ -235,11 +234,11 @@ G-counts (suc A) m a l u = absurd (omega arith)
 G-prepared : (n : ℕ) → 1 ≤ n → n ≤ 4 → firstThatApplies (preparedRows G n) ≡ 0
 G-prepared n l u = prepared-pass G n G-accepted l (omega arith) (λ A m a b c. G-counts A m a b (omega arith))
 
-G-count : (n t : ℕ) → 1 ≤ n → n ≤ 4 → T (chain G) 0 n ≡ t → countOf G n ≡ told (t ∷ [])
+G-count : (n t : ℕ) → 1 ≤ n → n ≤ 4 → T (chain G) 0 n ≡ t → countOf G n ≡ given (t ∷ []) []
 unfolding countOf
 G-count n t l u e = answer-accepted (T (chain G) 0 n ∷ []) [] [] (G-prepared n l u) ∙ rw e
 
-two-readings : rankOf G (0 ∷ 0 ∷ 0 ∷ []) ≡ record { refusal = 18; figures = 0 ∷ 0 ∷ []; buffer = [] }
+two-readings : rankOf G (0 ∷ 0 ∷ 0 ∷ []) ≡ refused 18 2 []
 unfolding rankOf firstThatApplies trees treesTo metFrom rest
 two-readings =
     let e : firstThatApplies (rankRows G (0 ∷ 0 ∷ 0 ∷ [])) ≡ 18
@@ -268,13 +267,13 @@ examples =
 -- ---- two histories that bar the same
 
 -- a sentence is heard in either exactly if it is 0 1
-said-once : (s : List ℕ) → heard heard01 s ≡ same (0 ∷ 1 ∷ []) s
+heard-once : (s : List ℕ) → heard heard01 s ≡ same (0 ∷ 1 ∷ []) s
 unfolding heard someBelow twoAt recordWords
-said-once s = or-false (same (0 ∷ 1 ∷ []) s)
+heard-once s = or-false (same (0 ∷ 1 ∷ []) s)
 
-said-twice : (s : List ℕ) → heard heardTwice s ≡ same (0 ∷ 1 ∷ []) s
+heard-twice : (s : List ℕ) → heard heardTwice s ≡ same (0 ∷ 1 ∷ []) s
 unfolding heard someBelow twoAt recordWords
-said-twice s = go (same (0 ∷ 1 ∷ []) s)
+heard-twice s = go (same (0 ∷ 1 ∷ []) s)
   where
     go : (b : Bool) → (b || (b || false)) ≡ b
     go true = refl
@@ -289,6 +288,6 @@ logged-twice = (
   example-premises .diary,
   twice-accepted,
   λ s l.
-      let e : heard heard01 s ≡ heard heardTwice s = said-once s ∙ sym (said-twice s) in
+      let e : heard heard01 s ≡ heard heardTwice s = heard-once s ∙ sym (heard-twice s) in
       (λ b. (sym e ∙ b .0, b .1), λ b. (e ∙ b .0, b .1)),
 )

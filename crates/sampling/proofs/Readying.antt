@@ -22,7 +22,7 @@ use Rattle.ranking.specs.Inner.Inside.{readingsIn}
 use Rattle.ranking.specs.Inner.Ranking.{Roomy}
 use Rattle.history.specs.Heard.{sentencesIn}
 use Rattle.sampling.specs.Unheard.{ofLength}
-use Rattle.sampling.specs.Inner.Collect.{numbersIn, ambiguousIn, Collects, Holds, CollectedAs}
+use Rattle.sampling.specs.Inner.Collect.{numbersIn, ambiguousIn, Collects, CollectedIs, CollectedAs}
 use Rattle.sampling.specs.Inner.Preparing.{NumbersSought}
 use Rattle.sampling.specs.declared.heard.Collected.{Collected}
 use Rattle.sampling.specs.declared.heard.Collected.the-variants.{Numbers, Ambiguous}
@@ -89,7 +89,7 @@ module _ {rules totals : List (List ℕ)} {h : List ℕ} {n : ℕ} {numbers : Li
       same : (q : ℕ) → q < 4 → getD after q [] ≡ getD rules q []
       same q l = r .kept q l ∙ k .rows q l
 
-      pub collected-is : {numbers′ : List ℕ} {c d : Collected} → CollectedAs after plan h numbers′ c → c ≡ d → Holds rules h n numbers′ d
+      pub collected-is : {numbers′ : List ℕ} {c d : Collected} → CollectedAs after plan h numbers′ c → c ≡ d → CollectedIs rules h n numbers′ d
       collected-is {numbers′} {d = d} q e =
           let start-is : startIn after ≡ startIn rules = ap (λ (l : List ℕ). getD l 128 0) (same 3 (omega arith)) in
           kept (ruled-same rules after same) start-is d (rw length-is at (collect-case q e))
@@ -103,6 +103,6 @@ module _ {rules totals : List (List ℕ)} {h : List ℕ} {n : ℕ} {numbers : Li
           ambiguity : ruled after ≡ ruled rules → startIn after ≡ startIn rules → ambiguousIn after h n ≡ ambiguousIn rules h n
           ambiguity f g = some-ext (λ s. leb 2 (readingsIn after s)) (λ s. leb 2 (readingsIn rules s)) (ofLength n h) (λ s m. ap (leb 2) (readings f g s))
 
-          kept : ruled after ≡ ruled rules → startIn after ≡ startIn rules → (d : Collected) → Holds after h n numbers′ d → Holds rules h n numbers′ d
+          kept : ruled after ≡ ruled rules → startIn after ≡ startIn rules → (d : Collected) → CollectedIs after h n numbers′ d → CollectedIs rules h n numbers′ d
           kept f g (Numbers k) x = (sym (ambiguity f g) ∙ x .0, x .1, x .2 ∙ concat-ext (numbersIn after n) (numbersIn rules n) (sentencesIn h) (λ s m. added f g s))
           kept f g Ambiguous x = sym (ambiguity f g) ∙ x

@@ -4,33 +4,25 @@ use mathlib.Core.List.{List, [], _∷_, _++_}
 use Prim.Native.Nat.{ℕ}
 use lib.ListN.{length, getD, drop}
 use lib.Dec.{ltb, leb}
-use Rattle.answers.specs.Answer.{Row, Answer, answer}
+use Rattle.answers.specs.Answer.{Row, Answer, given, refused, answer}
+use Rattle.answers.specs.Refusals.{refusalNumber}
 use Rattle.grammar.specs.Trees.{leaf, sentence}
 use Rattle.counting.specs.Refusals.{preparedRows}
-use Rattle.counting.specs.Answers.{countNumber}
 use Rattle.history.specs.Refusals.{historyRows}
-use Rattle.history.specs.Answers.{refusalNumber}
 use Rattle.ranking.specs.Answers.{totalOf}
-use Rattle.sampling.specs.declared.prepare.SampleRefusal.{SampleRefusal}
-use Rattle.sampling.specs.declared.prepare.SampleRefusal.the-variants.{Count, History, Ambiguous}
 use Rattle.sampling.specs.declared.remaining.RemainingAnswer.{RemainingAnswer}
-use Rattle.sampling.specs.declared.remaining.RemainingAnswer.the-variants.{Remaining, NotRemaining}
+use Rattle.sampling.specs.declared.remaining.RemainingAnswer.the-variants as remains
 use Rattle.sampling.specs.declared.draw.DrawAnswer.{DrawAnswer}
-use Rattle.sampling.specs.declared.draw.DrawAnswer.the-variants.{Drawn, NotDrawn, Beyond, Short}
+use Rattle.sampling.specs.declared.draw.DrawAnswer.the-variants as draws
 use Rattle.sampling.specs.Question.{Question, plainly}
 use Rattle.sampling.specs.Unheard.{Entry, unheard, heardOf, leftOf, ambiguous}
-
-abbrev pub sampleNumber : SampleRefusal → ℕ
-sampleNumber (Count r) = countNumber r
-sampleNumber (History r) = refusalNumber r
-sampleNumber Ambiguous = 15
 
 -- ---- *Left*
 
 -- the paper's number and figures of each case
-abbrev pub remainingSaid : RemainingAnswer → Answer
-remainingSaid (Remaining t k l) = record { refusal = 0; figures = t ∷ k ∷ l ∷ []; buffer = [] }
-remainingSaid (NotRemaining r) = record { refusal = sampleNumber r; figures = 0 ∷ 0 ∷ 0 ∷ []; buffer = [] }
+abbrev pub remainingSays : RemainingAnswer → Answer
+remainingSays (remains.Given t k l) = given (t ∷ k ∷ l ∷ []) []
+remainingSays (remains.Refused r) = refused (refusalNumber r) 3 []
 
 -- the lines 1 to 8, 9, 10, 11 to 14 and 15, in their order
 abbrev pub remainingRows : (g h : List ℕ) (a : Question) → List Row
@@ -46,11 +38,9 @@ remainingOf g h n = remainingTo g h (plainly n)
 -- ---- *Draw*
 
 -- the paper's number, figures and bytes of each case
-abbrev pub drawSaid : DrawAnswer → List ℕ → Answer
-drawSaid (Drawn l d) out = record { refusal = 0; figures = l ∷ d .0 ∷ []; buffer = out }
-drawSaid (NotDrawn r) out = record { refusal = sampleNumber r; figures = 0 ∷ 0 ∷ []; buffer = out }
-drawSaid Beyond out = record { refusal = 16; figures = 0 ∷ 0 ∷ []; buffer = out }
-drawSaid Short out = record { refusal = 20; figures = 0 ∷ 0 ∷ []; buffer = out }
+abbrev pub drawSays : DrawAnswer → List ℕ → Answer
+drawSays (draws.Given l d) out = given (l ∷ d .0 ∷ []) out
+drawSays (draws.Refused r) out = refused (refusalNumber r) 2 out
 
 -- "the derivation with an unheard sentence that has exactly q such derivations before it": the unheard list's entry q
 abbrev pub drawn : (g h : List ℕ) (a : Question) (q : ℕ) → Entry

@@ -10,7 +10,7 @@ use Prim.Native.Nat.{ℕ, _≤_, _<_}
 use lib.ListN.{length, getD, take, drop}
 use Rattle.lists.specs.Joined.{_∈_, upFrom}
 use Rattle.lists.specs.Ordered.{Pairwise, Exactly}
-use Rattle.answers.specs.Answer.{Answer}
+use Rattle.answers.specs.Answer.{Answer, given, refused}
 use Rattle.grammar.specs.Layout.{nonterminals}
 use Rattle.grammar.specs.Chains.{chain}
 use Rattle.grammar.specs.Refusals.{Accepted}
@@ -18,7 +18,7 @@ use Rattle.grammar.specs.Trees.{Tree, sentence, Before}
 use Rattle.counting.specs.Totals.{T}
 use Rattle.counting.specs.Refusals.{most}
 use Rattle.ranking.specs.Answers.{totalOf}
-use Rattle.ranking.specs.Demand2.{Derivation, HasNumber, OneDerivation, told}
+use Rattle.ranking.specs.Demand2.{Derivation, HasNumber, OneDerivation}
 use Rattle.history.specs.Refusals as history
 use Rattle.history.specs.Heard.{heard}
 use Rattle.sampling.specs.Question.{Question}
@@ -57,10 +57,6 @@ shown n a = record { number = numberIn a; words = take n (a .buffer) }
 abbrev pub asShown : Entry → Shown
 asShown e = record { number = e .number; words = sentence (e .tree) }
 
--- a refusal: its number, the figures 0 and the buffer as it was
-abbrev pub refused : (number : ℕ) (out : List ℕ) → Answer
-refused number out = record { refusal = number; figures = 0 ∷ 0 ∷ []; buffer = out }
-
 pub record Demand3 (g h : List ℕ) (a : Question) : Type 0 where
   -- the unheard list has just the derivations whose sentence is unheard, each with its derivation number, in the order above
   pub entries : (e : Entry) → (e ∈ unheard g h a) ↔ (HasNumber g (a .length) (e .tree) (e .number) × (heard h (sentence (e .tree)) ≡ false))
@@ -69,7 +65,7 @@ pub record Demand3 (g h : List ℕ) (a : Question) : Type 0 where
   pub heard-are : Exactly (heardOf g h a) (λ s. (length s ≡ a .length) × (heard h s ≡ true) × ((t : Tree) × OneDerivation g s t))
   pub heard-few : heardOf g h a ≤ totalOf g (a .length)
   -- "Left, as *Left* and every accepted *Draw* give it, is the length of the unheard list."
-  pub left : remainingTo g h a ≡ told (totalOf g (a .length) ∷ heardOf g h a ∷ length (unheard g h a) ∷ [])
+  pub left : remainingTo g h a ≡ given (totalOf g (a .length) ∷ heardOf g h a ∷ length (unheard g h a) ∷ []) []
   pub figures : (q : ℕ) (out : List ℕ) → drawTo g h a q out .refusal ≡ 0 → (d : ℕ) × (drawTo g h a q out .figures ≡ length (unheard g h a) ∷ d ∷ [])
   -- "Now call *Draw* with q from 0 to left - 1 [..], each time with a buffer of at least n bytes, whatever it held. None of these is refused."
   pub accepted : (q : ℕ) (out : List ℕ) → q < length (unheard g h a) → a .length ≤ length out → drawTo g h a q out .refusal ≡ 0
@@ -79,7 +75,7 @@ pub record Demand3 (g h : List ℕ) (a : Question) : Type 0 where
   -- "buffer bytes past the sentence keep their content", whatever is answered
   pub kept : (q : ℕ) (out : List ℕ) → drop (a .length) (drawTo g h a q out .buffer) ≡ drop (a .length) out
   -- "Every q from left to 2^64 - 1 is refused 16." Whatever the buffer.
-  pub beyond : (q : ℕ) (out : List ℕ) → length (unheard g h a) ≤ q → drawTo g h a q out ≡ refused 16 out
+  pub beyond : (q : ℕ) (out : List ℕ) → length (unheard g h a) ≤ q → drawTo g h a q out ≡ refused 16 2 out
 
 -- ---- the corollary: sentences that come once
 

@@ -5,11 +5,10 @@ use mathlib.Core.List.{List, [], _∷_, map}
 use Prim.Native.Nat.{ℕ, _≤_}
 use lib.ListN.{length, drop}
 use Rattle.lists.specs.Joined.{upFrom}
+use Rattle.answers.specs.Answer.{given, refused}
 use Rattle.counting.specs.Answers.{countOf}
 use Rattle.ranking.specs.Answers.{unrankOf, rankOf}
-use Rattle.ranking.specs.Demand2.{told, written}
 use Rattle.sampling.specs.Answers.{remainingOf, drawOf}
-use Rattle.sampling.specs.Demand3.{refused}
 
 -- "Bank F: 2 2 4 0, 1 3, 1 1 1 2, 1 0 1 0, 0 0 0 4, 0 1 0 0."
 abbrev pub F : List ℕ
@@ -47,21 +46,21 @@ heardTwice =
 
 pub record Examples : Type 0 where
   -- "P1: F, length 1: T 0. P2: length 2: T 4. P3: length 16: T 65,536."
-  pub p1 : countOf F 1 ≡ told (0 ∷ [])
-  pub p2 : countOf F 2 ≡ told (4 ∷ [])
-  pub p3 : countOf F 16 ≡ told (65536 ∷ [])
+  pub p1 : countOf F 1 ≡ given (0 ∷ []) []
+  pub p2 : countOf F 2 ≡ given (4 ∷ []) []
+  pub p3 : countOf F 16 ≡ given (65536 ∷ []) []
   -- "P4: F, length 3, number 5: words 1 0 1. P5: number 8: refused 16. P6: sentence 1 0 1: number 5."
-  pub p4 : (out : List ℕ) → 3 ≤ length out → unrankOf F 3 5 out ≡ written (8 ∷ []) (1 ∷ 0 ∷ 1 ∷ drop 3 out)
-  pub p5 : (out : List ℕ) → unrankOf F 3 8 out ≡ record { refusal = 16; figures = 0 ∷ []; buffer = out }
-  pub p6 : rankOf F (1 ∷ 0 ∷ 1 ∷ []) ≡ told (5 ∷ 8 ∷ [])
+  pub p4 : (out : List ℕ) → 3 ≤ length out → unrankOf F 3 5 out ≡ given (8 ∷ []) (1 ∷ 0 ∷ 1 ∷ drop 3 out)
+  pub p5 : (out : List ℕ) → unrankOf F 3 8 out ≡ refused 16 1 out
+  pub p6 : rankOf F (1 ∷ 0 ∷ 1 ∷ []) ≡ given (5 ∷ 8 ∷ []) []
   -- P7, the first line's figures: T 4, heard 1, left 3; then those of the draws 0 to 2
-  pub p7 : remainingOf F heard01 2 ≡ told (4 ∷ 1 ∷ 3 ∷ [])
+  pub p7 : remainingOf F heard01 2 ≡ given (4 ∷ 1 ∷ 3 ∷ []) []
   pub p7-draws : (out : List ℕ) → 2 ≤ length out
       → map (λ q. drawOf F heard01 2 q out) (upFrom 0 3)
-      ≡ written (3 ∷ 0 ∷ []) (0 ∷ 0 ∷ drop 2 out) ∷ written (3 ∷ 2 ∷ []) (1 ∷ 0 ∷ drop 2 out) ∷ written (3 ∷ 3 ∷ []) (1 ∷ 1 ∷ drop 2 out) ∷ []
+      ≡ given (3 ∷ 0 ∷ []) (0 ∷ 0 ∷ drop 2 out) ∷ given (3 ∷ 2 ∷ []) (1 ∷ 0 ∷ drop 2 out) ∷ given (3 ∷ 3 ∷ []) (1 ∷ 1 ∷ drop 2 out) ∷ []
   -- "P8: same diary, draw 3: refused 16."
-  pub p8 : (out : List ℕ) → drawOf F heard01 2 3 out ≡ refused 16 out
+  pub p8 : (out : List ℕ) → drawOf F heard01 2 3 out ≡ refused 16 2 out
   -- "P9: T at 3 is 2, at 4 is 5. P10: sentence 0 0 0: refused 18."
-  pub p9 : countOf G 3 ≡ told (2 ∷ [])
-  pub p9-four : countOf G 4 ≡ told (5 ∷ [])
-  pub p10 : rankOf G (0 ∷ 0 ∷ 0 ∷ []) ≡ record { refusal = 18; figures = 0 ∷ 0 ∷ []; buffer = [] }
+  pub p9 : countOf G 3 ≡ given (2 ∷ []) []
+  pub p9-four : countOf G 4 ≡ given (5 ∷ []) []
+  pub p10 : rankOf G (0 ∷ 0 ∷ 0 ∷ []) ≡ refused 18 2 []

@@ -1,22 +1,20 @@
 // *Draw*: the unheard derivation that has so many unheard ones before it.
 ghost use mathlib.Core.Path.{_≡_};
-ghost use Rattle.sampling.specs.Answers.{drawSaid, drawOf};
+ghost use Rattle.sampling.specs.Answers.{drawSays, drawOf};
 ghost use Rattle.sampling.specs.Inner.Drawing.{DrawSought, drawSkipping};
 ghost use Rattle.sampling.specs.Inner.Preparing.{Room};
 use crate::prepare;
-use crate::prepare::SampleRefusal;
 use crate::prepare::Sampled;
 use crate::question::Question;
 use crate::skip;
 use crate::skip::DrawNumber;
+use answers::refusal::Refusal;
 use ranking::unrank;
 use ranking::unrank::DerivationNumber;
 
 pub enum DrawAnswer {
-    Drawn(u64, DerivationNumber),
-    NotDrawn(SampleRefusal),
-    Beyond,
-    Short,
+    Given(u64, DerivationNumber),
+    Refused(Refusal),
 }
 
 // With the tables and the heard numbers at hand: many draws share one preparation.
@@ -29,18 +27,18 @@ pub fn draw_prepared(
     out: &mut [u8],
 ) -> DrawAnswer
     requires { ⌜ DrawSought (now rules) (now totals) n (now heard) ⌝ }
-    ensures { λ r. ⌜ drawSaid r (now (out .exit)) ≡ drawSkipping (now (rules .entry)) n (now (heard .entry)) (q .0) (now (out .entry)) ⌝ }
+    ensures { λ r. ⌜ drawSays r (now (out .exit)) ≡ drawSkipping (now (rules .entry)) n (now (heard .entry)) (q .0) (now (out .entry)) ⌝ }
 {
     let left = unrank::total(rules, totals, n) - heard.len() as u64;
     if left <= q.0 {
-        return DrawAnswer::Beyond;
+        return DrawAnswer::Refused(Refusal::NumberBeyond);
     }
     if out.len() < n {
-        return DrawAnswer::Short;
+        return DrawAnswer::Refused(Refusal::BufferTooShort);
     }
     let d = skip::skip(q, heard).0;
     unrank::write(rules, totals, n, DerivationNumber(d), out);
-    DrawAnswer::Drawn(left, DerivationNumber(d))
+    DrawAnswer::Given(left, DerivationNumber(d))
 }
 
 // With room for the heard numbers.
@@ -53,7 +51,7 @@ fn draw_in(
     out: &mut [u8],
 ) -> DrawAnswer
     requires { ⌜ Room (now h) (now numbers) ⌝ }
-    ensures { λ r. ⌜ drawSaid r (now (out .exit)) ≡ drawOf (now (g .entry)) (now (h .entry)) n (q .0) (now (out .entry)) ⌝ }
+    ensures { λ r. ⌜ drawSays r (now (out .exit)) ≡ drawOf (now (g .entry)) (now (h .entry)) n (q .0) (now (out .entry)) ⌝ }
 {
     let byte_row = [0u8; 256];
     let mut rules = [byte_row; 4];
@@ -62,14 +60,14 @@ fn draw_in(
     let question = Question { length: n };
     let p = prepare::prepare(g, h, question, &mut rules, &mut totals, numbers);
     match p {
-        Sampled::Refused(r) => DrawAnswer::NotDrawn(r),
+        Sampled::Refused(r) => DrawAnswer::Refused(r),
         Sampled::Ready(k) => draw_prepared(&rules, &totals, n as usize, &numbers[0..k], q, out),
     }
 }
 
 // The room as for *Left*.
 pub fn draw(g: &[u8], h: &[u8], n: u64, q: DrawNumber, out: &mut [u8]) -> DrawAnswer
-    ensures { λ r. ⌜ drawSaid r (now (out .exit)) ≡ drawOf (now (g .entry)) (now (h .entry)) n (q .0) (now (out .entry)) ⌝ }
+    ensures { λ r. ⌜ drawSays r (now (out .exit)) ≡ drawOf (now (g .entry)) (now (h .entry)) n (q .0) (now (out .entry)) ⌝ }
 {
     if h.len() <= 2004 {
         let mut numbers = [0u64; 100];

@@ -1,47 +1,27 @@
 // What *Left* and every *Draw* need: the tables of the grammar, then the heard derivation numbers, rising, each once.
-ghost use mathlib.Core.Path.{_≡_};
 ghost use Prim.Native.Nat.{_≤_};
 ghost use lib.ListN.{length};
 ghost use Rattle.sorting.specs.Inner.Sorted.{SortedAs};
-ghost use Rattle.sampling.specs.Answers.{sampleNumber};
 ghost use Rattle.sampling.specs.Question.{asked};
 ghost use Rattle.ranking.specs.Inner.Ranking.{Roomy};
-ghost use Rattle.sampling.specs.Inner.Preparing.{Lent, NumbersSought, NumbersAs, RecordsSought, RecordedAs, PreparedAs};
+ghost use Rattle.sampling.specs.Inner.Preparing.{Lent, NumbersSought, NumbersAs, RecordsSought, RecordedAs, SampledAs};
 use crate::heard;
 use crate::heard::Collected;
 use crate::question::Question;
+use answers::refusal::Refusal;
 use charts::maps;
 use charts::ready;
 use counting::prepare;
-use counting::prepare::CountRefusal;
 use counting::prepare::Prepared;
 use counting::tallies;
 use grammar::rules;
 use history::checks;
 use history::checks::HistoryAnswer;
-use history::checks::HistoryRefusal;
-
-pub enum SampleRefusal {
-    Count(CountRefusal),
-    History(HistoryRefusal),
-    Ambiguous,
-}
 
 // How many heard numbers there are, or why not.
 pub enum Sampled {
     Ready(usize),
-    Refused(SampleRefusal),
-}
-
-// The refusal's number in document 01's list.
-pub fn refusal_number(r: SampleRefusal) -> u8
-    ensures { λ x. ⌜ x ≡ sampleNumber r ⌝ }
-{
-    match r {
-        SampleRefusal::Count(c) => prepare::refusal_number(c),
-        SampleRefusal::History(d) => checks::refusal_number(d),
-        SampleRefusal::Ambiguous => 15,
-    }
+    Refused(Refusal),
 }
 
 // Numbers of up to 1,000 records into rising order, each once; how many they are. A short history is spared the clearing of much room.
@@ -81,7 +61,7 @@ fn heard_numbers_in(
     let counts = maps::EVERYWHERE;
     let c = heard::collect(&linked, &plan, &mut map, &counts, h, chart, numbers);
     match c {
-        Collected::Ambiguous => Sampled::Refused(SampleRefusal::Ambiguous),
+        Collected::Ambiguous => Sampled::Refused(Refusal::HeardAmbiguous),
         Collected::Numbers(k) => {
             let m = order(&mut numbers[0..k]);
             Sampled::Ready(m)
@@ -122,8 +102,8 @@ fn records(
 {
     let a = checks::check(h);
     match a {
-        HistoryAnswer::Refused(r) => Sampled::Refused(SampleRefusal::History(r)),
-        HistoryAnswer::Accepted(k) => {
+        HistoryAnswer::Refused(r) => Sampled::Refused(r),
+        HistoryAnswer::Given(k) => {
             if k == 0 {
                 return Sampled::Ready(0);
             }
@@ -142,11 +122,11 @@ pub fn prepare(
     numbers: &mut [u64],
 ) -> Sampled
     requires { ⌜ Lent (now h) (now rules) (now totals) (now numbers) ⌝ }
-    ensures { λ s. ⌜ PreparedAs (now (g .entry)) (now (h .entry)) (asked question) (now (rules .exit)) (now (totals .exit)) (now (numbers .exit)) s ⌝ }
+    ensures { λ s. ⌜ SampledAs (now (g .entry)) (now (h .entry)) (asked question) (now (rules .exit)) (now (totals .exit)) (now (numbers .exit)) s ⌝ }
 {
     let p = prepare::prepare(g, question.length, rules, totals);
     match p {
-        Prepared::Refused(r) => Sampled::Refused(SampleRefusal::Count(r)),
+        Prepared::Refused(r) => Sampled::Refused(r),
         Prepared::Ready => records(rules, totals, h, question.length as usize, numbers),
     }
 }

@@ -1,22 +1,22 @@
 // *Left*: how many derivations there are, how many of them are heard, and how many are left.
 ghost use mathlib.Core.Path.{_≡_};
-ghost use Rattle.sampling.specs.Answers.{remainingSaid, remainingOf};
+ghost use Rattle.sampling.specs.Answers.{remainingSays, remainingOf};
 ghost use Rattle.sampling.specs.Inner.Preparing.{Room};
 use crate::prepare;
-use crate::prepare::SampleRefusal;
 use crate::prepare::Sampled;
 use crate::question::Question;
+use answers::refusal::Refusal;
 use ranking::unrank;
 
 pub enum RemainingAnswer {
-    Remaining(u64, u64, u64),
-    NotRemaining(SampleRefusal),
+    Given(u64, u64, u64),
+    Refused(Refusal),
 }
 
 // With room for the heard numbers.
 fn remaining_in(g: &[u8], h: &[u8], n: u64, numbers: &mut [u64]) -> RemainingAnswer
     requires { ⌜ Room (now h) (now numbers) ⌝ }
-    ensures { λ r. ⌜ remainingSaid r ≡ remainingOf (now (g .entry)) (now (h .entry)) n ⌝ }
+    ensures { λ r. ⌜ remainingSays r ≡ remainingOf (now (g .entry)) (now (h .entry)) n ⌝ }
 {
     let byte_row = [0u8; 256];
     let mut rules = [byte_row; 4];
@@ -25,18 +25,18 @@ fn remaining_in(g: &[u8], h: &[u8], n: u64, numbers: &mut [u64]) -> RemainingAns
     let question = Question { length: n };
     let p = prepare::prepare(g, h, question, &mut rules, &mut totals, numbers);
     match p {
-        Sampled::Refused(r) => RemainingAnswer::NotRemaining(r),
+        Sampled::Refused(r) => RemainingAnswer::Refused(r),
         Sampled::Ready(k) => {
             let total = unrank::total(&rules, &totals, n as usize);
             let heard = k as u64;
-            RemainingAnswer::Remaining(total, heard, total - heard)
+            RemainingAnswer::Given(total, heard, total - heard)
         }
     }
 }
 
 // 2,004 bytes have 100 records at most: clearing room for 1,000 numbers is much of the time that a short history takes.
 pub fn remaining(g: &[u8], h: &[u8], n: u64) -> RemainingAnswer
-    ensures { λ r. ⌜ remainingSaid r ≡ remainingOf (now (g .entry)) (now (h .entry)) n ⌝ }
+    ensures { λ r. ⌜ remainingSays r ≡ remainingOf (now (g .entry)) (now (h .entry)) n ⌝ }
 {
     if h.len() <= 2004 {
         let mut numbers = [0u64; 100];

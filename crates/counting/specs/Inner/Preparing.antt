@@ -8,9 +8,9 @@ use Prim.Native.Nat.{ℕ, _≤_}
 use lib.ListN.{length}
 use Rattle.lists.specs.Inner.Tables.{Wide, Kept}
 use Rattle.answers.specs.Answer.{firstThatApplies}
+use Rattle.answers.specs.Refusals.{refusalNumber}
 use Rattle.grammar.specs.Inner.Rules.{Holds, Roomy}
 use Rattle.counting.specs.Refusals.{tooLarge, openRows, preparedRows}
-use Rattle.counting.specs.Answers.{countNumber}
 use Rattle.counting.specs.Inner.Counted.{Counted}
 use Rattle.counting.specs.declared.prepare.Prepared.{Prepared}
 use Rattle.counting.specs.declared.prepare.Prepared.the-variants.{Ready, Refused}
@@ -18,7 +18,7 @@ use Rattle.counting.specs.declared.prepare.Prepared.the-variants.{Ready,
 -- the paper's number of each case
 abbrev pub preparedNumber : Prepared → ℕ
 preparedNumber Ready = 0
-preparedNumber (Refused r) = countNumber r
+preparedNumber (Refused r) = refusalNumber r
 
 -- ---- 1 to 9
 

@@ -7,12 +7,12 @@ use lib.ListN.{length, getD}
 use Rattle.lists.specs.Inner.Tables.{Wide}
 use Rattle.grammar.specs.declared.checks.GrammarAnswer.{GrammarAnswer}
 use Rattle.grammar.specs.Refusals.{grammarRefusal}
-use Rattle.grammar.specs.Answers.{said, checkGrammar}
+use Rattle.grammar.specs.Answers.{grammarSays, checkGrammar}
 use Rattle.grammar.specs.Inner.Rules.{Holds}
 
 -- what reading a grammar answers, and leaves in the table: the rules if it is accepted, and the rows from 4 on as they were
 pub record ReadAs (g : List ℕ) (before after : List (List ℕ)) (r : GrammarAnswer) : Type 0 where
-  pub says : said r ≡ checkGrammar g
+  pub says : grammarSays r ≡ checkGrammar g
   pub holds : grammarRefusal g ≡ 0 → Holds g after
   pub long : length after ≡ length before
   pub wide : Wide after 256

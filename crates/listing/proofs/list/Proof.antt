@@ -21,9 +21,6 @@ prepare-requires c κs = lent-made _ _ (room-all _)
 enum-known-p : tie.Need-enum-known-p
 enum-known-p c = search needs
 
-refusal-number-requires : tie.Need-refusal-number-requires
-refusal-number-requires c κs = search needs
-
 print-refusal-requires : tie.Need-print-refusal-requires
 print-refusal-requires c κs = search needs
 
@@ -69,7 +66,6 @@ list-spec =
     slice-aggregate-prepare-3
     prepare-requires
     enum-known-p
-    refusal-number-requires
     print-refusal-requires
     enum-known-p-2
     slice-aggregate-print-list

@@ -1,6 +1,8 @@
 -- `print_draws` is safe and ends: what is to be written lies within the buffer, and the draw number rises.
 -- Assumes nothing.
 use Prim.Native.Nat.{_-_, _≤_}
+use native.Mathlib.Omega.{arith}
+use mathlib.Core.Logic.{⊎-elim}
 use borrow.Author.Needs.{needs}
 use Rattle.listing.proofs.print_draws.Statement.{statement}
 use Rattle.listing.proofs.print_draws.Tie as tie
@@ -14,11 +16,14 @@ abbrev μ-loop : tie.MeasureT-loop
 loop-holds : tie.Need-loop-holds Inv-loop μ-loop
 loop-holds c = search needs
 
-make-room-requires : tie.Need-make-room-requires Inv-loop μ-loop
-make-room-requires c κs = search needs
+flush-requires : tie.Need-flush-requires Inv-loop μ-loop
+flush-requires c κs = search needs
+
+returns : tie.Need-returns Inv-loop μ-loop
+returns c = search needs
 
 put-drawn-requires : tie.Need-put-drawn-requires Inv-loop μ-loop
-put-drawn-requires c κs = search needs
+put-drawn-requires c κs = (search needs, ⊎-elim (λ w. omega arith) (λ w. omega arith) (c .before .if1 .came))
 
 add-q : tie.Need-add-q Inv-loop μ-loop
 add-q c = search needs
@@ -29,11 +34,11 @@ loop-less c = search needs
 loop-again : tie.Need-loop-again Inv-loop μ-loop
 loop-again c = search needs
 
-flush-requires : tie.Need-flush-requires Inv-loop μ-loop
-flush-requires c κs = search needs
+flush-requires-2 : tie.Need-flush-requires-2 Inv-loop μ-loop
+flush-requires-2 c κs = search needs
 
-returns : tie.Need-returns Inv-loop μ-loop
-returns c = search needs
+returns-2 : tie.Need-returns-2 Inv-loop μ-loop
+returns-2 c = search needs
 
 pub print-draws-spec : {M : Type 1} → statement M
 print-draws-spec =
@@ -42,10 +47,11 @@ print-draws-spec =
     Inv-loop
     μ-loop
     loop-holds
-    make-room-requires
+    flush-requires
+    returns
     put-drawn-requires
     add-q
     loop-less
     loop-again
-    flush-requires
-    returns)
+    flush-requires-2
+    returns-2)

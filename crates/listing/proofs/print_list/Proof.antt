@@ -15,17 +15,20 @@ sub-left c = omega (arith, c .total .ensures, struck-few (c .before .before .pre
 print-figures-requires : tie.Need-print-figures-requires
 print-figures-requires c κs = search needs
 
+returns : tie.Need-returns
+returns c = search needs
+
 print-draws-requires : tie.Need-print-draws-requires
 print-draws-requires c κs = search needs
 
 print-draws-requires-2 : tie.Need-print-draws-requires-2
 print-draws-requires-2 c κs = search needs
 
-returns : tie.Need-returns
-returns c = search needs
-
 returns-2 : tie.Need-returns-2
 returns-2 c = search needs
+
+returns-3 : tie.Need-returns-3
+returns-3 c = search needs
 
 pub print-list-spec : {M : Type 1} → statement M
 print-list-spec =
@@ -34,7 +37,8 @@ print-list-spec =
     total-requires
     sub-left
     print-figures-requires
+    returns
     print-draws-requires
     print-draws-requires-2
-    returns
-    returns-2)
+    returns-2
+    returns-3)

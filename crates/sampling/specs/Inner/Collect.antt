@@ -71,9 +71,9 @@ pub record Collects (rules plan map counts : List (List ℕ)) (h : List ℕ) (to
   pub room : recordsOf h ≤ length numbers
 
 -- the numbers along the chain, or that a sentence has two or more derivations
-abbrev pub Holds : (rules : List (List ℕ)) (h : List ℕ) (n : ℕ) (numbers : List ℕ) → Collected → Type 0
-Holds rules h n numbers (Numbers k) = (ambiguousIn rules h n ≡ false) × (k ≤ recordsOf h) × (take k numbers ≡ concatMap (numbersIn rules n) (sentencesIn h))
-Holds rules h n numbers Ambiguous = ambiguousIn rules h n ≡ true
+abbrev pub CollectedIs : (rules : List (List ℕ)) (h : List ℕ) (n : ℕ) (numbers : List ℕ) → Collected → Type 0
+CollectedIs rules h n numbers (Numbers k) = (ambiguousIn rules h n ≡ false) × (k ≤ recordsOf h) × (take k numbers ≡ concatMap (numbersIn rules n) (sentencesIn h))
+CollectedIs rules h n numbers Ambiguous = ambiguousIn rules h n ≡ true
 
 pub record CollectedAs (rules plan : List (List ℕ)) (h : List ℕ) (numbers : List ℕ) (c : Collected) : Type 0 where
-  pub holds : Holds rules h (lengthIn plan) numbers c
+  pub holds : CollectedIs rules h (lengthIn plan) numbers c

@@ -10,6 +10,7 @@ use lib.ListN.{length, take}
 use Rattle.lists.specs.Joined.{_∈_, concatMap}
 use Rattle.lists.specs.Ordered.{Pairwise}
 use Rattle.answers.specs.Answer.{firstThatApplies}
+use Rattle.answers.specs.Refusals.{refusalNumber}
 use Rattle.counting.specs.Inner.Counted.{Counted}
 use Rattle.counting.specs.Inner.Preparing as tables
 use Rattle.counting.specs.Inner.Preparing.{Tabled}
@@ -19,7 +20,7 @@ use Rattle.history.specs.Heard.{sentencesIn}
 use Rattle.sampling.specs.Question.{Question}
 use Rattle.sampling.specs.Inner.Collect.{barred, numbersIn, ambiguousIn}
 use Rattle.sampling.specs.Unheard.{ambiguous}
-use Rattle.sampling.specs.Answers.{sampleNumber, remainingRows}
+use Rattle.sampling.specs.Answers.{remainingRows}
 use Rattle.sampling.specs.declared.prepare.Sampled.{Sampled}
 use Rattle.sampling.specs.declared.prepare.Sampled.the-variants.{Ready, Refused}
 
@@ -49,7 +50,7 @@ pub record Heard (rules : List (List ℕ)) (h : List ℕ) (n : ℕ) (heard : Lis
 -- these; or that line 15 applies
 abbrev pub Hold : (rules : List (List ℕ)) (h : List ℕ) (n : ℕ) (numbers : List ℕ) → Sampled → Type 0
 Hold rules h n numbers (Ready k) = (k ≤ recordsOf h) × Heard rules h n (take k numbers)
-Hold rules h n numbers (Refused r) = (ambiguousIn rules h n ≡ true) × (sampleNumber r ≡ 15)
+Hold rules h n numbers (Refused r) = (ambiguousIn rules h n ≡ true) × (refusalNumber r ≡ 15)
 
 pub record NumbersAs (rules : List (List ℕ)) (h : List ℕ) (n : ℕ) (numbers : List ℕ) (s : Sampled) : Type 0 where
   pub hold : Hold rules h n numbers s
@@ -57,7 +58,7 @@ pub record NumbersAs (rules : List (List ℕ)) (h : List ℕ) (n : ℕ) (numbers
 -- these of an accepted history; or the first of 11 to 15 that applies
 abbrev pub Recorded : (rules : List (List ℕ)) (h : List ℕ) (n : ℕ) (numbers : List ℕ) → Sampled → Type 0
 Recorded rules h n numbers (Ready k) = Accepted h × (k ≤ recordsOf h) × Heard rules h n (take k numbers)
-Recorded rules h n numbers (Refused r) = sampleNumber r ≡ firstThatApplies (historyRows h ++ ((ambiguousIn rules h n, 15) ∷ []))
+Recorded rules h n numbers (Refused r) = refusalNumber r ≡ firstThatApplies (historyRows h ++ ((ambiguousIn rules h n, 15) ∷ []))
 
 pub record RecordedAs (rules : List (List ℕ)) (h : List ℕ) (n : ℕ) (numbers : List ℕ) (s : Sampled) : Type 0 where
   pub recorded : Recorded rules h n numbers s
@@ -79,10 +80,10 @@ pub record Drawable (g h : List ℕ) (a : Question) (rules totals : List (List �
   pub heard : take k numbers ≡ barred g h a
 
 -- what preparing answers: the refusal, or these
-abbrev pub Prepared : (g h : List ℕ) (a : Question) (rules totals : List (List ℕ)) (numbers : List ℕ) → Sampled → Type 0
-Prepared g h a rules totals numbers (Ready k) = Drawable g h a rules totals numbers k
-Prepared g h a rules totals numbers (Refused r) = sampleNumber r ≡ firstThatApplies (remainingRows g h a)
+abbrev pub SampledIs : (g h : List ℕ) (a : Question) (rules totals : List (List ℕ)) (numbers : List ℕ) → Sampled → Type 0
+SampledIs g h a rules totals numbers (Ready k) = Drawable g h a rules totals numbers k
+SampledIs g h a rules totals numbers (Refused r) = refusalNumber r ≡ firstThatApplies (remainingRows g h a)
 
-pub record PreparedAs (g h : List ℕ) (a : Question) (rules totals : List (List ℕ)) (numbers : List ℕ) (s : Sampled) : Type 0 where
-  pub prepared : Prepared g h a rules totals numbers s
+pub record SampledAs (g h : List ℕ) (a : Question) (rules totals : List (List ℕ)) (numbers : List ℕ) (s : Sampled) : Type 0 where
+  pub prepared : SampledIs g h a rules totals numbers s
   pub room : Room h numbers

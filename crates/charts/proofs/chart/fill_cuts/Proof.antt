@@ -61,7 +61,7 @@ row-at-requires-2 : tie.Need-row-at-requires-2 Inv-loop μ-loop
 row-at-requires-2 c κs = let q = first (c .before .before) .pre .makes in (q .low, omega (arith, within c .1, q .short))
 
 row-at-requires-3 : tie.Need-row-at-requires-3 Inv-loop μ-loop
-row-at-requires-3 c κs = let q = first (c .before .before .before) .pre .makes in (within (c .before) .2, omega (arith, q .short))
+row-at-requires-3 c κs = let q = first (c .before .before .before) .pre .makes in (omega (arith, within (c .before) .2), omega (arith, q .short))
 
 add-split-requires : tie.Need-add-split-requires Inv-loop μ-loop
 add-split-requires c κs =

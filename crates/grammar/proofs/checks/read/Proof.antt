@@ -8,7 +8,6 @@ use Prim.Native.Nat.{ℕ, _+_}
 use native.Mathlib.Omega.{arith}
 use borrow.Author.Needs.{needs}
 use denote.Ref.{now}
-use lib.Dec.{lit<}
 use lib.ListN.{length}
 use Rattle.lists.specs.Searched.{someTo}
 use Rattle.answers.proofs.Refusals.{row-applies, row-passed}
@@ -135,37 +134,37 @@ past7 : (c : tie.Else8) → Passed (bytes6 (e6 (e7 c))) 7
 past7 c = past6 (e7 c) ∙ row-passed 7 _ (all-met _ (once (e7 c)) (omega (arith, entered (c .before), c .if8 .left, sized (e3 (e4 (e5 (e6 (e7 c))))) .bodies)))
 
 returns : tie.Need-returns
-returns c = refused (kept-same (c .before .before .pre .wide)) _ (row-applies 1 _ (short _ (c .if1 .taken))) (lit< tt)
+returns c = refused (kept-same (c .before .before .pre .wide)) _ (row-applies 1 _ (short _ (c .if1 .taken)))
 
 returns-2 : tie.Need-returns-2
 returns-2 c =
     let e = c .before .before in
-    refused (unread e) _ (past1 e ∙ row-applies 2 _ (sym (c .before .out-of-range .ensures) ∙ c .if2 .taken)) (lit< tt)
+    refused (unread e) _ (past1 e ∙ row-applies 2 _ (sym (c .before .out-of-range .ensures) ∙ c .if2 .taken))
 
 returns-3 : tie.Need-returns-3
 returns-3 c =
     let e = c .before .before .before .before .before in
-    refused (unread (e1 e)) _ (past2 e ∙ row-applies 3 _ (size-wrong _ (λ e. omega arith))) (lit< tt)
+    refused (unread (e1 e)) _ (past2 e ∙ row-applies 3 _ (size-wrong _ (λ e. omega arith)))
 
 returns-4 : tie.Need-returns-4
 returns-4 c =
     let e = c .before .before in
-    refused (unread3 e) _ (past3 e ∙ row-applies 4 _ (sym (c .before .faults-in .ensures .bad) ∙ c .if4 .taken)) (lit< tt)
+    refused (unread3 e) _ (past3 e ∙ row-applies 4 _ (sym (c .before .faults-in .ensures .bad) ∙ c .if4 .taken))
 
 returns-5 : tie.Need-returns-5
 returns-5 c =
     let e = c .before in
-    refused (unread3 (e3 e)) _ (past4 e ∙ row-applies 5 _ (link-next _ (sym (e .before .faults-in .ensures .far (e .if4 .left)) ∙ c .if5 .taken))) (lit< tt)
+    refused (unread3 (e3 e)) _ (past4 e ∙ row-applies 5 _ (link-next _ (sym (e .before .faults-in .ensures .far (e .if4 .left)) ∙ c .if5 .taken)))
 
 returns-6 : tie.Need-returns-6
 returns-6 c =
     let e = e4 (c .before .before) in
-    refused (unread3 (e3 e)) _ (past4 e ∙ row-applies 5 _ (link-head _ (sym (c .before .head-above .ensures) ∙ c .if6 .taken))) (lit< tt)
+    refused (unread3 (e3 e)) _ (past4 e ∙ row-applies 5 _ (link-head _ (sym (c .before .head-above .ensures) ∙ c .if6 .taken)))
 
 returns-7 : tie.Need-returns-7
 returns-7 c =
     let b = c .before .before in
-    refused (b .build .ensures .kept) _ (past5 (b .before .before) ∙ row-applies 6 _ (sym (b .build .ensures .says) ∙ c .if7 .taken)) (lit< tt)
+    refused (b .build .ensures .kept) _ (past5 (b .before .before) ∙ row-applies 6 _ (sym (b .build .ensures .says) ∙ c .if7 .taken))
 
 words-from-requires : tie.Need-words-from-requires
 words-from-requires c κs = let l = c .before in (built l .build .ensures .sorted (l .if7 .left) .roomy .long, sized (e3 (e4 (e5 (e6 l)))) .few)
@@ -178,7 +177,6 @@ returns-8 c =
     let l = c .before .before .before .before .before in
     refused (built l .build .ensures .kept) _
     (past6 l ∙ row-applies 7 _ (missed _ (once l) (omega (arith, entered (c .before), c .if8 .taken, sized (e3 (e4 (e5 (e6 l)))) .bodies))))
-    (lit< tt)
 
 repeated-requires : tie.Need-repeated-requires
 repeated-requires c κs = let l = e7 (c .before) in (readable (e4 (e5 (e6 l))), built l .build .ensures .sorted (l .if7 .left))
@@ -186,7 +184,7 @@ repeated-requires c κs = let l = e7 (c .before) in (readable (e4 (e5 (e6 l))), 
 returns-9 : tie.Need-returns-9
 returns-9 c =
     let e = c .before .before .before in
-    refused (built (e7 e) .build .ensures .kept) _ (past7 e ∙ row-applies 8 _ (sym (c .before .repeated .ensures) ∙ c .if9 .taken)) (lit< tt)
+    refused (built (e7 e) .build .ensures .kept) _ (past7 e ∙ row-applies 8 _ (sym (c .before .repeated .ensures) ∙ c .if9 .taken))
 
 returns-10 : tie.Need-returns-10
 returns-10 c =

@@ -8,7 +8,8 @@ use denote.Ref.{now}
 use Rattle.history.specs.Layout.{recordsOf}
 use Rattle.history.specs.Refusals.{Accepted}
 use Rattle.history.proofs.Acceptance.{known}
-use Rattle.history.proofs.Outcome.{log-low, log-high, log-history, log-room, log-accepted, room-full, room-short, room-there, check-accepted, check-refused, number-some}
+use Rattle.history.proofs.Outcome.{log-low, log-high, log-history, log-room, log-accepted, room-full, room-short, room-there, check-accepted, check-refused}
+use Rattle.answers.proofs.Numbers.{number-some}
 use borrow.Author.Needs.{needs}
 use Rattle.history.proofs.append.append.Statement.{statement}
 use Rattle.history.proofs.append.append.Tie as tie
@@ -16,7 +17,7 @@ use Rattle.history.proofs.append.append.Tie as tie
 abbrev bytes : tie.After-a2 → List ℕ
 bytes c = now (c .before .before .before .before .before .before .before .before .args .h)
 
--- what an accepted check has told
+-- what an accepted check has shown
 ok : (c : tie.After-a2) → Accepted (bytes c)
 ok c = check-accepted (bytes c) (c .before .before .check .ensures) (c .a2 .given .1) .0
 
@@ -28,18 +29,6 @@ returns c = log-low _ _ (c .if1 .taken)
 
 returns-2 : tie.Need-returns-2
 returns-2 c = log-high _ _ (c .if2 .taken)
-
-check-requires : tie.Need-check-requires
-check-requires c κs = search needs
-
-enum-known-a : tie.Need-enum-known-a
-enum-known-a c = search needs
-
-enum-known-a-2 : tie.Need-enum-known-a-2
-enum-known-a-2 c = search needs
-
-same-length : tie.Need-same-length
-same-length c = search needs
 
 returns-3 : tie.Need-returns-3
 returns-3 c =
@@ -54,9 +43,6 @@ mul-if4 c = let k = known _ (ok (c .before .before)) .sized in omega (arith, cou
 add-if4 : tie.Need-add-if4
 add-if4 c = let k = known _ (ok (c .before .before)) .sized in omega (arith, count (c .before .before))
 
-same-length-2 : tie.Need-same-length-2
-same-length-2 c = search needs
-
 returns-4 : tie.Need-returns-4
 returns-4 c =
     let a = c .before .before .before in log-room _ _ (omega arith) (omega arith) (ok a) (room-short _ (omega (arith, count a)))
@@ -67,20 +53,11 @@ write-requires c κs =
     let k = known _ (ok a) .sized in
     (record { number = omega (arith, count a); few = omega (arith, count a); size = omega (arith, count a) }, omega arith)
 
-add-t19 : tie.Need-add-t19
-add-t19 c = search needs
-
-same-length-3 : tie.Need-same-length-3
-same-length-3 c = search needs
-
 returns-5 : tie.Need-returns-5
 returns-5 c =
     let a = c .before in
     let s = a .before .before .before .before .before .before .before .before in
     log-history (now (s .args .h)) (now (s .args .sentence)) (omega arith) (omega arith) _ (check-refused _ (a .before .before .check .ensures) (a .a .given .1)) (number-some (a .a .given .0 .0))
-
-same-length-4 : tie.Need-same-length-4
-same-length-4 c = search needs
 
 returns-6 : tie.Need-returns-6
 returns-6 c =
@@ -94,19 +71,19 @@ append-spec =
     (tie.spec
     returns
     returns-2
-    check-requires
-    enum-known-a
-    enum-known-a-2
-    same-length
+    (λ c κs. search needs)
+    (λ c. search needs)
+    (λ c. search needs)
+    (λ c. search needs)
     returns-3
     add-new
     mul-if4
     add-if4
-    same-length-2
+    (λ c. search needs)
     returns-4
     write-requires
-    add-t19
-    same-length-3
+    (λ c. search needs)
+    (λ c. search needs)
     returns-5
-    same-length-4
+    (λ c. search needs)
     returns-6)

@@ -7,6 +7,7 @@ use Prim.Native.Nat.{ℕ}
 use native.Mathlib.Omega.{arith}
 use denote.Ref.{now}
 use lib.Dec.{lit<}
+use Rattle.answers.specs.Answer.{given}
 use Rattle.answers.proofs.Refusals.{row-applies, row-passed}
 use Rattle.history.specs.Layout.{recordsOf}
 use Rattle.history.specs.Refusals.{badSize, badLink}
@@ -84,7 +85,7 @@ returns-5 : tie.Need-returns-5
 returns-5 c =
     let e = e3 c in
     let k = sized (e2 e .before .before) .count in
-    ap (λ (k : ℕ). record { refusal = 0; figures = k ∷ []; buffer = [] }) k
+    ap (λ (k : ℕ). given (k ∷ []) []) k
     ∙ accepted _ (past3 e ∙ row-passed 14 _ (sym (c .before .bad-chain .ensures) ∙ c .if4 .left))
 
 pub check-spec : {M : Type 1} → statement M

@@ -6,7 +6,8 @@ use borrow.Author.Needs.{needs}
 use denote.Ref.{now}
 use Rattle.sampling.specs.Question.{plainly}
 use Rattle.sampling.specs.Inner.Preparing.{Drawable}
-use Rattle.sampling.proofs.Answering.{draw-refused, draw-skipping, draw-sought, lent-made, prepared-case, sample-some}
+use Rattle.sampling.proofs.Answering.{draw-refused, draw-skipping, draw-sought, lent-made, prepared-case}
+use Rattle.answers.proofs.Numbers.{number-some}
 use Rattle.sampling.proofs.draw.draw_in.Statement.{statement}
 use Rattle.sampling.proofs.draw.draw_in.Tie as tie
 
@@ -65,7 +66,7 @@ same-length c = search needs
 returns : tie.Need-returns
 returns c =
     let p = c .before in
-    draw-refused _ _ _ _ _ _ (prepared-case (p .before .before .before .before .before .before .prepare .ensures) (p .p .given .1)) (sample-some (p .p .given .0 .0))
+    draw-refused _ _ _ _ _ _ (prepared-case (p .before .before .before .before .before .before .prepare .ensures) (p .p .given .1)) (number-some (p .p .given .0 .0))
 
 same-length-2 : tie.Need-same-length-2
 same-length-2 c = search needs

@@ -11,7 +11,7 @@ use Rattle.lists.proofs.Tables.{wide-made}
 use Rattle.history.specs.Layout.{recordsOf}
 use Rattle.history.proofs.Acceptance.{known}
 use Rattle.charts.proofs.Mapping.{counts-map}
-use Rattle.sampling.specs.Inner.Collect.{Holds}
+use Rattle.sampling.specs.Inner.Collect.{CollectedIs}
 use Rattle.sampling.specs.declared.heard.Collected.the-variants.{Numbers}
 use Rattle.sampling.proofs.Readying.{counts-asked, asks-ready, asks-collect, collected-is}
 use Rattle.sampling.proofs.Answering.{part-few, heard-sorted}
@@ -40,7 +40,7 @@ found c = c .collect .last .1 .1 .1 .1 .1 .1 .0
 numbered : (c : tie.After-known-told)
     → let k = collected (c .before .before .before) in
     let a = start (counts (copies (readied k))) .args in
-    Holds (now (a .rules)) (now (a .h)) (a .n) (found k) (Numbers (c .before .c .given .0 .0))
+    CollectedIs (now (a .rules)) (now (a .h)) (a .n) (found k) (Numbers (c .before .c .given .0 .0))
 numbered c =
     let k = collected (c .before .before .before) in
     let r = readied k in

@@ -5,7 +5,7 @@ use borrow.Author.Needs.{needs}
 use denote.Ref.{now}
 use Rattle.history.specs.Layout.{recordsOf}
 use Rattle.history.specs.Refusals.{Accepted}
-use Rattle.history.proofs.Outcome.{check-accepted, check-refused, number-some}
+use Rattle.history.proofs.Outcome.{check-accepted, check-refused}
 use Rattle.sampling.proofs.Answering.{none-heard, unaccepted, heard-recorded}
 use Rattle.sampling.proofs.prepare.records.Statement.{statement}
 use Rattle.sampling.proofs.prepare.records.Tie as tie
@@ -38,7 +38,7 @@ heard-numbers-requires c κs =
 returns-2 : tie.Need-returns-2
 returns-2 c =
     let a = c .before in
-    unaccepted _ _ _ _ _ (check-refused _ (a .before .before .check .ensures) (a .a .given .1)) (number-some (a .a .given .0 .0))
+    unaccepted _ _ _ _ _ (check-refused _ (a .before .before .check .ensures) (a .a .given .1))
 
 same-length : tie.Need-same-length
 same-length c = search needs

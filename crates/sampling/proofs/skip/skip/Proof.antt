@@ -50,7 +50,7 @@ loop-again : tie.Need-loop-again Inv-loop μ-loop
 loop-again c =
     let l = c .before .before in
     let m = middle l in
-    search-right (l .before .before .pre .rising) (l .before .loop .inv) (m .0) (m .1) (c .if1 .taken)
+    search-right (l .before .before .pre .rising) (l .before .loop .inv) (m .0) (m .1) (omega (arith, c .if1 .taken))
 
 loop-less-2 : tie.Need-loop-less-2 Inv-loop μ-loop
 loop-less-2 c = let m = middle (c .before .before) in omega (arith, m .0, m .1)
@@ -59,7 +59,7 @@ loop-again-2 : tie.Need-loop-again-2 Inv-loop μ-loop
 loop-again-2 c =
     let l = c .before .before in
     let m = middle l in
-    search-left (l .before .before .pre .rising) (l .before .loop .inv) (m .0) (m .1) (c .if1 .left)
+    search-left (l .before .before .pre .rising) (l .before .loop .inv) (m .0) (m .1) (omega (arith, c .if1 .left))
 
 add-t15 : tie.Need-add-t15 Inv-loop μ-loop
 add-t15 c = let s = c .before .loop .inv in let p = c .before .before .pre in omega (arith, s .ordered, s .inside, p .fits)

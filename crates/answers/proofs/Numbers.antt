@@ -1,0 +1,29 @@
+-- Every refusal has a number above 0, so that none is taken for an acceptance. Written by tools/generate from refusals.txt.
+-- Assumes nothing.
+use Prim.Native.Nat.{_<_}
+use lib.Dec.{lit<}
+use Rattle.answers.specs.Refusals.{refusalNumber}
+use Rattle.answers.specs.declared.refusal.Refusal.{Refusal}
+use Rattle.answers.specs.declared.refusal.Refusal.the-variants.{GrammarTooShort, GrammarOutOfRange, GrammarWrongSize, GrammarBadRule, GrammarBadLink, GrammarRuleMetTwice, GrammarRuleOnNoChain, GrammarEqualRules, BadLength, TooManyDerivations, HistoryWrongSize, HistoryBadRecord, HistoryBadLink, HistoryBadChain, HeardAmbiguous, NumberBeyond, SentenceUnderivable, SentenceAmbiguous, HistoryFull, BufferTooShort}
+
+pub number-some : (r : Refusal) → 0 < refusalNumber r
+number-some GrammarTooShort = lit< tt
+number-some GrammarOutOfRange = lit< tt
+number-some GrammarWrongSize = lit< tt
+number-some GrammarBadRule = lit< tt
+number-some GrammarBadLink = lit< tt
+number-some GrammarRuleMetTwice = lit< tt
+number-some GrammarRuleOnNoChain = lit< tt
+number-some GrammarEqualRules = lit< tt
+number-some BadLength = lit< tt
+number-some TooManyDerivations = lit< tt
+number-some HistoryWrongSize = lit< tt
+number-some HistoryBadRecord = lit< tt
+number-some HistoryBadLink = lit< tt
+number-some HistoryBadChain = lit< tt
+number-some HeardAmbiguous = lit< tt
+number-some NumberBeyond = lit< tt
+number-some SentenceUnderivable = lit< tt
+number-some SentenceAmbiguous = lit< tt
+number-some HistoryFull = lit< tt
+number-some BufferTooShort = lit< tt

@@ -1,0 +1,47 @@
+-- Document 01's number of each refusal (section 'Why a call says no'). Written by tools/generate from refusals.txt.
+-- Assumes nothing: these are definitions.
+use Prim.Native.Nat.{ℕ}
+use Rattle.answers.specs.declared.refusal.Refusal.{Refusal}
+use Rattle.answers.specs.declared.refusal.Refusal.the-variants.{GrammarTooShort, GrammarOutOfRange, GrammarWrongSize, GrammarBadRule, GrammarBadLink, GrammarRuleMetTwice, GrammarRuleOnNoChain, GrammarEqualRules, BadLength, TooManyDerivations, HistoryWrongSize, HistoryBadRecord, HistoryBadLink, HistoryBadChain, HeardAmbiguous, NumberBeyond, SentenceUnderivable, SentenceAmbiguous, HistoryFull, BufferTooShort}
+
+abbrev pub refusalNumber : Refusal → ℕ
+-- the grammar has fewer than 4 bytes
+refusalNumber GrammarTooShort = 1
+-- N, W, R or S is outside its range
+refusalNumber GrammarOutOfRange = 2
+-- the grammar's size is not 4 + N + 4R
+refusalNumber GrammarWrongSize = 3
+-- some rule has a kind, a or b that its layout forbids
+refusalNumber GrammarBadRule = 4
+-- some head or next in the grammar is above R
+refusalNumber GrammarBadLink = 5
+-- a rule is met a second time, walking the chains from nonterminal 0 up
+refusalNumber GrammarRuleMetTwice = 6
+-- a rule is on no chain
+refusalNumber GrammarRuleOnNoChain = 7
+-- one chain holds two rules with the same kind, a and b
+refusalNumber GrammarEqualRules = 8
+-- the length, or the sentence's length, is not 1 to 16
+refusalNumber BadLength = 9
+-- some count up to the length is above 2^64 - 1
+refusalNumber TooManyDerivations = 10
+-- the history has fewer than 4 bytes, K is above 1,000, or it has fewer than 4 + 20K bytes
+refusalNumber HistoryWrongSize = 11
+-- some record has a wrong length, a fourth byte that is not 0, or a non-zero byte beyond its words
+refusalNumber HistoryBadRecord = 12
+-- the history's head or some next is above K
+refusalNumber HistoryBadLink = 13
+-- the history's chain meets a record twice or misses one
+refusalNumber HistoryBadChain = 14
+-- a heard sentence of the length has two or more derivations
+refusalNumber HeardAmbiguous = 15
+-- the number is not below how many there are to choose from
+refusalNumber NumberBeyond = 16
+-- the sentence has no derivation
+refusalNumber SentenceUnderivable = 17
+-- the sentence has two or more derivations
+refusalNumber SentenceAmbiguous = 18
+-- the history has 1,000 records or no room for one more
+refusalNumber HistoryFull = 19
+-- the sentence's buffer is shorter than the length
+refusalNumber BufferTooShort = 20

@@ -1,0 +1,54 @@
+// Why a call says no: document 01's refusals, each with its number there. Written by tools/generate from refusals.txt.
+ghost use mathlib.Core.Path.{_≡_};
+ghost use Rattle.answers.specs.Refusals.{refusalNumber};
+
+pub enum Refusal {
+    GrammarTooShort,
+    GrammarOutOfRange,
+    GrammarWrongSize,
+    GrammarBadRule,
+    GrammarBadLink,
+    GrammarRuleMetTwice,
+    GrammarRuleOnNoChain,
+    GrammarEqualRules,
+    BadLength,
+    TooManyDerivations,
+    HistoryWrongSize,
+    HistoryBadRecord,
+    HistoryBadLink,
+    HistoryBadChain,
+    HeardAmbiguous,
+    NumberBeyond,
+    SentenceUnderivable,
+    SentenceAmbiguous,
+    HistoryFull,
+    BufferTooShort,
+}
+
+// The refusal's number in document 01's list.
+pub fn number(r: Refusal) -> u8
+    ensures { λ x. ⌜ x ≡ refusalNumber r ⌝ }
+{
+    match r {
+        Refusal::GrammarTooShort => 1,
+        Refusal::GrammarOutOfRange => 2,
+        Refusal::GrammarWrongSize => 3,
+        Refusal::GrammarBadRule => 4,
+        Refusal::GrammarBadLink => 5,
+        Refusal::GrammarRuleMetTwice => 6,
+        Refusal::GrammarRuleOnNoChain => 7,
+        Refusal::GrammarEqualRules => 8,
+        Refusal::BadLength => 9,
+        Refusal::TooManyDerivations => 10,
+        Refusal::HistoryWrongSize => 11,
+        Refusal::HistoryBadRecord => 12,
+        Refusal::HistoryBadLink => 13,
+        Refusal::HistoryBadChain => 14,
+        Refusal::HeardAmbiguous => 15,
+        Refusal::NumberBeyond => 16,
+        Refusal::SentenceUnderivable => 17,
+        Refusal::SentenceAmbiguous => 18,
+        Refusal::HistoryFull => 19,
+        Refusal::BufferTooShort => 20,
+    }
+}

@@ -1,0 +1,10 @@
+// The library's version as one number. Written by tools/generate from VERSION.
+ghost use mathlib.Core.Path.{_≡_};
+
+// Major * 10,000 + minor * 100 + patch: a caller holds it against the header's PUMPFENNEL_VERSION_NUMBER.
+#[no_mangle]
+pub extern "C" fn pumpfennel_version() -> u64
+    ensures { λ r. ⌜ r ≡ 200 ⌝ }
+{
+    200
+}
