@@ -267,14 +267,54 @@ class Commands(unittest.TestCase):
             bank.write_bytes(bytes(65536))
             self.assertEqual(self.tool('listing', 5, bank, diary)[:2], (1, b''))
 
+    def test_listing_of_text_or_bytes(self):
+        """Without a history nothing was heard. An empty file is bytes, so that a history that was lost is refused."""
+        with tempfile.TemporaryDirectory() as name:
+            for number, (bank, diary, joined) in enumerate([
+                (text.grammar_text(F).encode(), b'0 1\n', F + history([b'\0\1'])),
+                (text.grammar_text(F).encode(), history([b'\0\1']), F + history([b'\0\1'])),
+                (F, b'# \xc3\xa9: none yet\n', F + history([])),
+                (F, None, F + history([])),
+                (F, b'', F),
+            ]):
+                files = {pathlib.Path(name, f'{number} bank'): bank, pathlib.Path(name, f'{number} diary'): diary}
+                named = [file for file, data in files.items() if data is not None]
+                for file in named:
+                    file.write_bytes(files[file])
+                self.assertEqual(self.tool('listing', 2, *named), (0, bytes([2, len(F), 0]) + joined, ''))
+        said = "pumpfennel-text: -: line 1: neither words, start nor a chain: '9'\n"
+        self.assertEqual(self.tool('listing', 2, '-', given=b'\t9'), (1, b'', said))
+
+    def test_accepted_bytes_are_never_taken_for_text(self):
+        rng = Rng(35)
+        for _ in range(300):
+            bank, diary = random_grammar(rng, 1 + rng.below(32), 1 + rng.below(255), 1 + rng.below(60)), history(random_sentences(rng))
+            self.assertEqual((text.in_bytes('grammar', bank), text.in_bytes('history', diary)), (bank, diary))
+        for bank in (oracle.f_words(253), brimful(), oracle.matrix()):
+            self.assertEqual(text.in_bytes('grammar', bank), bank)
+        for many in (9, 777, 1000):
+            diary = history([bytes([255]) * 16] * many)
+            self.assertEqual(text.in_bytes('history', diary), diary)
+
     def test_errors(self):
         status, output, errors = self.tool('grammar', 'to-bytes', given=b'words 2\nstart zero\n')
         self.assertEqual((status, output, errors), (1, b'', "pumpfennel-text: -: line 2: start is not a number: 'zero'\n"))
         self.assertEqual(self.tool('history', 'to-bytes', given=b'\377')[::2], (1, 'pumpfennel-text: -: this is no text\n'))
-        self.assertEqual(self.tool('grammar', 'to-text', ROOT / 'no such file')[:2], (1, b''))
+        for name, why in [(ROOT / 'no such file', 'No such file or directory'), (ROOT, 'Is a directory')]:
+            self.assertEqual(self.tool('grammar', 'to-text', name), (1, b'', f'pumpfennel-text: {name}: {why}\n'))
         for args in [(), ('grammar',), ('grammar', 'to-hex'), ('listing', '5'), ('grammar', 'to-text', '-', '-')]:
             self.assertEqual(self.tool(*args)[:2], (2, b''))
         self.assertEqual(self.tool('--help')[0], 0)
+
+    def test_streams_that_cannot_be_used(self):
+        for command, status, said in [
+            ('grammar to-text <&-', 1, '-: Bad file descriptor'),
+            ('grammar to-bytes examples/matrix.txt >/dev/full', 3, 'the result cannot be written: No space left on device'),
+            ('grammar to-bytes examples/matrix.txt >&-', 3, 'the result cannot be written: Bad file descriptor'),
+            ('--help >/dev/full', 3, 'the result cannot be written: No space left on device'),
+        ]:
+            run = subprocess.run(['bash', '-c', f'{TOOL} {command}'], cwd=ROOT, capture_output=True, text=True)
+            self.assertEqual((run.returncode, run.stdout, run.stderr), (status, '', f'pumpfennel-text: {said}\n'))
 
 
 if __name__ == '__main__':
