@@ -229,6 +229,38 @@ class Own(unittest.TestCase):
             self.assertEqual(run(*args), (2, b'', f'run: {said}\n'))
 
 
+class Readme(unittest.TestCase):
+    def shown(self):
+        """Each command of the README, with the lines that stand under it."""
+        shown = []
+        for line in (ROOT / 'README.md').read_text().splitlines():
+            if line.startswith('    $ '):
+                shown.append((line[6:], []))
+            elif shown and line.startswith('    '):
+                shown[-1][1].append(line[4:])
+        return shown
+
+    def test_commands_print_what_stands_under_them(self):
+        """Dots stand for further lines, and nothing for any. A file that is shown is there."""
+        held = 0
+        with files() as folder:
+            for command, lines in self.shown():
+                words = command.split()
+                if words[0] == 'cat':
+                    (folder / words[1]).write_text('\n'.join(lines) + '\n')
+                elif words[0] == './run':
+                    at = folder if '--diary' in words and (folder / words[words.index('--diary') + 1]).exists() else ROOT
+                    status, output, _ = run(*words[1:], cwd=at)
+                    self.assertEqual(status, 0, command)
+                    found = output.decode().splitlines()
+                    if lines[-1:] == ['...']:
+                        found, lines = found[:len(lines) - 1], lines[:-1]
+                    if lines:
+                        self.assertEqual(found, lines, command)
+                    held += 1
+        self.assertEqual(held, 3)
+
+
 class Streams(unittest.TestCase):
     """./run where something cannot be read or written."""
 

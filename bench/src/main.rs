@@ -431,7 +431,12 @@ fn draws_table(report: &mut Report, c: &Case) {
 }
 
 fn run(program: &Path, input: &Path, output: Stdio) -> std::process::Child {
-    Command::new(program).stdin(File::open(input).expect("the input")).stdout(output).spawn().expect("a listing program")
+    Command::new(program)
+        .stdin(File::open(input).expect("the input"))
+        .stdout(output)
+        .stderr(Stdio::null())
+        .spawn()
+        .expect("a listing program")
 }
 
 fn output(program: &Path, input: &Path) -> Vec<u8> {

@@ -51,8 +51,8 @@ pairsOf [] = []
 pairsOf (word w ∷ rs) = pairsOf rs
 pairsOf (pair B C ∷ rs) = (B, C) ∷ pairsOf rs
 
--- What holds of the chains of an accepted grammar: every walk along one ends (`Walk` sets no bound on its length), and "every rule stands
--- on just one chain", once.
+-- What holds of the chains of an accepted grammar: every walk along one ends (`Walk` sets no bound on its length), and each rule is met, once.
+-- "Every rule stands on just one chain."
 pub record Chained (g : List ℕ) : Type 0 where
   pub over : (A : ℕ) → A < nonterminals g → Walk (nextOf g) (rules g) (headOf g A) (chainNumbers g A)
   pub once : Distinct (met g)

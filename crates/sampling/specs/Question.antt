@@ -1,4 +1,4 @@
--- What *Left* and *Draw* are asked of a grammar and a history, as one thing: "*Left* (bank, diary, length)", "*Draw* (bank, diary, length, ..)".
+-- What *Left* and *Draw* are asked of a grammar and a history, as one thing: "*Left* (bank, diary, length)", "*Draw* (bank, diary, length, [..])".
 -- Assumes nothing: these are definitions.
 use Prim.Native.Nat.{ℕ}
 use Rattle.sampling.specs.declared.question.Question as code

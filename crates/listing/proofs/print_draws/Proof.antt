@@ -13,32 +13,8 @@ Inv-loop rules totals n heard count out₀ at₀ q₀ out at q = (at ≤ 4096) �
 abbrev μ-loop : tie.MeasureT-loop
 μ-loop rules totals n heard count out₀ at₀ q₀ out at q = count - q
 
-loop-holds : tie.Need-loop-holds Inv-loop μ-loop
-loop-holds c = search needs
-
-flush-requires : tie.Need-flush-requires Inv-loop μ-loop
-flush-requires c κs = search needs
-
-returns : tie.Need-returns Inv-loop μ-loop
-returns c = search needs
-
 put-drawn-requires : tie.Need-put-drawn-requires Inv-loop μ-loop
 put-drawn-requires c κs = (search needs, ⊎-elim (λ w. omega arith) (λ w. omega arith) (c .before .if1 .came))
-
-add-q : tie.Need-add-q Inv-loop μ-loop
-add-q c = search needs
-
-loop-less : tie.Need-loop-less Inv-loop μ-loop
-loop-less c = search needs
-
-loop-again : tie.Need-loop-again Inv-loop μ-loop
-loop-again c = search needs
-
-flush-requires-2 : tie.Need-flush-requires-2 Inv-loop μ-loop
-flush-requires-2 c κs = search needs
-
-returns-2 : tie.Need-returns-2 Inv-loop μ-loop
-returns-2 c = search needs
 
 pub print-draws-spec : {M : Type 1} → statement M
 print-draws-spec =
@@ -46,12 +22,12 @@ print-draws-spec =
     (tie.spec
     Inv-loop
     μ-loop
-    loop-holds
-    flush-requires
-    returns
+    (λ c. search needs)
+    (λ c κs. search needs)
+    (λ c. search needs)
     put-drawn-requires
-    add-q
-    loop-less
-    loop-again
-    flush-requires-2
-    returns-2)
+    (λ c. search needs)
+    (λ c. search needs)
+    (λ c. search needs)
+    (λ c κs. search needs)
+    (λ c. search needs))

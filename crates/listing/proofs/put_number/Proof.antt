@@ -26,15 +26,6 @@ many c =
     let d = c .before .before .decimal in
     omega (arith, few-digits (s .args .v) (d .result) (s .good .1 .1 .0 .1) (d .ensures .1 .0 .2), d .ensures .0 .1)
 
-decimal-requires : tie.Need-decimal-requires
-decimal-requires c κs = search needs
-
-array-share-prefix-digits : tie.Need-array-share-prefix-digits
-array-share-prefix-digits c = search needs
-
-slice-aggregate-put-bytes : tie.Need-slice-aggregate-put-bytes
-slice-aggregate-put-bytes c = search needs
-
 put-bytes-requires : tie.Need-put-bytes-requires
 put-bytes-requires c κs = omega (arith, many c)
 
@@ -45,8 +36,8 @@ pub put-number-spec : {M : Type 1} → statement M
 put-number-spec =
     tie.close
     (tie.spec
-    decimal-requires
-    array-share-prefix-digits
-    slice-aggregate-put-bytes
+    (λ c κs. search needs)
+    (λ c. search needs)
+    (λ c. search needs)
     put-bytes-requires
     returns)

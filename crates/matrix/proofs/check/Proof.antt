@@ -6,14 +6,8 @@ use Rattle.matrix.proofs.Rules.{checked}
 use Rattle.matrix.proofs.check.Statement.{statement}
 use Rattle.matrix.proofs.check.Tie as tie
 
-slice-aggregate-check : tie.Need-slice-aggregate-check
-slice-aggregate-check c = search needs
-
-check-requires : tie.Need-check-requires
-check-requires c κs = search needs
-
 returns : tie.Need-returns
 returns c = c .check .ensures ∙ checked
 
 pub check-spec : {M : Type 1} → statement M
-check-spec = tie.close (tie.spec slice-aggregate-check check-requires returns)
+check-spec = tie.close (tie.spec (λ c. search needs) (λ c κs. search needs) returns)

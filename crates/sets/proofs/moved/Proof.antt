@@ -4,14 +4,8 @@ use Rattle.sets.proofs.Digits.{member-moved}
 use Rattle.sets.proofs.moved.Statement.{statement}
 use Rattle.sets.proofs.moved.Tie as tie
 
-cast-result : tie.Need-cast-result
-cast-result c = search needs
-
-shl-result : tie.Need-shl-result
-shl-result c = search needs
-
 returns : tie.Need-returns
 returns c b h = member-moved _ _ b h
 
 pub moved-spec : {M : Type 1} → statement M
-moved-spec = tie.close (tie.spec cast-result shl-result returns)
+moved-spec = tie.close (tie.spec (λ c. search needs) (λ c. search needs) returns)

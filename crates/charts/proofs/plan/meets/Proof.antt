@@ -7,11 +7,8 @@ use Rattle.sets.proofs.Loops.{some-member}
 use Rattle.charts.proofs.plan.meets.Statement.{statement}
 use Rattle.charts.proofs.plan.meets.Tie as tie
 
-both-requires : tie.Need-both-requires
-both-requires c κs = search needs
-
 returns : tie.Need-returns
 returns c a hs ht = rw (ne-eqb (c .both .result) 0 (some-member (c .both .result) a (c .both .ensures a ∙ rw (hs, ht))))
 
 pub meets-spec : {M : Type 1} → statement M
-meets-spec = tie.close (tie.spec both-requires returns)
+meets-spec = tie.close (tie.spec (λ c κs. search needs) returns)

@@ -14,17 +14,11 @@ start c = c .before .before
 blank : (c : tie.After-link) → let a = start c .args in Blank (c .link .last .0) (now (a .totals)) (a .n)
 blank c = linked-blank (c .link .ensures) (start c .pre .blank)
 
-link-requires : tie.Need-link-requires
-link-requires c κs = search needs
-
 build-requires : tie.Need-build-requires
 build-requires c κs =
     let l = c .before .before .before .before in
     let p = start l .pre in
     record { counted = blank l .counted; plan-long = p .plan-long; map-long = p .map-long; map-wide = p .map-wide }
-
-same-length : tie.Need-same-length
-same-length c = search needs
 
 returns : tie.Need-returns
 returns c =
@@ -36,4 +30,4 @@ returns c =
     }
 
 pub ready-spec : {M : Type 1} → statement M
-ready-spec = tie.close (tie.spec link-requires build-requires same-length returns)
+ready-spec = tie.close (tie.spec (λ c κs. search needs) build-requires (λ c. search needs) returns)

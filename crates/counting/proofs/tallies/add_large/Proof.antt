@@ -17,12 +17,6 @@ returns c = let z = c .if1 .taken in rw z (omega arith)
 returns-2 : tie.Need-returns-2
 returns-2 c = let z = c .if2 .taken in rw z (omega arith)
 
-sub-if3 : tie.Need-sub-if3
-sub-if3 c = omega arith
-
-div-if3 : tie.Need-div-if3
-div-if3 c = omega arith
-
 mul-t7 : tie.Need-mul-t7
 mul-t7 c = omega (arith, fits c)
 
@@ -37,4 +31,4 @@ returns-4 c = no-room _ _ _ (c .before .before .if1 .left) (omega arith) (c .if3
 
 pub add-large-spec : {M : Type 1} → statement M
 add-large-spec =
-    tie.close (tie.spec returns returns-2 sub-if3 div-if3 mul-t7 add-t8 returns-3 returns-4)
+    tie.close (tie.spec returns returns-2 (λ c. omega arith) (λ c. omega arith) mul-t7 add-t8 returns-3 returns-4)

@@ -4,17 +4,11 @@ use borrow.Author.Needs.{needs}
 use Rattle.grammar.proofs.checks.begins.Statement.{statement}
 use Rattle.grammar.proofs.checks.begins.Tie as tie
 
-pairs-from-requires : tie.Need-pairs-from-requires
-pairs-from-requires c κs = search needs
-
 returns : tie.Need-returns
 returns c = (rw (c .before .if1 .taken) (c .pairs-from .ensures .0), c .pairs-from .ensures .1)
-
-words-from-requires : tie.Need-words-from-requires
-words-from-requires c κs = search needs
 
 returns-2 : tie.Need-returns-2
 returns-2 c = (rw (c .before .if1 .left) (c .words-from .ensures .0), c .words-from .ensures .1)
 
 pub begins-spec : {M : Type 1} → statement M
-begins-spec = tie.close (tie.spec pairs-from-requires returns words-from-requires returns-2)
+begins-spec = tie.close (tie.spec (λ c κs. search needs) returns (λ c κs. search needs) returns-2)

@@ -6,14 +6,8 @@ use Rattle.lists.proofs.Tables.{wide-made}
 use Rattle.grammar.proofs.checks.check.Statement.{statement}
 use Rattle.grammar.proofs.checks.check.Tie as tie
 
-slice-aggregate-read : tie.Need-slice-aggregate-read
-slice-aggregate-read c = search needs
-
 read-requires : tie.Need-read-requires
 read-requires c κs = record { long = omega arith; wide = wide-made 4 256 0 }
 
-returns : tie.Need-returns
-returns c = search needs
-
 pub check-spec : {M : Type 1} → statement M
-check-spec = tie.close (tie.spec slice-aggregate-read read-requires returns)
+check-spec = tie.close (tie.spec (λ c. search needs) read-requires (λ c. search needs))

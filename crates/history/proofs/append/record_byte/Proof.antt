@@ -11,22 +11,13 @@ use borrow.Author.Needs.{needs}
 use Rattle.history.proofs.append.record_byte.Statement.{statement}
 use Rattle.history.proofs.append.record_byte.Tie as tie
 
-cast-result : tie.Need-cast-result
-cast-result c = search needs
-
 returns : tie.Need-returns
 unfolding recordBytes
 returns c = rw (c .if1 .taken)
 
-cast-result-2 : tie.Need-cast-result-2
-cast-result-2 c = search needs
-
 returns-2 : tie.Need-returns-2
 unfolding recordBytes
 returns-2 c = rw (c .if2 .taken)
-
-cast-result-3 : tie.Need-cast-result-3
-cast-result-3 c = search needs
 
 returns-3 : tie.Need-returns-3
 unfolding recordBytes
@@ -35,15 +26,6 @@ returns-3 c = rw (c .if3 .taken)
 returns-4 : tie.Need-returns-4
 unfolding recordBytes
 returns-4 c = rw (c .if4 .taken)
-
-sub-if5 : tie.Need-sub-if5
-sub-if5 c = search needs
-
-sub-result : tie.Need-sub-result
-sub-result c = search needs
-
-shared-slice-read-result : tie.Need-shared-slice-read-result
-shared-slice-read-result c = search needs
 
 returns-5 : tie.Need-returns-5
 returns-5 c =
@@ -59,15 +41,15 @@ pub record-byte-spec : {M : Type 1} → statement M
 record-byte-spec =
     tie.close
     (tie.spec
-    cast-result
+    (λ c. search needs)
     returns
-    cast-result-2
+    (λ c. search needs)
     returns-2
-    cast-result-3
+    (λ c. search needs)
     returns-3
     returns-4
-    sub-if5
-    sub-result
-    shared-slice-read-result
+    (λ c. search needs)
+    (λ c. search needs)
+    (λ c. search needs)
     returns-5
     returns-6)

@@ -36,12 +36,6 @@ record-at-requires c κs = let l = c .before .before in let s = start l .pre .0 
 two-at-requires-2 : tie.Need-two-at-requires-2 Inv-loop μ-loop
 two-at-requires-2 c κs = let l = c .before .before .before in let s = start l .pre .0 in omega (arith, l .loop .inv .low)
 
-sub-steps : tie.Need-sub-steps Inv-loop μ-loop
-sub-steps c = omega arith
-
-loop-less : tie.Need-loop-less Inv-loop μ-loop
-loop-less c = omega arith
-
 loop-again : tie.Need-loop-again Inv-loop μ-loop
 loop-again c =
     let l = c .before .before .before .before in
@@ -62,7 +56,7 @@ bad-chain-spec =
     returns
     record-at-requires
     two-at-requires-2
-    sub-steps
-    loop-less
+    (λ c. omega arith)
+    (λ c. omega arith)
     loop-again
     returns-2)

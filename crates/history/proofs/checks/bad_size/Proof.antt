@@ -14,17 +14,8 @@ use Rattle.history.proofs.checks.bad_size.Tie as tie
 returns : tie.Need-returns
 returns c = size-short _ (c .if1 .taken)
 
-two-at-requires : tie.Need-two-at-requires
-two-at-requires c κs = search needs
-
 returns-2 : tie.Need-returns-2
 returns-2 c = size-many _ (omega arith) (omega arith)
-
-mul-result : tie.Need-mul-result
-mul-result c = search needs
-
-add-result : tie.Need-add-result
-add-result c = search needs
 
 returns-3 : tie.Need-returns-3
 returns-3 c =
@@ -34,4 +25,4 @@ returns-3 c =
 
 pub bad-size-spec : {M : Type 1} → statement M
 bad-size-spec =
-    tie.close (tie.spec returns two-at-requires returns-2 mul-result add-result returns-3)
+    tie.close (tie.spec returns (λ c κs. search needs) returns-2 (λ c. search needs) (λ c. search needs) returns-3)

@@ -57,9 +57,6 @@ linked c = links (e2 c) ∙ c .if3 .left
 past3 : (c : tie.Else3) → Passed (bytes (e1 (e2 c))) 3
 past3 c = past2 (e2 c) ∙ row-passed 13 _ (linked c)
 
-bad-size-requires : tie.Need-bad-size-requires
-bad-size-requires c κs = search needs
-
 returns : tie.Need-returns
 returns c = refused _ 11 (row-applies 11 _ (sym (c .before .bad-size .ensures) ∙ c .if1 .taken)) (lit< tt)
 
@@ -92,7 +89,7 @@ pub check-spec : {M : Type 1} → statement M
 check-spec =
     tie.close
     (tie.spec
-    bad-size-requires
+    (λ c κs. search needs)
     returns
     two-at-requires
     test-records-requires

@@ -10,38 +10,17 @@ use borrow.Author.Needs.{needs}
 use Rattle.history.proofs.checks.misfit.Statement.{statement}
 use Rattle.history.proofs.checks.misfit.Tie as tie
 
-add-wide : tie.Need-add-wide
-add-wide c = search needs
-
-shared-slice-read-wide : tie.Need-shared-slice-read-wide
-shared-slice-read-wide c = search needs
-
-wide-requires : tie.Need-wide-requires
-wide-requires c κs = search needs
-
 returns : tie.Need-returns
 returns c = misfit-low _ _ (omega arith)
 
 returns-2 : tie.Need-returns-2
 returns-2 c = misfit-high _ _ (omega arith)
 
-add-if3 : tie.Need-add-if3
-add-if3 c = search needs
-
-shared-slice-read-if3 : tie.Need-shared-slice-read-if3
-shared-slice-read-if3 c = search needs
-
 returns-3 : tie.Need-returns-3
 returns-3 c = misfit-fourth _ _ (omega arith) (omega arith) (c .if3 .taken)
 
 returns-4 : tie.Need-returns-4
 returns-4 c = misfit-full _ _ (omega arith) (c .before .if3 .left)
-
-add-some-nonzero : tie.Need-add-some-nonzero
-add-some-nonzero c = search needs
-
-some-nonzero-requires : tie.Need-some-nonzero-requires
-some-nonzero-requires c κs = search needs
 
 returns-5 : tie.Need-returns-5
 returns-5 c =
@@ -56,15 +35,15 @@ pub misfit-spec : {M : Type 1} → statement M
 misfit-spec =
     tie.close
     (tie.spec
-    add-wide
-    shared-slice-read-wide
-    wide-requires
+    (λ c. search needs)
+    (λ c. search needs)
+    (λ c κs. search needs)
     returns
     returns-2
-    add-if3
-    shared-slice-read-if3
+    (λ c. search needs)
+    (λ c. search needs)
     returns-3
     returns-4
-    add-some-nonzero
-    some-nonzero-requires
+    (λ c. search needs)
+    (λ c κs. search needs)
     returns-5)

@@ -45,18 +45,6 @@ module _ (h : List ℕ) (at n : ℕ) where
 loop-holds : tie.Need-loop-holds Inv-loop μ-loop
 loop-holds c = (omega arith, sym (below-none _ _ (omega arith)))
 
-add-bits : tie.Need-add-bits Inv-loop μ-loop
-add-bits c = omega arith
-
-shared-slice-read-bits : tie.Need-shared-slice-read-bits Inv-loop μ-loop
-shared-slice-read-bits c = omega arith
-
-add-i : tie.Need-add-i Inv-loop μ-loop
-add-i c = omega arith
-
-loop-less : tie.Need-loop-less Inv-loop μ-loop
-loop-less c = omega arith
-
 loop-again : tie.Need-loop-again Inv-loop μ-loop
 loop-again c =
     let l = c .before .before in
@@ -76,9 +64,9 @@ some-nonzero-spec =
     Inv-loop
     μ-loop
     loop-holds
-    add-bits
-    shared-slice-read-bits
-    add-i
-    loop-less
+    (λ c. omega arith)
+    (λ c. omega arith)
+    (λ c. omega arith)
+    (λ c. omega arith)
     loop-again
     returns)

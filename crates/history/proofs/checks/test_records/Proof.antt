@@ -110,9 +110,6 @@ returns c =
 two-at-requires-2 : tie.Need-two-at-requires-2 Inv-loop μ-loop
 two-at-requires-2 c κs = let l = c .before .before .before .before in let s = start l .pre in omega arith
 
-loop-less : tie.Need-loop-less Inv-loop μ-loop
-loop-less c = omega arith
-
 loop-again : tie.Need-loop-again Inv-loop μ-loop
 loop-again c =
     let n = c .before in
@@ -122,9 +119,6 @@ loop-again c =
     (sym (m .misfit .ensures) ∙ n .before .if1 .left)
     (n .two-at2 .ensures .0)
     (c .if2 .taken)
-
-loop-less-2 : tie.Need-loop-less-2 Inv-loop μ-loop
-loop-less-2 c = omega arith
 
 loop-again-2 : tie.Need-loop-again-2 Inv-loop μ-loop
 loop-again-2 c =
@@ -152,8 +146,8 @@ test-records-spec =
     misfit-requires
     returns
     two-at-requires-2
-    loop-less
+    (λ c. omega arith)
     loop-again
-    loop-less-2
+    (λ c. omega arith)
     loop-again-2
     returns-2)

@@ -9,8 +9,5 @@ use Rattle.history.proofs.reader.head.Tie as tie
 two-at-requires : tie.Need-two-at-requires
 two-at-requires c κs = let k = known _ (c .before .pre) in omega arith
 
-returns : tie.Need-returns
-returns c = search needs
-
 pub head-spec : {M : Type 1} → statement M
-head-spec = tie.close (tie.spec two-at-requires returns)
+head-spec = tie.close (tie.spec two-at-requires (λ c. search needs))

@@ -23,9 +23,6 @@ here c = sym (c .before .is-record .ensures) ∙ c .if1 .taken
 record-here : (c : tie.Then1) → Inside (now (entry c .args .h)) (entry c .args .at)
 record-here c = inside (now (entry c .args .h)) (entry c .args .at) (here c)
 
-is-record-requires : tie.Need-is-record-requires
-is-record-requires c κs = search needs
-
 record-at-requires : tie.Need-record-at-requires
 record-at-requires c κs =
     let k = known _ (entry c .pre) in
@@ -50,4 +47,4 @@ returns-2 c =
 
 pub next-at-spec : {M : Type 1} → statement M
 next-at-spec =
-    tie.close (tie.spec is-record-requires record-at-requires two-at-requires returns returns-2)
+    tie.close (tie.spec (λ c κs. search needs) record-at-requires two-at-requires returns returns-2)

@@ -16,23 +16,11 @@ entry c = c .before .before .before
 here : (c : tie.Then1) → isRecord (now (entry c .args .h)) (entry c .args .at) ≡ true
 here c = sym (c .before .is-record .ensures) ∙ c .if1 .taken
 
-is-record-requires : tie.Need-is-record-requires
-is-record-requires c κs = search needs
-
 words-requires : tie.Need-words-requires
 words-requires c κs = (entry c .pre, inside _ _ (here c))
 
 returns : tie.Need-returns
 returns c = c .words .ensures ∙ words-here _ _ (here (c .before))
-
-sub-result : tie.Need-sub-result
-sub-result c = search needs
-
-part-result-start : tie.Need-part-result-start
-part-result-start c = search needs
-
-part-result-end : tie.Need-part-result-end
-part-result-end c = search needs
 
 returns-2 : tie.Need-returns-2
 returns-2 c =
@@ -43,10 +31,10 @@ pub words-at-spec : {M : Type 1} → statement M
 words-at-spec =
     tie.close
     (tie.spec
-    is-record-requires
+    (λ c κs. search needs)
     words-requires
     returns
-    sub-result
-    part-result-start
-    part-result-end
+    (λ c. search needs)
+    (λ c. search needs)
+    (λ c. search needs)
     returns-2)

@@ -13,18 +13,12 @@ use Rattle.history.proofs.records.length.Tie as tie
 record-at-requires : tie.Need-record-at-requires
 record-at-requires c κs = let k = known _ (c .before .pre .0) in omega arith
 
-add-wide : tie.Need-add-wide
-add-wide c = search needs
-
 shared-slice-read-wide : tie.Need-shared-slice-read-wide
 shared-slice-read-wide c = let k = known _ (c .before .before .before .pre .0) in omega arith
-
-wide-requires : tie.Need-wide-requires
-wide-requires c κs = search needs
 
 returns : tie.Need-returns
 returns c = c .wide .ensures .0 ∙ ap (λ (i : ℕ). getD (now (c .before .before .before .before .args .h)) (i + 2) 0) (c .before .before .record-at .ensures)
 
 pub length-spec : {M : Type 1} → statement M
 length-spec =
-    tie.close (tie.spec record-at-requires add-wide shared-slice-read-wide wide-requires returns)
+    tie.close (tie.spec record-at-requires (λ c. search needs) shared-slice-read-wide (λ c κs. search needs) returns)

@@ -21,21 +21,9 @@ words-are h r {at} {n} e f =
 record-at-requires : tie.Need-record-at-requires
 record-at-requires c κs = let k = known _ (c .before .pre .0) in omega arith
 
-add-at : tie.Need-add-at
-add-at c = search needs
-
-length-requires : tie.Need-length-requires
-length-requires c κs = search needs
-
 add-end : tie.Need-add-end
 add-end c =
     let s = c .before .before .before in let i = words-inside (now (s .args .h)) (s .pre .0) (s .args .r) (s .pre .1 .low) (s .pre .1 .high) in omega (arith, i .0, i .1)
-
-sub-result : tie.Need-sub-result
-sub-result c = search needs
-
-part-result-start : tie.Need-part-result-start
-part-result-start c = search needs
 
 part-result-end : tie.Need-part-result-end
 part-result-end c =
@@ -53,10 +41,10 @@ words-spec =
     tie.close
     (tie.spec
     record-at-requires
-    add-at
-    length-requires
+    (λ c. search needs)
+    (λ c κs. search needs)
     add-end
-    sub-result
-    part-result-start
+    (λ c. search needs)
+    (λ c. search needs)
     part-result-end
     returns)

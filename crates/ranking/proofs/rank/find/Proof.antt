@@ -63,12 +63,6 @@ total-requires c κs =
     let p = lettered f in
     count-asks (entry p .pre) (p .set-letters .ensures) (f .fill .ensures) _ (t .start .ensures .0)
 
-same-length : tie.Need-same-length
-same-length c = search needs
-
-same-length-2 : tie.Need-same-length-2
-same-length-2 c = search needs
-
 returns : tie.Need-returns
 returns c =
     let a = c .before in
@@ -76,24 +70,12 @@ returns c =
     let p = lettered f in
     found-as (entry p .pre) (p .set-letters .ensures) (f .fill .ensures) (sym (counted a) ∙ c .if1 .taken)
 
-same-length-3 : tie.Need-same-length-3
-same-length-3 c = search needs
-
-same-length-4 : tie.Need-same-length-4
-same-length-4 c = search needs
-
 returns-2 : tie.Need-returns-2
 returns-2 c =
     let a = c .before .before in
     let f = filled (started a) in
     let p = lettered f in
     found-as (entry p .pre) (p .set-letters .ensures) (f .fill .ensures) (omega (arith, counted a, c .if2 .taken))
-
-sub-choose : tie.Need-sub-choose
-sub-choose c = search needs
-
-part-words-start : tie.Need-part-words-start
-part-words-start c = search needs
 
 part-words-end : tie.Need-part-words-end
 part-words-end c = let a = c .before .before .before .before in entry (lettered (filled (started a))) .pre .ready .blank .counted .short
@@ -108,12 +90,6 @@ choose-requires c κs =
       find-sought (entry p .pre) (p .set-letters .ensures) (f .fill .ensures) _ (t .start .ensures .0) (omega (arith, one-left e)),
       left-length (length (words a)) (replicate 16 zero) (entry p .pre .ready .blank .counted .short),
     )
-
-same-length-5 : tie.Need-same-length-5
-same-length-5 c = search needs
-
-same-length-6 : tie.Need-same-length-6
-same-length-6 c = search needs
 
 returns-3 : tie.Need-returns-3
 returns-3 c =
@@ -134,16 +110,16 @@ find-spec =
     fill-requires
     start-requires
     total-requires
-    same-length
-    same-length-2
+    (λ c. search needs)
+    (λ c. search needs)
     returns
-    same-length-3
-    same-length-4
+    (λ c. search needs)
+    (λ c. search needs)
     returns-2
-    sub-choose
-    part-words-start
+    (λ c. search needs)
+    (λ c. search needs)
     part-words-end
     choose-requires
-    same-length-5
-    same-length-6
+    (λ c. search needs)
+    (λ c. search needs)
     returns-3)

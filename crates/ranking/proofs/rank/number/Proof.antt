@@ -15,22 +15,10 @@ start c = c .before .before .before .before .before
 abbrev prepared : tie.After-enum-told → tie.After-prepare
 prepared c = c .before .before .before .before
 
-slice-aggregate-prepare : tie.Need-slice-aggregate-prepare
-slice-aggregate-prepare c = search needs
-
 prepare-requires : tie.Need-prepare-requires
 prepare-requires c κs =
     let p = c .before .before .before .before .pre in
     record { rules-room = record { long = omega arith; wide = wide-made 13 256 0 }; long = omega (arith, p .counts); wide = p .wide }
-
-enum-known-p : tie.Need-enum-known-p
-enum-known-p c = search needs
-
-enum-told : tie.Need-enum-told
-enum-told c = search needs
-
-slice-aggregate-number-by : tie.Need-slice-aggregate-number-by
-slice-aggregate-number-by c = search needs
 
 number-by-requires : tie.Need-number-by-requires
 number-by-requires c κs =
@@ -38,16 +26,10 @@ number-by-requires c κs =
     let p = prepared e in
     prepared-sought (made-entry 13 256) (omega arith) (start p .pre) (p .prepare .ensures) (e .enum-told .given .1)
 
-same-length : tie.Need-same-length
-same-length c = search needs
-
 returns : tie.Need-returns
 returns c =
     let p = c .before in
     rank-unprepared _ _ (p .p .given .0 .0) (prepared-refused (p .before .before .before .before .prepare .ensures) _ (p .p .given .1))
-
-same-length-2 : tie.Need-same-length-2
-same-length-2 c = search needs
 
 returns-2 : tie.Need-returns-2
 returns-2 c =
@@ -60,13 +42,13 @@ pub number-spec : {M : Type 1} → statement M
 number-spec =
     tie.close
     (tie.spec
-    slice-aggregate-prepare
+    (λ c. search needs)
     prepare-requires
-    enum-known-p
-    enum-told
-    slice-aggregate-number-by
+    (λ c. search needs)
+    (λ c. search needs)
+    (λ c. search needs)
     number-by-requires
-    same-length
+    (λ c. search needs)
     returns
-    same-length-2
+    (λ c. search needs)
     returns-2)

@@ -24,9 +24,6 @@ ready-requires c κs =
     let p = c .before .before .before .before .before .pre in
     record { blank = p .blank; unlinked = p .unlinked; plan-long = refl; map-long = refl; map-wide = wide-made 17 16 0 }
 
-slice-aggregate-find : tie.Need-slice-aggregate-find
-slice-aggregate-find c = search needs
-
 find-requires : tie.Need-find-requires
 find-requires c κs =
     let r = c .before .before .before .before .before .before .before in
@@ -37,25 +34,10 @@ find-requires c κs =
       clean = clean-start _ _ _ (room-low _ (p .blank .counted .short)) (p .zeros);
     }
 
-enum-told : tie.Need-enum-told
-enum-told c = search needs
-
-enum-told-2 : tie.Need-enum-told-2
-enum-told-2 c = search needs
-
-enum-known-f : tie.Need-enum-known-f
-enum-known-f c = search needs
-
 total-requires : tie.Need-total-requires
 total-requires c κs =
     let f = c .before .before .before .before .before in
     searched f .find .ensures .ready .blank .counted
-
-same-length : tie.Need-same-length
-same-length c = search needs
-
-same-length-2 : tie.Need-same-length-2
-same-length-2 c = search needs
 
 returns : tie.Need-returns
 returns c =
@@ -63,23 +45,11 @@ returns c =
     let r = readied f in
     rank-none _ _ (found-case (f .find .ensures) (c .enum-told .given .1)) ∙ rank-kept _ _ _ (r .ready .ensures .kept)
 
-same-length-3 : tie.Need-same-length-3
-same-length-3 c = search needs
-
-same-length-4 : tie.Need-same-length-4
-same-length-4 c = search needs
-
 returns-2 : tie.Need-returns-2
 returns-2 c =
     let f = searched (c .before .before) in
     let r = readied f in
     rank-several _ _ (found-case (f .find .ensures) (c .enum-told2 .given .1)) ∙ rank-kept _ _ _ (r .ready .ensures .kept)
-
-same-length-5 : tie.Need-same-length-5
-same-length-5 c = search needs
-
-same-length-6 : tie.Need-same-length-6
-same-length-6 c = search needs
 
 returns-3 : tie.Need-returns-3
 returns-3 c =
@@ -94,18 +64,18 @@ number-by-spec =
     tie.close
     (tie.spec
     ready-requires
-    slice-aggregate-find
+    (λ c. search needs)
     find-requires
-    enum-told
-    enum-told-2
-    enum-known-f
+    (λ c. search needs)
+    (λ c. search needs)
+    (λ c. search needs)
     total-requires
-    same-length
-    same-length-2
+    (λ c. search needs)
+    (λ c. search needs)
     returns
-    same-length-3
-    same-length-4
+    (λ c. search needs)
+    (λ c. search needs)
     returns-2
-    same-length-5
-    same-length-6
+    (λ c. search needs)
+    (λ c. search needs)
     returns-3)

@@ -6,9 +6,6 @@ use Rattle.ranking.proofs.Answering.{give-beyond, give-short, give-writ
 use Rattle.ranking.proofs.unrank.give.Statement.{statement}
 use Rattle.ranking.proofs.unrank.give.Tie as tie
 
-total-requires : tie.Need-total-requires
-total-requires c κs = search needs
-
 returns : tie.Need-returns
 returns c = let t = c .before .before in give-beyond _ _ _ _ (omega (arith, t .total .ensures, c .if1 .taken))
 
@@ -16,12 +13,6 @@ returns-2 : tie.Need-returns-2
 returns-2 c =
     let t = c .before .before .before in
     give-short _ _ _ _ (omega (arith, t .total .ensures, c .before .if1 .left)) (c .if2 .taken)
-
-write-requires : tie.Need-write-requires
-write-requires c κs = search needs
-
-same-length : tie.Need-same-length
-same-length c = search needs
 
 returns-3 : tie.Need-returns-3
 returns-3 c =
@@ -32,4 +23,4 @@ returns-3 c =
 
 pub give-spec : {M : Type 1} → statement M
 give-spec =
-    tie.close (tie.spec total-requires returns returns-2 write-requires same-length returns-3)
+    tie.close (tie.spec (λ c κs. search needs) returns returns-2 (λ c κs. search needs) (λ c. search needs) returns-3)

@@ -5,9 +5,6 @@ use Rattle.ranking.proofs.Finding.{total-asks, total-given}
 use Rattle.ranking.proofs.unrank.total.Statement.{statement}
 use Rattle.ranking.proofs.unrank.total.Tie as tie
 
-start-requires : tie.Need-start-requires
-start-requires c κs = search needs
-
 count-at-requires : tie.Need-count-at-requires
 count-at-requires c κs = total-asks (c .before .pre) _ (c .start .ensures .0)
 
@@ -15,4 +12,4 @@ returns : tie.Need-returns
 returns c = let s = c .before in total-given (s .before .pre) _ (s .start .ensures .0) _ (c .count-at .ensures)
 
 pub total-spec : {M : Type 1} → statement M
-total-spec = tie.close (tie.spec start-requires count-at-requires returns)
+total-spec = tie.close (tie.spec (λ c κs. search needs) count-at-requires returns)

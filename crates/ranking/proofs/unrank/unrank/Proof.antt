@@ -8,26 +8,8 @@ use Rattle.ranking.proofs.Answering.{prepared-none, prepared-refused, g
 use Rattle.ranking.proofs.unrank.unrank.Statement.{statement}
 use Rattle.ranking.proofs.unrank.unrank.Tie as tie
 
-slice-aggregate-prepare : tie.Need-slice-aggregate-prepare
-slice-aggregate-prepare c = search needs
-
-slice-aggregate-prepare-2 : tie.Need-slice-aggregate-prepare-2
-slice-aggregate-prepare-2 c = search needs
-
 prepare-requires : tie.Need-prepare-requires
 prepare-requires c κs = record { rules-room = record { long = omega arith; wide = wide-made 4 256 0 }; long = omega arith; wide = wide-made 17 32 0 }
-
-enum-known-p : tie.Need-enum-known-p
-enum-known-p c = search needs
-
-enum-told : tie.Need-enum-told
-enum-told c = search needs
-
-slice-aggregate-give : tie.Need-slice-aggregate-give
-slice-aggregate-give c = search needs
-
-slice-aggregate-give-2 : tie.Need-slice-aggregate-give-2
-slice-aggregate-give-2 c = search needs
 
 -- where preparing ended, from where its answer is known
 abbrev prepared : tie.After-enum-told → tie.After-prepare
@@ -41,9 +23,6 @@ returns c =
     let p = c .before in
     give-unprepared _ _ _ _ (p .p .given .0 .0) (prepared-refused (p .before .before .before .before .prepare .ensures) _ (p .p .given .1))
 
-same-length : tie.Need-same-length
-same-length c = search needs
-
 returns-2 : tie.Need-returns-2
 returns-2 c =
     let g = c .before .before in
@@ -55,14 +34,14 @@ pub unrank-spec : {M : Type 1} → statement M
 unrank-spec =
     tie.close
     (tie.spec
-    slice-aggregate-prepare
-    slice-aggregate-prepare-2
+    (λ c. search needs)
+    (λ c. search needs)
     prepare-requires
-    enum-known-p
-    enum-told
-    slice-aggregate-give
-    slice-aggregate-give-2
+    (λ c. search needs)
+    (λ c. search needs)
+    (λ c. search needs)
+    (λ c. search needs)
     give-requires
     returns
-    same-length
+    (λ c. search needs)
     returns-2)

@@ -10,26 +10,11 @@ use Rattle.ranking.proofs.Finding.{rest-kept, give-sought, give-found}
 use Rattle.ranking.proofs.unrank.write.Statement.{statement}
 use Rattle.ranking.proofs.unrank.write.Tie as tie
 
-start-requires : tie.Need-start-requires
-start-requires c κs = search needs
-
-sub-choose : tie.Need-sub-choose
-sub-choose c = search needs
-
-part-choose-start : tie.Need-part-choose-start
-part-choose-start c = search needs
-
-part-choose-end : tie.Need-part-choose-end
-part-choose-end c = search needs
-
 choose-requires : tie.Need-choose-requires
 choose-requires c κs =
     let t = c .before .before .before in
     let s = t .before .before in
     (give-sought (s .pre) counts-map _ (t .start .ensures .0), left-length (s .args .n) (now (s .args .out)) (s .pre .room))
-
-same-length : tie.Need-same-length
-same-length c = search needs
 
 returns : tie.Need-returns
 returns c =
@@ -42,10 +27,10 @@ pub write-spec : {M : Type 1} → statement M
 write-spec =
     tie.close
     (tie.spec
-    start-requires
-    sub-choose
-    part-choose-start
-    part-choose-end
+    (λ c κs. search needs)
+    (λ c. search needs)
+    (λ c. search needs)
+    (λ c. search needs)
     choose-requires
-    same-length
+    (λ c. search needs)
     returns)

@@ -9,9 +9,6 @@ use Rattle.sampling.proofs.draw.draw_prepared.Tie as tie
 abbrev start : tie.After-total → tie.Start
 start c = c .before .before .before
 
-total-requires : tie.Need-total-requires
-total-requires c κs = search needs
-
 sub-left : tie.Need-sub-left
 sub-left c = omega (arith, c .total .ensures, struck-few (start c .pre))
 
@@ -33,9 +30,6 @@ write-requires c κs =
     let t = e .before .before .before in
     skip-sought (start t .pre) _ _ _ (omega (arith, t .total .ensures, e .before .if1 .left)) (k .skip .ensures) (e .if2 .left)
 
-same-length : tie.Need-same-length
-same-length c = search needs
-
 returns-3 : tie.Need-returns-3
 returns-3 c =
     let w = c .before .before in
@@ -48,11 +42,11 @@ pub draw-prepared-spec : {M : Type 1} → statement M
 draw-prepared-spec =
     tie.close
     (tie.spec
-    total-requires
+    (λ c κs. search needs)
     sub-left
     returns
     returns-2
     skip-requires
     write-requires
-    same-length
+    (λ c. search needs)
     returns-3)

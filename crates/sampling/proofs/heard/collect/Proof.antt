@@ -3,7 +3,7 @@
 -- Assumes nothing.
 use mathlib.Core.Path.{_≡_, refl, _∙_}
 use mathlib.Core.List.{List}
-use Prim.Native.Nat.{ℕ, _≤_, _<_}
+use Prim.Native.Nat.{ℕ, _<_}
 use native.Mathlib.Omega.{arith}
 use borrow.Author.Needs.{needs}
 use denote.Ref.{now}
@@ -94,9 +94,6 @@ returns c =
     let l = c .before .before in
     collect-end _ (l .loop .inv .0) (start l .pre .diary) (c .before .sentence .ensures) (c .if1 .taken)
 
-slice-aggregate-find-heard : tie.Need-slice-aggregate-find-heard Inv-loop μ-loop
-slice-aggregate-find-heard c = search needs
-
 find-heard-requires : tie.Need-find-heard-requires Inv-loop μ-loop
 find-heard-requires c κs =
     let l = at-loop (c .before .before .before) in
@@ -104,9 +101,6 @@ find-heard-requires c κs =
 
 after-requires : tie.Need-after-requires Inv-loop μ-loop
 after-requires c κs = start (at-loop (heard (c .before .before))) .pre .diary
-
-enum-told : tie.Need-enum-told Inv-loop μ-loop
-enum-told c = search needs
 
 loop-less : tie.Need-loop-less Inv-loop μ-loop
 loop-less c = less (c .before .before)
@@ -125,9 +119,6 @@ loop-again c =
       l .inv .5,
     )
 
-enum-told-2 : tie.Need-enum-told-2 Inv-loop μ-loop
-enum-told-2 c = search needs
-
 same-length-3 : tie.Need-same-length-3 Inv-loop μ-loop
 same-length-3 c = rows (told (c .before .before))
 
@@ -139,9 +130,6 @@ returns-2 c =
     let t = told (c .before .before) in
     let e = heard t in
     collect-many (plan e) (at-loop e .loop .inv .0) (read e) (t .find-heard .ensures) (c .enum-told2 .given .1)
-
-enum-known-f : tie.Need-enum-known-f Inv-loop μ-loop
-enum-known-f c = search needs
 
 mul-numbers : tie.Need-mul-numbers Inv-loop μ-loop
 mul-numbers c = omega (arith, room (heard (told (c .before .before .before))) .0)
@@ -181,17 +169,17 @@ collect-spec =
     same-length
     same-length-2
     returns
-    slice-aggregate-find-heard
+    (λ c. search needs)
     find-heard-requires
     after-requires
-    enum-told
+    (λ c. search needs)
     loop-less
     loop-again
-    enum-told-2
+    (λ c. search needs)
     same-length-3
     same-length-4
     returns-2
-    enum-known-f
+    (λ c. search needs)
     mul-numbers
     slice-write-numbers
     add-count

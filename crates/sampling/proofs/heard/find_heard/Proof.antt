@@ -16,20 +16,11 @@ entry c = c .before .before .before
 long : (c : tie.Else1) → length (now (entry (c .before) .args .s)) ≡ lengthIn (now (entry (c .before) .args .plan))
 long c = c .if1 .left ∙ c .before .length .ensures
 
-length-requires : tie.Need-length-requires
-length-requires c κs = search needs
-
 returns : tie.Need-returns
 returns c = let a = c .before in heard-other (entry a .pre) (λ e. c .if1 .taken (e ∙ sym (a .length .ensures)))
 
 find-requires : tie.Need-find-requires
 find-requires c κs = let e = c .before .before .before in heard-sought (entry (e .before) .pre) (long e)
-
-same-length : tie.Need-same-length
-same-length c = search needs
-
-same-length-2 : tie.Need-same-length-2
-same-length-2 c = search needs
 
 returns-2 : tie.Need-returns-2
 returns-2 c =
@@ -38,4 +29,4 @@ returns-2 c =
     heard-found (entry (e .before) .pre) (long e) (f .find .ensures)
 
 pub find-heard-spec : {M : Type 1} → statement M
-find-heard-spec = tie.close (tie.spec length-requires returns find-requires same-length same-length-2 returns-2)
+find-heard-spec = tie.close (tie.spec (λ c κs. search needs) returns find-requires (λ c. search needs) (λ c. search needs) returns-2)

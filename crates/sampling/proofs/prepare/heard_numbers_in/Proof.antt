@@ -55,14 +55,8 @@ lengthy c = omega (arith, c .collect .kept .1 .1 .1 .1 .1 .1 .0, start (counts (
 copy-requires : tie.Need-copy-requires
 copy-requires c κs = let p = c .before .before .before .pre in counts-asked (p .0) (p .1)
 
-slice-aggregate-copy : tie.Need-slice-aggregate-copy
-slice-aggregate-copy c = search needs
-
 copy-requires-2 : tie.Need-copy-requires-2
 copy-requires-2 c κs = (start (c .before .before) .pre .0 .counted .table .long, omega arith)
-
-slice-aggregate-ready : tie.Need-slice-aggregate-ready
-slice-aggregate-ready c = search needs
 
 ready-requires : tie.Need-ready-requires
 ready-requires c κs =
@@ -71,9 +65,6 @@ ready-requires c κs =
     let s = start a .pre in
     asks-ready (s .0) (s .1) (a .copy .ensures) (p .copy2 .ensures) refl refl (wide-made 17 16 0)
 
-slice-aggregate-collect : tie.Need-slice-aggregate-collect
-slice-aggregate-collect c = search needs
-
 collect-requires : tie.Need-collect-requires
 collect-requires c κs =
     let r = c .before .before .before .before .before .before .before in
@@ -81,18 +72,6 @@ collect-requires c κs =
     let a = counts p in
     let s = start a .pre in
     asks-collect (s .0) (s .1) (a .copy .ensures) (p .copy2 .ensures) (r .ready .ensures) counts-map
-
-enum-told : tie.Need-enum-told
-enum-told c = search needs
-
-enum-known-c : tie.Need-enum-known-c
-enum-known-c c = search needs
-
-sub-order : tie.Need-sub-order
-sub-order c = search needs
-
-part-order-start : tie.Need-part-order-start
-part-order-start c = search needs
 
 part-order-end : tie.Need-part-order-end
 part-order-end c = let n = numbered c in let l = lengthy (collected (c .before .before .before)) in omega (arith, n .1, l)
@@ -103,12 +82,6 @@ order-requires c κs =
     let d = start (counts (copies (readied (collected (c .before .before .before .before))))) .pre .0 .diary in
     part-few (c .before .before .c .given .0 .0) 1000 (found (collected (c .before .before .before .before))) (omega (arith, n .1, known _ d .sized .few))
 
-same-length : tie.Need-same-length
-same-length c = search needs
-
-same-length-2 : tie.Need-same-length-2
-same-length-2 c = search needs
-
 returns : tie.Need-returns
 returns c =
     let k = collected (c .before .before) in
@@ -117,9 +90,6 @@ returns c =
     let a = counts p in
     let s = start a .pre in
     record { hold = (collected-is (s .0) (s .1) (a .copy .ensures) (p .copy2 .ensures) (r .ready .ensures) (k .collect .ensures) (c .enum-told .given .1), refl) }
-
-same-length-3 : tie.Need-same-length-3
-same-length-3 c = search needs
 
 same-length-4 : tie.Need-same-length-4
 same-length-4 c =
@@ -137,21 +107,21 @@ heard-numbers-in-spec =
     tie.close
     (tie.spec
     copy-requires
-    slice-aggregate-copy
+    (λ c. search needs)
     copy-requires-2
-    slice-aggregate-ready
+    (λ c. search needs)
     ready-requires
-    slice-aggregate-collect
+    (λ c. search needs)
     collect-requires
-    enum-told
-    enum-known-c
-    sub-order
-    part-order-start
+    (λ c. search needs)
+    (λ c. search needs)
+    (λ c. search needs)
+    (λ c. search needs)
     part-order-end
     order-requires
-    same-length
-    same-length-2
+    (λ c. search needs)
+    (λ c. search needs)
     returns
-    same-length-3
+    (λ c. search needs)
     same-length-4
     returns-2)

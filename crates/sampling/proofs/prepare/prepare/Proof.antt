@@ -16,38 +16,17 @@ prepared c = c .before .before .before .before
 prepare-requires : tie.Need-prepare-requires
 prepare-requires c κs = c .before .before .before .before .before .pre .tables
 
-enum-known-p : tie.Need-enum-known-p
-enum-known-p c = search needs
-
-enum-told : tie.Need-enum-told
-enum-told c = search needs
-
 records-requires : tie.Need-records-requires
 records-requires c κs =
     let e = c .before .before .before in
     let p = prepared e in
     record { counted = p .prepare .ensures .ready (e .enum-told .given .1) .counted; room = start p .pre .room }
 
-same-length : tie.Need-same-length
-same-length c = search needs
-
-same-length-2 : tie.Need-same-length-2
-same-length-2 c = search needs
-
 returns : tie.Need-returns
 returns c =
     let q = c .before in
     let p = q .before .before .before .before in
     unprepared _ _ _ (q .p .given .0 .0) (prepared-refused (p .prepare .ensures) _ (q .p .given .1)) (start p .pre .room)
-
-same-length-3 : tie.Need-same-length-3
-same-length-3 c = search needs
-
-same-length-4 : tie.Need-same-length-4
-same-length-4 c = search needs
-
-same-length-5 : tie.Need-same-length-5
-same-length-5 c = search needs
 
 returns-2 : tie.Need-returns-2
 returns-2 c =
@@ -63,13 +42,13 @@ prepare-spec =
     tie.close
     (tie.spec
     prepare-requires
-    enum-known-p
-    enum-told
+    (λ c. search needs)
+    (λ c. search needs)
     records-requires
-    same-length
-    same-length-2
+    (λ c. search needs)
+    (λ c. search needs)
     returns
-    same-length-3
-    same-length-4
-    same-length-5
+    (λ c. search needs)
+    (λ c. search needs)
+    (λ c. search needs)
     returns-2)

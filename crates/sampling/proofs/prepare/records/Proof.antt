@@ -17,15 +17,6 @@ start c = c .before .before .before
 diary : (c : tie.After-a2) → let h = now (start (c .before .before) .args .h) in Accepted h × (c .a2 .given .0 .0 ≡ recordsOf h)
 diary c = check-accepted _ (c .before .before .check .ensures) (c .a2 .given .1)
 
-check-requires : tie.Need-check-requires
-check-requires c κs = search needs
-
-enum-known-a : tie.Need-enum-known-a
-enum-known-a c = search needs
-
-enum-known-a-2 : tie.Need-enum-known-a-2
-enum-known-a-2 c = search needs
-
 returns : tie.Need-returns
 returns c = let a = c .before .before in let d = diary a in record { recorded = none-heard _ _ _ (now (start (a .before .before) .args .numbers)) (d .0) (sym (d .1) ∙ c .if1 .taken) }
 
@@ -40,9 +31,6 @@ returns-2 c =
     let a = c .before in
     unaccepted _ _ _ _ _ (check-refused _ (a .before .before .check .ensures) (a .a .given .1))
 
-same-length : tie.Need-same-length
-same-length c = search needs
-
 returns-3 : tie.Need-returns-3
 returns-3 c =
     let k = c .before .before in
@@ -53,11 +41,11 @@ pub records-spec : {M : Type 1} → statement M
 records-spec =
     tie.close
     (tie.spec
-    check-requires
-    enum-known-a
-    enum-known-a-2
+    (λ c κs. search needs)
+    (λ c. search needs)
+    (λ c. search needs)
     returns
     heard-numbers-requires
     returns-2
-    same-length
+    (λ c. search needs)
     returns-3)

@@ -21,26 +21,8 @@ drawable : (c : tie.After-p2)
     Drawable (now (s .g)) (now (s .h)) (plainly (s .n)) (last .1 .1 .1 .0) (last .1 .1 .1 .1 .0) (last .1 .1 .1 .1 .1 .0) (c .p2 .given .0 .0)
 drawable c = prepared-case (called c .prepare .ensures) (c .p2 .given .1)
 
-slice-aggregate-prepare : tie.Need-slice-aggregate-prepare
-slice-aggregate-prepare c = search needs
-
-slice-aggregate-prepare-2 : tie.Need-slice-aggregate-prepare-2
-slice-aggregate-prepare-2 c = search needs
-
 prepare-requires : tie.Need-prepare-requires
 prepare-requires c κs = lent-made _ _ (c .before .before .before .before .before .before .pre)
-
-enum-known-p : tie.Need-enum-known-p
-enum-known-p c = search needs
-
-enum-known-p-2 : tie.Need-enum-known-p-2
-enum-known-p-2 c = search needs
-
-slice-aggregate-total : tie.Need-slice-aggregate-total
-slice-aggregate-total c = search needs
-
-slice-aggregate-total-2 : tie.Need-slice-aggregate-total-2
-slice-aggregate-total-2 c = search needs
 
 total-requires : tie.Need-total-requires
 total-requires c κs = drawable (c .before .before .before) .tabled .counted
@@ -50,16 +32,10 @@ sub-t27 c =
     let p = c .before .before .before .before in
     heard-few _ _ _ (drawable p) (called p .prepare .ensures .room) _ (c .total .ensures)
 
-same-length : tie.Need-same-length
-same-length c = search needs
-
 returns : tie.Need-returns
 returns c =
     let p = c .before in
     left-refused _ _ _ _ (prepared-case (p .before .before .before .before .before .before .prepare .ensures) (p .p .given .1)) (number-some (p .p .given .0 .0))
-
-same-length-2 : tie.Need-same-length-2
-same-length-2 c = search needs
 
 returns-2 : tie.Need-returns-2
 returns-2 c =
@@ -70,16 +46,16 @@ pub remaining-in-spec : {M : Type 1} → statement M
 remaining-in-spec =
     tie.close
     (tie.spec
-    slice-aggregate-prepare
-    slice-aggregate-prepare-2
+    (λ c. search needs)
+    (λ c. search needs)
     prepare-requires
-    enum-known-p
-    enum-known-p-2
-    slice-aggregate-total
-    slice-aggregate-total-2
+    (λ c. search needs)
+    (λ c. search needs)
+    (λ c. search needs)
+    (λ c. search needs)
     total-requires
     sub-t27
-    same-length
+    (λ c. search needs)
     returns
-    same-length-2
+    (λ c. search needs)
     returns-2)

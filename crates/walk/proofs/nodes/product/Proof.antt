@@ -4,12 +4,6 @@ use borrow.Author.Needs.{needs}
 use Rattle.walk.proofs.nodes.product.Statement.{statement}
 use Rattle.walk.proofs.nodes.product.Tie as tie
 
-total-requires : tie.Need-total-requires
-total-requires c κs = search needs
-
-total-requires-2 : tie.Need-total-requires-2
-total-requires-2 c κs = search needs
-
 mul-result : tie.Need-mul-result
 mul-result c = rw (c .before .total .ensures, c .total2 .ensures) (omega (arith, c .before .before .pre .fits))
 
@@ -17,4 +11,4 @@ returns : tie.Need-returns
 returns c = cc
 
 pub product-spec : {M : Type 1} → statement M
-product-spec = tie.close (tie.spec total-requires total-requires-2 mul-result returns)
+product-spec = tie.close (tie.spec (λ c κs. search needs) (λ c κs. search needs) mul-result returns)
