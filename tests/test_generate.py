@@ -9,7 +9,7 @@ import unittest
 ROOT = pathlib.Path(__file__).resolve().parent.parent
 MARKED = ['include/pumpfennel.h', 'bindings/rust/src/refusal.rs', 'README.md']
 CARGO = ['bindings/rust/Cargo.toml', 'bindings/rust/Cargo.lock']
-CRATES = ['crates/answers/src/refusal.rt', 'crates/answers/specs/Refusals.antt',
+CRATES = ['crates/answers/src/refusal.rt', 'crates/answers/specs/Inner/Refusals.antt',
           'crates/answers/proofs/refusal/number/Proof.antt', 'crates/answers/proofs/Numbers.antt',
           'crates/listing/src/meanings.rt']
 VERSIONED = ['crates/pumpfennel/src/version.rt']
@@ -75,7 +75,7 @@ class Generate(unittest.TestCase):
                     '            Refusal::PatternBadWord => "a letter is W or more",\n'],
                 'README.md': ['| 21 | `PatternBadWord` | a letter is W or more |\n\n'],
                 'crates/answers/src/refusal.rt': ['    PatternBadWord,\n}', '        Refusal::PatternBadWord => 21,\n    }'],
-                'crates/answers/specs/Refusals.antt': [
+                'crates/answers/specs/Inner/Refusals.antt': [
                     ', PatternBadWord}\n', '-- a letter is W or more\nrefusalNumber PatternBadWord = 21\n'],
                 'crates/answers/proofs/Numbers.antt': [', PatternBadWord}\n', 'number-some PatternBadWord = lit< tt\n'],
                 'crates/answers/proofs/refusal/number/Proof.antt': ['    (λ c. rw (c .enum-told21 .given .1)))\n'],

@@ -1,3 +1,3 @@
 pub mod Answer
 pub mod Length
-pub mod Refusals
+pub mod Inner

@@ -1,6 +1,6 @@
 // Why a call says no: document 01's refusals, each with its number there. Written by tools/generate from refusals.txt.
 ghost use mathlib.Core.Path.{_≡_};
-ghost use Rattle.answers.specs.Refusals.{refusalNumber};
+ghost use Rattle.answers.specs.Inner.Refusals.{refusalNumber};
 
 pub enum Refusal {
     GrammarTooShort,

@@ -11,7 +11,7 @@ use lib.ListN.{length}
 use Rattle.lists.proofs.Tests.{within-low, within-high, within-both}
 use Rattle.answers.specs.Answer.{Answer, firstThatApplies}
 use Rattle.answers.specs.Length.{badLength}
-use Rattle.answers.specs.Refusals.{refusalNumber}
+use Rattle.answers.specs.Inner.Refusals.{refusalNumber}
 use Rattle.answers.specs.declared.refusal.Refusal.{Refusal}
 use Rattle.answers.specs.declared.refusal.Refusal.the-variants.{BadLength, TooManyDerivations}
 use Rattle.answers.proofs.Numbers.{number-some}
@@ -20,7 +20,8 @@ use Rattle.grammar.specs.Layout.{nonterminals, words, start}
 use Rattle.grammar.specs.Chains.{chain}
 use Rattle.grammar.specs.Inner.Rules.{startIn}
 use Rattle.grammar.specs.Refusals.{grammarRows, grammarRefusal, Accepted}
-use Rattle.grammar.specs.Answers.{grammarSays, checkGrammar}
+use Rattle.grammar.specs.Answers.{checkGrammar}
+use Rattle.grammar.specs.Inner.Says.{grammarSays}
 use Rattle.grammar.specs.Inner.Reading.{ReadAs}
 use Rattle.grammar.specs.declared.checks.GrammarAnswer.{GrammarAnswer}
 use Rattle.grammar.specs.declared.checks.GrammarAnswer.the-variants as checked
@@ -30,7 +31,8 @@ use Rattle.lists.specs.Inner.Tables.{Kept}
 use Rattle.counting.specs.Inner.Counted.{countAt}
 use Rattle.counting.specs.Inner.Filling.{Filling, FilledAs}
 use Rattle.counting.specs.Inner.Preparing.{OpenedAs, Lent, PreparedAs}
-use Rattle.counting.specs.Answers as answers
+use Rattle.counting.specs.Answers.{countOf}
+use Rattle.counting.specs.Inner.Says.{countSays}
 use Rattle.counting.specs.declared.prepare.Prepared.{Prepared}
 use Rattle.counting.specs.declared.prepare.Prepared.the-variants.{Ready, Refused}
 use Rattle.counting.specs.declared.count.CountAnswer.the-variants as counted
@@ -137,8 +139,8 @@ module _ {g : List ℕ} {n : ℕ} {rules₀ rules totals₀ : List (List ℕ)} {
 -- ---- *Count*
 
 module _ {g : List ℕ} {n : ℕ} {rules₀ rules totals₀ totals : List (List ℕ)} {p : Prepared} (s : PreparedAs g n rules₀ rules totals₀ totals p) where
-  pub count-refused : {r : Refusal} → p ≡ Refused r → answers.countSays (counted.Refused r) ≡ answers.countOf g n
-  unfolding answers.countOf
+  pub count-refused : {r : Refusal} → p ≡ Refused r → countSays (counted.Refused r) ≡ countOf g n
+  unfolding countOf
   count-refused {r} e =
       let k : firstThatApplies (preparedRows g n) ≡ refusalNumber r = sym (s .refusal) ∙ rw e in
       rw k (sym (answer-refused (refusalNumber r) (T (chain g) (start g) n ∷ []) [] [] (number-some r)))
@@ -149,8 +151,8 @@ module _ {g : List ℕ} {n : ℕ} {rules₀ rules totals₀ totals : List (List 
         let t = s .ready e in
         (t .counted .long, omega (arith, t .holds .table .starts, t .holds .table .few), t .counted .short)
 
-    pub count-given : {x : ℕ} → x ≡ countAt totals S n → answers.countSays (counted.Given x) ≡ answers.countOf g n
-    unfolding answers.countOf
+    pub count-given : {x : ℕ} → x ≡ countAt totals S n → countSays (counted.Given x) ≡ countOf g n
+    unfolding countOf
     count-given {x} u =
         let t = s .ready e in
         let h = t .holds in

@@ -1,6 +1,7 @@
 // *Count*.
 ghost use mathlib.Core.Path.{_≡_};
-ghost use Rattle.counting.specs.Answers.{countSays, countOf};
+ghost use Rattle.counting.specs.Answers.{countOf};
+ghost use Rattle.counting.specs.Inner.Says.{countSays};
 use crate::prepare;
 use crate::prepare::Prepared;
 use crate::tallies;

@@ -14,7 +14,7 @@ use Rattle.lists.proofs.Members.{upFrom-∈, ∈-upFrom}
 use Rattle.lists.proofs.Searches.{times-few, times-many, times-full}
 use Rattle.lists.proofs.Tests.{or-true, to-at, to-clear}
 use Rattle.answers.specs.Answer.{firstThatApplies}
-use Rattle.answers.specs.Refusals.{refusalNumber}
+use Rattle.answers.specs.Inner.Refusals.{refusalNumber}
 use Rattle.answers.specs.declared.refusal.Refusal.{Refusal}
 use Rattle.answers.proofs.Refusals.{answer-accepted, answer-refused}
 use Rattle.answers.proofs.Numbers.{number-some}

@@ -1,4 +1,5 @@
 -- Contracts of inner functions. What the calls promise is said without them, so a reader of the demands may pass over this folder.
+pub mod Says
 pub mod Rules
 pub mod Links
 pub mod Reading

@@ -8,7 +8,8 @@ ghost use Rattle.grammar.specs.Refusals.{outOfRange, fits, headAbove, re
 ghost use Rattle.grammar.specs.Inner.Rules.{Roomy};
 ghost use Rattle.grammar.specs.Inner.Entering.{Sorted};
 ghost use Rattle.grammar.specs.Inner.Checks.{Sized, Readable, FoundAs, beginsAt, entryAt, Stamping, StampedAs};
-ghost use Rattle.grammar.specs.Answers.{grammarSays, checkGrammar};
+ghost use Rattle.grammar.specs.Answers.{checkGrammar};
+ghost use Rattle.grammar.specs.Inner.Says.{grammarSays};
 ghost use Rattle.grammar.specs.Inner.Reading.{ReadAs};
 use crate::entries;
 use crate::rules;

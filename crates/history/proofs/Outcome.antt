@@ -11,7 +11,7 @@ use lib.Dec.{ltb, eqb, lit<}
 use Rattle.lists.proofs.Tests.{within-low, within-high, within-both, or-true}
 use Rattle.answers.specs.Answer as answer
 use Rattle.answers.specs.Answer.{Answer, firstThatApplies}
-use Rattle.answers.specs.Refusals.{refusalNumber}
+use Rattle.answers.specs.Inner.Refusals.{refusalNumber}
 use Rattle.answers.specs.declared.refusal.Refusal.{Refusal}
 use Rattle.answers.specs.Length.{badLength}
 use Rattle.answers.proofs.Refusals.{row-applies, row-passed, rows-stop, rows-pass, answer-number, answer-accepted, answer-refused}
@@ -20,7 +20,8 @@ use Rattle.history.specs.declared.checks.HistoryAnswer.the-variants.{Giv
 use Rattle.history.specs.Layout.{recordsOf}
 use Rattle.history.specs.Refusals.{historyRows, historyRefusal, Accepted}
 use Rattle.history.specs.Writing.{appended}
-use Rattle.history.specs.Answers.{historySays, checkHistory, noRoom, appendRows, appendOf}
+use Rattle.history.specs.Answers.{checkHistory, noRoom, appendRows, appendOf}
+use Rattle.history.specs.Inner.Says.{historySays}
 
 -- ---- *Check diary*
 

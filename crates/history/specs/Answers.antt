@@ -1,38 +1,23 @@
--- What *Check diary* and *Log* answer, and the paper's number and figures of each case of the answers.
+-- What *Check diary* and *Log* answer.
 -- Assumes nothing: these are definitions.
 use mathlib.Core.Bool.{Bool, _||_}
 use mathlib.Core.List.{List, [], _∷_, _++_}
 use Prim.Native.Nat.{ℕ, suc, _+_, _*_}
 use lib.ListN.{length}
 use lib.Dec.{ltb, eqb}
-use Rattle.answers.specs.Answer.{Row, Answer, given, refused, answer}
-use Rattle.answers.specs.Refusals.{refusalNumber}
+use Rattle.answers.specs.Answer.{Row, Answer, answer}
 use Rattle.answers.specs.Length.{badLength}
-use Rattle.history.specs.declared.checks.HistoryAnswer.{HistoryAnswer}
-use Rattle.history.specs.declared.checks.HistoryAnswer.the-variants.{Given, Refused}
-use Rattle.history.specs.declared.append.AppendAnswer.{AppendAnswer}
-use Rattle.history.specs.declared.append.AppendAnswer.the-variants as appends
 use Rattle.history.specs.Layout.{recordsOf}
 use Rattle.history.specs.Refusals.{historyRows}
 use Rattle.history.specs.Writing.{appended}
 
 -- ---- *Check diary*
 
--- the paper's number and figure of each case
-abbrev pub historySays : HistoryAnswer → Answer
-historySays (Given k) = given (k ∷ []) []
-historySays (Refused r) = refused (refusalNumber r) 1 []
-
 -- "*Check diary* gives K."
 unfoldable pub checkHistory : List ℕ → Answer
 checkHistory h = answer (historyRows h) (recordsOf h ∷ []) [] []
 
 -- ---- *Log*
-
--- the paper's number, figure and bytes of each case
-abbrev pub appendSays : AppendAnswer → List ℕ → Answer
-appendSays (appends.Given k) out = given (k ∷ []) out
-appendSays (appends.Refused r) out = refused (refusalNumber r) 1 out
 
 -- "19. K is 1,000 or the buffer has fewer than 4 + 20(K + 1) bytes (*Log*)."
 unfoldable pub noRoom : List ℕ → Bool

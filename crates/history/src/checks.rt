@@ -5,7 +5,8 @@ ghost use Prim.Native.Nat.{_+_, _-_, _≤_};
 ghost use lib.ListN.{length};
 ghost use Rattle.history.specs.Refusals.{badSize, someNonzero, misfit, badLink, badChain};
 ghost use Rattle.history.specs.Inner.Checks.{Sized, TestedAs};
-ghost use Rattle.history.specs.Answers.{historySays, checkHistory};
+ghost use Rattle.history.specs.Answers.{checkHistory};
+ghost use Rattle.history.specs.Inner.Says.{historySays};
 use crate::records;
 use answers::refusal::Refusal;
 

@@ -1,6 +1,6 @@
 // The house matrix grammar (document 01: house matrix bank), as a constant table: nine nonterminals, fifty words, 54 rules.
 ghost use mathlib.Core.Path.{_≡_};
-ghost use Rattle.grammar.specs.Answers.{grammarSays};
+ghost use Rattle.grammar.specs.Inner.Says.{grammarSays};
 ghost use Rattle.matrix.specs.Table.{table, accepted};
 use grammar::checks;
 use grammar::checks::GrammarAnswer;

@@ -1,4 +1,4 @@
--- What *Give* and *Number* answer, and the paper's number and figures of each case of the answers.
+-- What *Give* and *Number* answer.
 -- Assumes nothing: these are definitions.
 use mathlib.Core.Bool.{Bool}
 use mathlib.Core.List.{List, [], _∷_, _++_}
@@ -6,18 +6,13 @@ use Prim.Native.Nat.{ℕ}
 use lib.ListN.{length, getD, drop}
 use lib.Dec.{ltb, leb, eqb}
 use Rattle.lists.specs.Searched.{howMany, firstPlace, same}
-use Rattle.answers.specs.Answer.{Row, Answer, given, refused, answer}
-use Rattle.answers.specs.Refusals.{refusalNumber}
+use Rattle.answers.specs.Answer.{Row, Answer, answer}
 use Rattle.grammar.specs.Layout.{start}
 use Rattle.grammar.specs.Chains.{chain}
 use Rattle.grammar.specs.Trees.{Tree, leaf, sentence}
 use Rattle.grammar.specs.FullList.{trees}
 use Rattle.counting.specs.Totals.{T}
 use Rattle.counting.specs.Refusals.{preparedRows}
-use Rattle.ranking.specs.declared.unrank.UnrankAnswer.{UnrankAnswer}
-use Rattle.ranking.specs.declared.unrank.UnrankAnswer.the-variants as unranks
-use Rattle.ranking.specs.declared.rank.RankAnswer.{RankAnswer}
-use Rattle.ranking.specs.declared.rank.RankAnswer.the-variants as ranks
 
 -- the full list of the start symbol and a length
 abbrev pub fullList : List ℕ → ℕ → List Tree
@@ -28,11 +23,6 @@ abbrev pub totalOf : List ℕ → ℕ → ℕ
 totalOf g n = T (chain g) (start g) n
 
 -- ---- *Give*
-
--- the paper's number, figure and bytes of each case
-abbrev pub unrankSays : UnrankAnswer → List ℕ → Answer
-unrankSays (unranks.Given t) out = given (t ∷ []) out
-unrankSays (unranks.Refused r) out = refused (refusalNumber r) 1 out
 
 -- the sentence with derivation number d: that of the full list's entry d
 abbrev pub entryOf : List ℕ → ℕ → ℕ → List ℕ
@@ -47,11 +37,6 @@ unfoldable pub unrankOf : (g : List ℕ) (n d : ℕ) (out : List ℕ) → Answer
 unrankOf g n d out = answer (unrankRows g n d out) (totalOf g n ∷ []) out (entryOf g n d ++ drop n out)
 
 -- ---- *Number*
-
--- the paper's number and figures of each case
-abbrev pub rankSays : RankAnswer → Answer
-rankSays (ranks.Given d t) = given (d .0 ∷ t ∷ []) []
-rankSays (ranks.Refused r) = refused (refusalNumber r) 2 []
 
 -- the derivation has the sentence s
 abbrev pub derives : List ℕ → Tree → Bool

@@ -1,7 +1,8 @@
 // *Number*: the derivation number of a sentence.
 ghost use mathlib.Core.Path.{_≡_};
 ghost use lib.ListN.{length};
-ghost use Rattle.ranking.specs.Answers.{rankSays, rankOf};
+ghost use Rattle.ranking.specs.Answers.{rankOf};
+ghost use Rattle.ranking.specs.Inner.Says.{rankSays};
 ghost use Rattle.ranking.specs.Inner.Inside.{rankIn};
 ghost use Rattle.ranking.specs.Inner.Ranking.{FindSought, FoundAs, NumberSought, Roomy};
 use crate::unrank;

@@ -23,7 +23,7 @@ use Rattle.lists.proofs.Struck.{struck-map}
 use Rattle.lists.proofs.Tables.{wide-made}
 use Rattle.lists.proofs.Strikes.{keep-length, keep-∈, ∈-keep, struck-rising, skip-lt}
 use Rattle.answers.specs.Answer.{Row, firstThatApplies, given, refused, answerOf, answer}
-use Rattle.answers.specs.Refusals.{refusalNumber}
+use Rattle.answers.specs.Inner.Refusals.{refusalNumber}
 use Rattle.answers.specs.declared.refusal.Refusal.{Refusal}
 use Rattle.answers.proofs.Numbers.{number-some}
 use Rattle.answers.proofs.Refusals.{row-applies, row-passed, rows-stop, rows-pass, answer-accepted, answer-refused}

@@ -1,28 +1,18 @@
--- What *Left* and *Draw* answer (document 01, section 'Operations'), and the paper's number and figures of each case of the answers.
+-- What *Left* and *Draw* answer (document 01, section 'Operations').
 -- Assumes nothing: these are definitions.
 use mathlib.Core.List.{List, [], _∷_, _++_}
 use Prim.Native.Nat.{ℕ}
 use lib.ListN.{length, getD, drop}
 use lib.Dec.{ltb, leb}
-use Rattle.answers.specs.Answer.{Row, Answer, given, refused, answer}
-use Rattle.answers.specs.Refusals.{refusalNumber}
+use Rattle.answers.specs.Answer.{Row, Answer, answer}
 use Rattle.grammar.specs.Trees.{leaf, sentence}
 use Rattle.counting.specs.Refusals.{preparedRows}
 use Rattle.history.specs.Refusals.{historyRows}
 use Rattle.ranking.specs.Answers.{totalOf}
-use Rattle.sampling.specs.declared.remaining.RemainingAnswer.{RemainingAnswer}
-use Rattle.sampling.specs.declared.remaining.RemainingAnswer.the-variants as remains
-use Rattle.sampling.specs.declared.draw.DrawAnswer.{DrawAnswer}
-use Rattle.sampling.specs.declared.draw.DrawAnswer.the-variants as draws
 use Rattle.sampling.specs.Question.{Question, plainly}
 use Rattle.sampling.specs.Unheard.{Entry, unheard, heardOf, leftOf, ambiguous}
 
 -- ---- *Left*
-
--- the paper's number and figures of each case
-abbrev pub remainingSays : RemainingAnswer → Answer
-remainingSays (remains.Given t k l) = given (t ∷ k ∷ l ∷ []) []
-remainingSays (remains.Refused r) = refused (refusalNumber r) 3 []
 
 -- the lines 1 to 8, 9, 10, 11 to 14 and 15, in their order
 abbrev pub remainingRows : (g h : List ℕ) (a : Question) → List Row
@@ -36,11 +26,6 @@ abbrev pub remainingOf : (g h : List ℕ) (n : ℕ) → Answer
 remainingOf g h n = remainingTo g h (plainly n)
 
 -- ---- *Draw*
-
--- the paper's number, figures and bytes of each case
-abbrev pub drawSays : DrawAnswer → List ℕ → Answer
-drawSays (draws.Given l d) out = given (l ∷ d .0 ∷ []) out
-drawSays (draws.Refused r) out = refused (refusalNumber r) 2 out
 
 -- "the derivation with an unheard sentence that has exactly q such derivations before it": the unheard list's entry q
 abbrev pub drawn : (g h : List ℕ) (a : Question) (q : ℕ) → Entry

@@ -1,6 +1,7 @@
 // *Draw*: the unheard derivation that has so many unheard ones before it.
 ghost use mathlib.Core.Path.{_≡_};
-ghost use Rattle.sampling.specs.Answers.{drawSays, drawOf};
+ghost use Rattle.sampling.specs.Answers.{drawOf};
+ghost use Rattle.sampling.specs.Inner.Says.{drawSays};
 ghost use Rattle.sampling.specs.Inner.Drawing.{DrawSought, drawSkipping};
 ghost use Rattle.sampling.specs.Inner.Preparing.{Room};
 use crate::prepare;

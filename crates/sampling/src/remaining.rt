@@ -1,6 +1,7 @@
 // *Left*: how many derivations there are, how many of them are heard, and how many are left.
 ghost use mathlib.Core.Path.{_≡_};
-ghost use Rattle.sampling.specs.Answers.{remainingSays, remainingOf};
+ghost use Rattle.sampling.specs.Answers.{remainingOf};
+ghost use Rattle.sampling.specs.Inner.Says.{remainingSays};
 ghost use Rattle.sampling.specs.Inner.Preparing.{Room};
 use crate::prepare;
 use crate::prepare::Sampled;

@@ -8,7 +8,7 @@ use Prim.Native.Nat.{ℕ, _≤_}
 use lib.ListN.{length}
 use Rattle.lists.specs.Inner.Tables.{Wide, Kept}
 use Rattle.answers.specs.Answer.{firstThatApplies}
-use Rattle.answers.specs.Refusals.{refusalNumber}
+use Rattle.answers.specs.Inner.Refusals.{refusalNumber}
 use Rattle.grammar.specs.Inner.Rules.{Holds, Roomy}
 use Rattle.counting.specs.Refusals.{tooLarge, openRows, preparedRows}
 use Rattle.counting.specs.Inner.Counted.{Counted}

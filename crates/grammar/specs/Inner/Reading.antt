@@ -7,7 +7,8 @@ use lib.ListN.{length, getD}
 use Rattle.lists.specs.Inner.Tables.{Wide}
 use Rattle.grammar.specs.declared.checks.GrammarAnswer.{GrammarAnswer}
 use Rattle.grammar.specs.Refusals.{grammarRefusal}
-use Rattle.grammar.specs.Answers.{grammarSays, checkGrammar}
+use Rattle.grammar.specs.Answers.{checkGrammar}
+use Rattle.grammar.specs.Inner.Says.{grammarSays}
 use Rattle.grammar.specs.Inner.Rules.{Holds}
 
 -- what reading a grammar answers, and leaves in the table: the rules if it is accepted, and the rows from 4 on as they were

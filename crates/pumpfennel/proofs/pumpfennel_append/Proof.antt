@@ -1,7 +1,7 @@
 -- `pumpfennel_append` meets its contract, case by case of the answer.
 -- Assumes nothing.
 use mathlib.Core.Path.{refl}
-use Rattle.history.specs.Answers.{appendSays}
+use Rattle.history.specs.Inner.Says.{appendSays}
 use Rattle.pumpfennel.proofs.Cases.{answered}
 use borrow.Author.Needs.{needs}
 use Rattle.pumpfennel.proofs.pumpfennel_append.Statement.{statement}

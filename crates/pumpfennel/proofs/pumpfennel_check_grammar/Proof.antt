@@ -1,7 +1,7 @@
 -- `pumpfennel_check_grammar` meets its contract, case by case of the answer.
 -- Assumes nothing.
 use mathlib.Core.Path.{refl}
-use Rattle.grammar.specs.Answers.{grammarSays}
+use Rattle.grammar.specs.Inner.Says.{grammarSays}
 use Rattle.pumpfennel.proofs.Cases.{answered}
 use borrow.Author.Needs.{needs}
 use Rattle.pumpfennel.proofs.pumpfennel_check_grammar.Statement.{statement}

@@ -1,7 +1,7 @@
 -- `pumpfennel_check_history` meets its contract, case by case of the answer.
 -- Assumes nothing.
 use mathlib.Core.Path.{refl}
-use Rattle.history.specs.Answers.{historySays}
+use Rattle.history.specs.Inner.Says.{historySays}
 use Rattle.pumpfennel.proofs.Cases.{answered}
 use borrow.Author.Needs.{needs}
 use Rattle.pumpfennel.proofs.pumpfennel_check_history.Statement.{statement}

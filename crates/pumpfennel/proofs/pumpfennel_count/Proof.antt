@@ -1,7 +1,7 @@
 -- `pumpfennel_count` meets its contract, case by case of the answer.
 -- Assumes nothing.
 use mathlib.Core.Path.{refl}
-use Rattle.counting.specs.Answers.{countSays}
+use Rattle.counting.specs.Inner.Says.{countSays}
 use Rattle.pumpfennel.proofs.Cases.{answered}
 use borrow.Author.Needs.{needs}
 use Rattle.pumpfennel.proofs.pumpfennel_count.Statement.{statement}

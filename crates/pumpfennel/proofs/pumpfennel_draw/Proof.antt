@@ -1,7 +1,7 @@
 -- `pumpfennel_draw` meets its contract, case by case of the answer.
 -- Assumes nothing.
 use mathlib.Core.Path.{refl}
-use Rattle.sampling.specs.Answers.{drawSays}
+use Rattle.sampling.specs.Inner.Says.{drawSays}
 use Rattle.pumpfennel.proofs.Cases.{answered}
 use borrow.Author.Needs.{needs}
 use Rattle.pumpfennel.proofs.pumpfennel_draw.Statement.{statement}

@@ -1,7 +1,7 @@
 -- `pumpfennel_remaining` meets its contract, case by case of the answer.
 -- Assumes nothing.
 use mathlib.Core.Path.{refl}
-use Rattle.sampling.specs.Answers.{remainingSays}
+use Rattle.sampling.specs.Inner.Says.{remainingSays}
 use Rattle.pumpfennel.proofs.Cases.{answered}
 use borrow.Author.Needs.{needs}
 use Rattle.pumpfennel.proofs.pumpfennel_remaining.Statement.{statement}

@@ -1,7 +1,7 @@
 -- `pumpfennel_unrank` meets its contract, case by case of the answer.
 -- Assumes nothing.
 use mathlib.Core.Path.{refl}
-use Rattle.ranking.specs.Answers.{unrankSays}
+use Rattle.ranking.specs.Inner.Says.{unrankSays}
 use Rattle.pumpfennel.proofs.Cases.{answered}
 use borrow.Author.Needs.{needs}
 use Rattle.pumpfennel.proofs.pumpfennel_unrank.Statement.{statement}

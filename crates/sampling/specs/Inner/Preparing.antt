@@ -10,7 +10,7 @@ use lib.ListN.{length, take}
 use Rattle.lists.specs.Joined.{_∈_, concatMap}
 use Rattle.lists.specs.Ordered.{Pairwise}
 use Rattle.answers.specs.Answer.{firstThatApplies}
-use Rattle.answers.specs.Refusals.{refusalNumber}
+use Rattle.answers.specs.Inner.Refusals.{refusalNumber}
 use Rattle.counting.specs.Inner.Counted.{Counted}
 use Rattle.counting.specs.Inner.Preparing as tables
 use Rattle.counting.specs.Inner.Preparing.{Tabled}
