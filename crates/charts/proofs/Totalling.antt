@@ -4,22 +4,21 @@
 use mathlib.Core.Path.{_≡_, sym, ap, _∙_}
 use mathlib.Core.Bool.{true, false, _||_, false≢true}
 use mathlib.Core.List.{List}
-use Prim.Native.Nat.{ℕ, zero, suc, _+_, _*_, _-_, _≤_, _<_}
+use Prim.Native.Nat.{ℕ, _+_, _*_, _-_, _≤_, _<_}
 use native.Mathlib.Omega.{arith}
-use native.Mathlib.Numerals.{add-one}
 use native.Mathlib.Decide.{decLe}
 use borrow.Author.Tests.{ne-eqb}
 use lib.Dec.{eqb}
 use Rattle.lists.specs.Joined.{_∈_, sumOver, upFrom}
-use Rattle.lists.proofs.Sums.{sum-ext, sum-plus, sum-none}
+use Rattle.lists.proofs.Sums.{sum-ext, sum-none, sum-swap}
 use Rattle.lists.proofs.Tests.{bit-le}
 use Rattle.sets.specs.Inner.Sets.{member, members}
 use Rattle.sets.proofs.Lists.{members-∈, sum-within}
 use Rattle.grammar.specs.Inner.Rules.{pairsIn, ruled, Ruled}
 use Rattle.grammar.proofs.Ruling.{words-ruled, pairs-ruled}
-use Rattle.counting.specs.Totals.{splitSum, total, T}
+use Rattle.counting.specs.Totals.{total, T}
 use Rattle.counting.specs.Inner.Counted.{Asked}
-use Rattle.counting.proofs.Totals.{pairTotal, split-step, split-end, total-one, total-more}
+use Rattle.counting.proofs.Totals.{productAt, pairTotal, left-none, right-none, total-one, total-more}
 use Rattle.counting.proofs.Asking.{asked-left, asked-right, total-dead}
 use Rattle.charts.specs.Inner.Letters.{any, weighed, letterWeight, weightBy}
 use Rattle.charts.specs.Inner.Maps.{totalAt}
@@ -39,43 +38,27 @@ module _ {rules plan : List (List ℕ)} (map : List (List ℕ)) {n : ℕ} (t : R
   abbrev R : ℕ → ℕ → ℕ → ℕ
   R = total (ruled rules) (weightBy rules map)
 
-  -- what the left length k adds, and what those from k on add
+  -- what the left length k adds
   abbrev here : ℕ → ℕ
-  here k = sumOver (λ (e : ℕ × ℕ). R p (e .0) k * R (p + k) (e .1) (m - k)) (pairsIn rules A)
-
-  abbrev ahead : ℕ → ℕ
-  ahead k = sumOver (λ (e : ℕ × ℕ). splitSum R (e .0) (e .1) p k (m - k)) (pairsIn rules A)
-
-  ahead-step : (k : ℕ) → k < m → ahead k ≡ here k + ahead (k + 1)
-  ahead-step k l =
-      sum-ext (λ (e : ℕ × ℕ). splitSum R (e .0) (e .1) p k (m - k))
-      (λ (e : ℕ × ℕ). R p (e .0) k * R (p + k) (e .1) (m - k) + splitSum R (e .0) (e .1) p (k + 1) (m - (k + 1)))
-      (pairsIn rules A) (λ e i. split-step R (e .0) (e .1) p k m l)
-      ∙ sum-plus (λ (e : ℕ × ℕ). R p (e .0) k * R (p + k) (e .1) (m - k)) (λ (e : ℕ × ℕ). splitSum R (e .0) (e .1) p (k + 1) (m - (k + 1))) (pairsIn rules A)
-
-  ahead-sum : (d k : ℕ) → k + d ≡ m → sumOver here (upFrom k d) ≡ ahead k
-  ahead-sum zero k e =
-      sym (sum-none (λ (e : ℕ × ℕ). splitSum R (e .0) (e .1) p k (m - k)) (pairsIn rules A) (λ x i. split-end R (x .0) (x .1) p k m (omega arith)))
-  ahead-sum (suc d) k e =
-      let s = rw (add-one k) at (ahead-step k (omega arith)) in
-      omega (arith, ahead-sum d (suc k) (omega arith), s)
+  here k = sumOver (λ (e : ℕ × ℕ). productAt R (e .0) (e .1) p m k) (pairsIn rules A)
 
   all-lengths : sumOver here (upFrom 1 (m - 1)) ≡ R p A m
   all-lengths =
-      ahead-sum (m - 1) 1 (omega arith)
-      ∙ sym (total-more (ruled rules) (weightBy rules map) p A m more ∙ ap (sumOver (pairTotal R p m)) (pairs-ruled rules A))
+      sym (total-more (ruled rules) (weightBy rules map) p A m more
+      ∙ ap (sumOver (pairTotal R p m)) (pairs-ruled rules A)
+      ∙ sum-swap (λ (e : ℕ × ℕ) (k : ℕ). productAt R (e .0) (e .1) p m k) (pairsIn rules A) (upFrom 1 (m - 1)))
 
   -- no pair rule has derivations of both lengths
   dead : (k : ℕ) → 1 ≤ k → k < m → member (cuts plan m) k ≡ false → here k ≡ 0
-  dead k l u z = sum-none (λ (e : ℕ × ℕ). R p (e .0) k * R (p + k) (e .1) (m - k)) (pairsIn rules A) one
+  dead k l u z = sum-none (λ (e : ℕ × ℕ). productAt R (e .0) (e .1) p m k) (pairsIn rules A) one
     where
-      one : (e : ℕ × ℕ) → e ∈ pairsIn rules A → R p (e .0) k * R (p + k) (e .1) (m - k) ≡ 0
+      one : (e : ℕ × ℕ) → e ∈ pairsIn rules A → productAt R (e .0) (e .1) p m k ≡ 0
       one e i =
           elim (decLe 1 (T (ruled rules) (e .0) k)) [
-            | no x ↦ rw (total-dead (ruled rules) (weightBy rules map) p (e .0) k (omega arith)) (omega arith)
+            | no x ↦ left-none R (e .0) (e .1) p m k (total-dead (ruled rules) (weightBy rules map) p (e .0) k (omega arith))
             | yes x ↦
                 elim (decLe 1 (T (ruled rules) (e .1) (m - k))) [
-                  | no y ↦ rw (total-dead (ruled rules) (weightBy rules map) (p + k) (e .1) (m - k) (omega arith)) (omega arith)
+                  | no y ↦ right-none R (e .0) (e .1) p m k (total-dead (ruled rules) (weightBy rules map) (p + k) (e .1) (m - k) (omega arith))
                   | yes y ↦ absurd (false≢true (sym z ∙ cut .cut A (e .0) (e .1) m k asked i l u x y))
                 ]
           ]
@@ -97,7 +80,7 @@ module _ {rules plan : List (List ℕ)} (map : List (List ℕ)) {n : ℕ} (t : R
       let w = cut .within m k (h .0) (omega arith) (asked .short) (h .1) in
       let d = done k (h .0) (h .1) in
       sum-ext (λ (e : ℕ × ℕ). totalAt totals map p (e .0) k * totalAt totals map (p + k) (e .1) (m - k))
-      (λ (e : ℕ × ℕ). R p (e .0) k * R (p + k) (e .1) (m - k)) (pairsIn rules A)
+      (λ (e : ℕ × ℕ). productAt R (e .0) (e .1) p m k) (pairsIn rules A)
       (λ e j.
       rw (
         d .0 (e .0) (asked-left t asked e j k (w .0) (omega (arith, w .1))),

@@ -10,10 +10,11 @@ use lib.ListN.{length, getD, drop, drop-of-length-le}
 use lib.Seq.{drop-cons}
 use Rattle.lists.specs.Joined.{_∈_, concatMap, combine}
 use Rattle.lists.proofs.Sums.{sum-append, sum-part}
+use Rattle.lists.proofs.Runs.{run-part}
 use Rattle.grammar.specs.Chains.{Rule, pairsOf}
 use Rattle.counting.specs.Totals.{total, T}
 use Rattle.counting.specs.Inner.Sentences.{sentences, weight, splitList}
-use Rattle.counting.proofs.Totals.{pairTotal, split-part, total-more}
+use Rattle.counting.proofs.Totals.{productAt, pairTotal, total-more}
 use Rattle.counting.proofs.Sentences.{sentences-more}
 use Rattle.counting.proofs.Counts.{total-sum, T-sentences}
 use Rattle.lists.specs.Inner.Parts.{Passed}
@@ -27,9 +28,8 @@ module _ (rules : ℕ → List Rule) where
   -- what two halves hold is no more than the nonterminal holds
   pub halves-within : (v : ℕ → ℕ → ℕ) (A B C p m k : ℕ) → 1 ≤ k → k < m → (B, C) ∈ pairsOf (rules A) → halvesTotal rules v B C p m k ≤ total rules v p A m
   halves-within v A B C p m k h l i =
-      let e : 1 + (m - 1) - k ≡ m - k = omega arith in
       rw (total-more rules v p A m (omega arith))
-      (omega (arith, rw e at (split-part (total rules v) B C p 1 (m - 1) k h (omega arith)), sum-part (pairTotal (total rules v) p m) (pairsOf (rules A)) i))
+      (omega (arith, run-part (productAt (total rules v) B C p m) 1 (m - 1) k h (omega arith), sum-part (pairTotal (total rules v) p m) (pairsOf (rules A)) i))
 
   -- one left length more, as a loop that counts up to m meets it
   list-step : (B C k m : ℕ) → k < m

@@ -7,16 +7,16 @@ use Prim.Native.Nat.{ℕ, zero, suc, _+_, _*_, _-_, _≤_, _<_}
 use native.Mathlib.Omega.{arith}
 use native.Mathlib.Nat.{mul-le-mul}
 use lib.ListN.{length, length-map}
-use Rattle.lists.specs.Joined.{sumOver, combine}
+use Rattle.lists.specs.Joined.{sumOver, combine, upFrom}
 use Rattle.lists.specs.Ordered.{Exactly}
 use Rattle.lists.proofs.Sums.{sum-ext, sum-le, sum-one, sum-map, sum-append, sum-concat, sum-combine}
 use Rattle.grammar.specs.Chains.{Rule, wordsOf, pairsOf}
 use Rattle.grammar.specs.Trees.{sentence, Derives}
 use Rattle.grammar.specs.FullList.{trees}
 use Rattle.grammar.proofs.Order.{how-many}
-use Rattle.counting.specs.Totals.{splitSum, total, T}
+use Rattle.counting.specs.Totals.{total, T}
 use Rattle.counting.specs.Inner.Sentences.{sentences, weight, splitList}
-use Rattle.counting.proofs.Totals.{pairTotal, split-ext, total-none, total-one, total-more}
+use Rattle.counting.proofs.Totals.{productAt, pairTotal, pair-ext, total-none, total-one, total-more}
 use Rattle.counting.proofs.Sentences.{sentences-none, sentences-one, sentences-more, sentence-length}
 
 pub weight-append : (v : ℕ → ℕ → ℕ) (p : ℕ) (a b : List ℕ) → weight v p (a ++ b) ≡ weight v p a * weight v (p + length a) b
@@ -30,14 +30,16 @@ module _ (chain : ℕ → List Rule) (v : ℕ → ℕ → ℕ) where
   abbrev sum : ℕ → ℕ → ℕ → ℕ
   sum p A m = sumOver (weight v p) (sentences chain A m)
 
-  split-sum : (B C p k j : ℕ) → 1 ≤ k → sumOver (weight v p) (splitList (sentences chain) B C k j) ≡ splitSum sum B C p k j
-  split-sum B C p k zero h = refl
-  split-sum B C p k (suc j) h =
+  split-sum : (B C p m k j : ℕ) → k + j ≡ m → sumOver (weight v p) (splitList (sentences chain) B C k j) ≡ sumOver (productAt sum B C p m) (upFrom k j)
+  split-sum B C p m k zero e = refl
+  split-sum B C p m k (suc j) e =
+      let z : m - k ≡ suc j = omega arith in
       sum-append (weight v p) (combine _++_ (sentences chain B k) (sentences chain C (suc j))) (splitList (sentences chain) B C (suc k) j)
       ∙ rw (
         sum-combine _++_ (weight v p) (weight v p) (weight v (p + k)) (sentences chain B k) (sentences chain C (suc j))
             (λ x i y i′. rw (← sentence-length chain B k x i) (weight-append v p x y)),
-        split-sum B C p (suc k) j (omega arith),
+        split-sum B C p m (suc k) j (omega arith),
+        z,
       )
 
   sum-below : (n p A m : ℕ) → m < n → total chain v p A m ≡ sum p A m
@@ -52,15 +54,14 @@ module _ (chain : ℕ → List Rule) (v : ℕ → ℕ → ℕ) where
       total-more chain v p A (suc (suc m)) (omega arith)
       ∙ sum-ext (pairTotal (total chain v) p (suc (suc m))) (λ x. sumOver (weight v p) (splitList (sentences chain) (x .0) (x .1) 1 (suc (suc m) - 1))) (pairsOf (chain A))
       (λ x i.
-      split-ext (total chain v) sum (x .0) (x .1) p 1 (suc (suc m) - 1) (omega arith) (λ q B k l u. sum-below n q B k (omega arith))
-      ∙ sym (split-sum (x .0) (x .1) p 1 (suc (suc m) - 1) (omega arith)))
+      pair-ext (total chain v) sum p (suc (suc m)) x (λ q B k l u. sum-below n q B k (omega arith))
+      ∙ sym (split-sum (x .0) (x .1) p (suc (suc m)) 1 (suc (suc m) - 1) (omega arith)))
       ∙ sym (ap (sumOver (weight v p)) (sentences-more chain A (suc (suc m)) (omega arith))
       ∙ sum-concat (λ x. splitList (sentences chain) (x .0) (x .1) 1 (suc (suc m) - 1)) (weight v p) (pairsOf (chain A)))
 
   -- a total is what the sentences weigh together
   pub total-sum : (p A m : ℕ) → total chain v p A m ≡ sumOver (weight v p) (sentences chain A m)
   total-sum p A m = sum-below (suc m) p A m (omega arith)
-  -- and so is what a pair rule adds from a left length on
 
 weight-one : (p : ℕ) (s : List ℕ) → weight (λ q w. 1) p s ≡ 1
 weight-one p [] = refl

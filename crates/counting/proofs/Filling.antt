@@ -1,14 +1,12 @@
--- The turns of the loops that fill the table of totals, each as a law over plain numbers and lists. A pair rule's sum so far is the sum of
--- its products up to a left length; a nonterminal's sum so far, with what its later pair rules add, comes to T; a row is right for the
--- nonterminals passed.
+-- The turns of the loops that fill the table of totals, each as a law over plain numbers and lists. A nonterminal's sum so far, with what its
+-- later pair rules add, comes to T; a row is right for the nonterminals passed. The loop over one pair rule's left lengths is in PairSums.antt.
 -- Assumes nothing.
 use mathlib.Core.Path.{_≡_, refl, sym, ap, _∙_}
 use mathlib.Core.Bool.{Bool, true, false, not, false≢true}
 use mathlib.Core.List.{List, []}
-use Prim.Native.Nat.{ℕ, suc, _+_, _*_, _-_, _≤_, _<_}
+use Prim.Native.Nat.{ℕ, suc, _+_, _-_, _≤_, _<_}
 use native.Mathlib.Omega.{arith}
 use native.Mathlib.Decide.{ℕ-discrete}
-use native.Mathlib.Numerals.{add-one}
 use borrow.Author.Tests.{ltb-false, lt-ltb, le-ltb, eq-eqb, ne-eqb, not-true, not-false}
 use lib.Dec.{ltb}
 use lib.ListN.{length, getD, set, drop, length-set}
@@ -38,51 +36,8 @@ use Rattle.counting.specs.Inner.Filling.{
 }
 use Rattle.counting.specs.declared.tallies.Tally.{Tally}
 use Rattle.counting.specs.declared.tallies.Tally.the-variants.{Fits, Over}
-use Rattle.counting.proofs.Totals.{T-one}
-use Rattle.counting.proofs.PairSums.{part-le, part-none, part-end, part-ext, pairSum, T-pairs}
-
--- ---- the loop over a pair rule's left lengths
-
-says-fits : {n v : ℕ} {r : Tally} → r ≡ Fits v → TalliedAs n r → v ≡ n
-says-fits e h = rw e at h
-
-says-over : {n : ℕ} {r : Tally} → r ≡ Over → TalliedAs n r → most < n
-says-over e h = rw e at h
-
--- after the left length k, the sum is what it was with the products up to k
-pub record Adding (totals : List (List ℕ)) (B C m before k sum : ℕ) : Type 0 where
-  pub below : k < m
-  pub added : sum ≡ before + partSum (countAt totals) B C m k
-
-module _ {totals : List (List ℕ)} {B C m before : ℕ} (h : Halves totals B C m) where
-  pub adding-start : {k : ℕ} → k ≡ m - 1 - longestAt totals C → Adding totals B C m before k before
-  adding-start {k} e = record {
-    below = omega arith;
-    added = omega (arith, part-none (countAt totals) B C m k (omega arith) (λ i l u. h .right-over (m - i) (omega arith) (omega arith)));
-  }
-
-  module _ {k sum : ℕ} (w : Adding totals B C m before k sum) where
-    pub adding-end : {last : ℕ} → last ≤ k → last ≡ m - 1 - (m - 1 - longestAt totals B) → sum ≡ before + partSum (countAt totals) B C m (m - 1)
-    adding-end l e = omega (arith, part-end (countAt totals) B C m k (w .below) (λ i a b. h .left-over i (omega arith) b))
-
-    module _ {x y : ℕ} (l : k + 1 < m) (ex : x ≡ countAt totals B (k + 1)) (ey : y ≡ countAt totals C (m - (k + 1))) where
-      product : partSum (countAt totals) B C m (k + 1) ≡ partSum (countAt totals) B C m k + x * y
-      product = rw (ex, ey, add-one k)
-
-      pub adding-step : {v : ℕ} {t : Tally} → t ≡ Fits v → TalliedAs (sum + x * y) t → Adding totals B C m before (k + 1) v
-      adding-step e f = record { below = l; added = omega (arith, product, says-fits e f) }
-
-      pub adding-over : {t : Tally} → t ≡ Over → TalliedAs (sum + x * y) t → most < before + partSum (countAt totals) B C m (m - 1)
-      adding-over e f = omega (arith, product, part-le (countAt totals) B C m (k + 1) l, says-over e f)
-
-module _ {rules totals : List (List ℕ)} {m a : ℕ} (r : RowTo rules totals m a) {B C : ℕ} (hB : B < countIn rules) (hC : C < countIn rules) where
-  -- what the table's counts make of a pair rule up to a left length is what T makes of it
-  part-counts : (k : ℕ) → k < m → partSum (countAt totals) B C m k ≡ partSum (T (ruled rules)) B C m k
-  part-counts k h = part-ext (countAt totals) (T (ruled rules)) B C m k h (λ i l u. (r .right B i hB l u, r .right C i hC l u))
-
-  -- after the left length k the rule has added the sum of its products for the left lengths 1 to k
-  pub added-products : {before k sum : ℕ} → Adding totals B C m before k sum → sum ≡ before + partSum (T (ruled rules)) B C m k
-  added-products {k = k} w = omega (arith, w .added, part-counts k (w .below))
+use Rattle.counting.proofs.Totals.{pairTotal, T-one, T-more}
+use Rattle.counting.proofs.PairSums.{says-fits, says-over, halves-asked, part-counts}
 
 -- ---- the loop over a nonterminal's pair rules
 
@@ -90,7 +45,7 @@ module _ {rules totals : List (List ℕ)} {m a : ℕ} (r : RowTo rules totals m 
 pub record Summing (rules : List (List ℕ)) (a m i sum : ℕ) : Type 0 where
   pub from : pairFrom rules a ≤ i
   pub to : i ≤ pairFrom rules (a + 1)
-  pub due : sum + sumOver (pairSum (T (ruled rules)) m) (drop (i - pairFrom rules a) (pairsIn rules a)) ≡ T (ruled rules) a m
+  pub due : sum + sumOver (pairTotal (λ p. T (ruled rules)) 0 m) (drop (i - pairFrom rules a) (pairsIn rules a)) ≡ T (ruled rules) a m
 
 module _ {rules totals : List (List ℕ)} {m a : ℕ} (d : Deriving rules totals m a) where
   pub deriving-few : a < 32
@@ -102,7 +57,7 @@ module _ {rules totals : List (List ℕ)} {m a : ℕ} (d : Deriving rules totals
       record {
         from = omega arith;
         to = omega (arith, d .table .pair-rises a (d .inside));
-        due = rw z (omega (arith, rw (pairs-ruled rules a) at (T-pairs (ruled rules) a m (d .more))));
+        due = rw z (omega (arith, rw (pairs-ruled rules a) at (T-more (ruled rules) a m (d .more))));
       }
 
   module _ {i sum : ℕ} (w : Summing rules a m i sum) where
@@ -125,28 +80,16 @@ module _ {rules totals : List (List ℕ)} {m a : ℕ} (d : Deriving rules totals
           let b = pair-below (d .table) a i (d .inside) l in
           (omega (arith, d .table .lefts i b), omega (arith, d .table .rights i b))
 
-      step : sum + partSum (countAt totals) B C m (m - 1) + sumOver (pairSum (T (ruled rules)) m) (drop (i + 1 - pairFrom rules a) (pairsIn rules a)) ≡ T (ruled rules) a m
+      step : sum + partSum (countAt totals) B C m (m - 1) + sumOver (pairTotal (λ p. T (ruled rules)) 0 m) (drop (i + 1 - pairFrom rules a) (pairsIn rules a)) ≡ T (ruled rules) a m
       step =
           let z : i + 1 - pairFrom rules a ≡ suc (i - pairFrom rules a) = omega arith in
-          let added : partSum (countAt totals) B C m (m - 1) ≡ pairSum (T (ruled rules)) m rule =
-          part-counts (d .rows) (inside .0) (inside .1) (m - 1) (omega arith) ∙ rw here in
+          let added : partSum (countAt totals) B C m (m - 1) ≡ pairTotal (λ p. T (ruled rules)) 0 m rule
+          = part-counts d (inside .0) (inside .1) {k = m - 1} (omega arith) ∙ rw here in
           let there : i - pairFrom rules a < length (pairsIn rules a) = omega (arith, pair-count rules a) in
           rw z (omega (arith, rw (drop-cons (pairsIn rules a) (i - pairFrom rules a) (0, 0) there) at (w .due), added))
 
-      pub summing-asks : Halves totals B C m
-      summing-asks =
-          let h = inside in
-          let few = d .table .few in
-          let r = d .rows in
-          record {
-            long = r .long;
-            left = omega arith;
-            right = omega arith;
-            some = omega arith;
-            short = d .short;
-            left-over = λ k u v. r .right B k (h .0) (omega arith) v ∙ r .longest B k (h .0) u v;
-            right-over = λ k u v. r .right C k (h .1) (omega arith) v ∙ r .longest C k (h .1) u v;
-          }
+      pub summing-asks : {to : ℕ} → to ≡ m - 1 → Halves totals B C m to
+      summing-asks e = halves-asked d (inside .0) (inside .1) (omega (arith, d .more))
 
       pub summing-step : {v : ℕ} {t : Tally} → t ≡ Fits v → TalliedAs (sum + partSum (countAt totals) B C m (m - 1)) t → Summing rules a m (i + 1) v
       summing-step e f = record { from = omega arith; to = omega arith; due = omega (arith, step, says-fits e f) }

@@ -5,6 +5,7 @@ pub mod Sentences
 pub mod Counts
 pub mod OneLength
 pub mod PairSums
+pub mod InOrder
 pub mod Filling
 pub mod Tabled
 pub mod Preparing

@@ -1,19 +1,34 @@
--- What a pair rule has added after a left length: the sum of its products for the left lengths up to there (001, formula 4a). With the
--- products for the later ones it comes to all that the rule adds; and T is the sum of what the pair rules add.
+-- One pair rule's sum, with the steps of 001's formula 4a: a product more, the loop over the left lengths, and what the rule has added after
+-- each of them, with T in place of the table's counts.
 -- Assumes nothing.
-use mathlib.Core.Path.{_≡_, refl, sym, _∙_}
+use mathlib.Core.Path.{_≡_, ap, _∙_}
 use mathlib.Core.List.{List}
-use Prim.Native.Nat.{ℕ, zero, suc, _+_, _*_, _-_, _/_, _≤_, _<_}
+use Prim.Native.Nat.{ℕ, _+_, _*_, _-_, _/_, _≤_, _<_}
 use native.Mathlib.Omega.{arith}
 use native.Mathlib.Nat.{mul-le-mul, le-div-iff-mul-le, div-lt-iff-lt-mul}
-use native.Mathlib.Numerals.{add-one}
-use Rattle.lists.specs.Joined.{sumOver}
-use Rattle.lists.proofs.Sums.{sum-ext}
-use Rattle.grammar.specs.Chains.{Rule, pairsOf}
-use Rattle.counting.specs.Totals.{splitSum, T}
+use native.Mathlib.Decide.{decLe}
+use Rattle.lists.proofs.Runs.{run-ext, run-last, run-le, run-none, run-same}
+use Rattle.grammar.specs.Inner.Rules.{countIn, ruled}
+use Rattle.counting.specs.Totals.{T, addedAfter}
 use Rattle.counting.specs.Refusals.{most}
-use Rattle.counting.specs.Inner.Filling.{partSum}
-use Rattle.counting.proofs.Totals.{pairTotal, T-more, split-step, split-end, split-dead, split-skip}
+use Rattle.counting.specs.Inner.Counted.{countAt, longestAt}
+use Rattle.counting.specs.Inner.Filling.{TalliedAs, partSum, Halves, Deriving}
+use Rattle.counting.specs.declared.tallies.Tally.{Tally}
+use Rattle.counting.specs.declared.tallies.Tally.the-variants.{Fits, Over}
+use Rattle.counting.proofs.Totals.{productAt, left-none, right-none}
+
+-- ---- what a tally says
+
+pub says-fits : {n v : ℕ} {r : Tally} → r ≡ Fits v → TalliedAs n r → v ≡ n
+says-fits e h = rw e at h
+
+pub says-over : {n : ℕ} {r : Tally} → r ≡ Over → TalliedAs n r → most < n
+says-over e h = rw e at h
+
+-- of a number that fits, the number
+pub says-all : {n : ℕ} (r : Tally) → n ≤ most → TalliedAs n r → r ≡ Fits n
+says-all (Fits v) l h = ap Fits h
+says-all Over l h = absurd (omega arith)
 
 -- ---- a product more
 
@@ -30,50 +45,72 @@ no-room sum x y h l u =
     let p : 0 < x = omega arith in
     omega (arith, (div-lt-iff-lt-mul {k = x} {x = most - sum} {y = y} p) .0 u)
 
--- ---- a pair rule's products up to a left length
+-- ---- the loop over the left lengths
 
-module _ (count : ℕ → ℕ → ℕ) (B C m : ℕ) where
-  -- what a pair rule has added after the left length k, with its products for the later ones, is all that it adds
-  pub part-rest : (k : ℕ) → k < m
-      → partSum count B C m k + splitSum (λ p. count) B C 0 (k + 1) (m - (k + 1)) ≡ splitSum (λ p. count) B C 0 1 (m - 1)
-  part-rest zero h = omega arith
-  part-rest (suc k) h =
-      omega (arith, rw (add-one k) at (part-rest k (omega arith)), split-step (λ p. count) B C 0 (suc k) m h)
+-- after the left length k, the sum is what it was with the products up to k; those of them above `to` are 0
+pub record Adding (totals : List (List ℕ)) (B C m to before k sum : ℕ) : Type 0 where
+  pub below : k < m
+  pub added : sum ≡ before + partSum (countAt totals) B C m k
+  pub over : (i : ℕ) → to < i → i ≤ k → countAt totals C (m - i) ≡ 0
 
-  pub part-all : 1 ≤ m → partSum count B C m (m - 1) ≡ splitSum (λ p. count) B C 0 1 (m - 1)
-  part-all h =
-      omega (arith, part-rest (m - 1) (omega arith), split-end (λ p. count) B C 0 (m - 1 + 1) m (omega arith))
+-- a product of the table's counts
+abbrev product : List (List ℕ) → (B C m k : ℕ) → ℕ
+product totals B C m = productAt (λ p. countAt totals) B C 0 m
 
-  pub part-le : (k : ℕ) → k < m → partSum count B C m k ≤ partSum count B C m (m - 1)
-  part-le k h = omega (arith, part-rest k h, part-all (omega arith))
+module _ {totals : List (List ℕ)} {B C m to before : ℕ} (h : Halves totals B C m to) where
+  -- left lengths at which the right half is longer than its longest derivation have added nothing
+  pub adding-start : {k : ℕ} → k ≡ m - 1 - longestAt totals C → Adding totals B C m to before k before
+  adding-start {k} e =
+      let none : (i : ℕ) → 1 ≤ i → i ≤ k → countAt totals C (m - i) ≡ 0 = λ i l u. h .right-over (m - i) (omega arith) (omega arith) in
+      record {
+        below = omega (arith, h .bound);
+        added = omega (arith, run-none (product totals B C m) 1 k (λ i l u. right-none (λ p. countAt totals) B C 0 m i (none i l (omega arith))));
+        over = λ i l u. none i (omega arith) u;
+      }
 
-  -- left lengths at which the right half has no derivation have added nothing; later ones at which the left half has none will not
-  pub part-none : (k : ℕ) → k < m → ((i : ℕ) → 1 ≤ i → i ≤ k → count C (m - i) ≡ 0) → partSum count B C m k ≡ 0
-  part-none k h e = omega (arith, part-rest k h, split-skip (λ p. count) B C 0 m k (omega arith) (λ i l u. e i l (omega arith)))
+  module _ {k sum : ℕ} (w : Adding totals B C m to before k sum) where
+    -- nor do those up to the bound at which the left half is
+    pub adding-end : {last : ℕ} → last ≤ k → last ≡ to - (to - longestAt totals B) → sum ≡ before + partSum (countAt totals) B C m to
+    adding-end l e =
+        elim (decLe k to) [
+          | yes u ↦ omega (arith, w .added, run-same (product totals B C m) 1 k to u (λ i a b. left-none (λ p. countAt totals) B C 0 m i (h .left-over i (omega arith) (omega (arith, h .bound)))))
+          | no u ↦ omega (arith, w .added, run-same (product totals B C m) 1 to k (omega arith) (λ i a b. right-none (λ p. countAt totals) B C 0 m i (w .over i (omega arith) (omega arith))))
+        ]
 
-  pub part-end : (k : ℕ) → k < m → ((i : ℕ) → k < i → i < m → count B i ≡ 0) → partSum count B C m k ≡ partSum count B C m (m - 1)
-  part-end k h e =
-      omega (
-        arith,
-        part-rest k h,
-        part-all (omega arith),
-        split-dead (λ p. count) B C 0 (k + 1) m (λ i l u. e i (omega arith) u),
-      )
+    module _ {x y : ℕ} (l : k + 1 ≤ to) (ex : x ≡ countAt totals B (k + 1)) (ey : y ≡ countAt totals C (m - (k + 1))) where
+      one-more : partSum (countAt totals) B C m (k + 1) ≡ partSum (countAt totals) B C m k + x * y
+      one-more = let e : 1 + k ≡ k + 1 = omega arith in rw (ex, ey) (rw e at (run-last (product totals B C m) 1 k))
 
-pub part-ext : (f h : ℕ → ℕ → ℕ) (B C m k : ℕ) → k < m → ((i : ℕ) → 1 ≤ i → i < m → (f B i ≡ h B i) × (f C i ≡ h C i))
-    → partSum f B C m k ≡ partSum h B C m k
-part-ext f h B C m zero l e = refl
-part-ext f h B C m (suc k) l e =
-    rw (part-ext f h B C m k (omega arith) e, (e (suc k) (omega arith) l) .0, (e (m - suc k) (omega arith) (omega arith)) .1)
+      pub adding-step : {v : ℕ} {t : Tally} → t ≡ Fits v → TalliedAs (sum + x * y) t → Adding totals B C m to before (k + 1) v
+      adding-step e f = record {
+        below = omega (arith, h .bound);
+        added = omega (arith, w .added, one-more, says-fits e f);
+        over = λ i a b. absurd (omega arith);
+      }
 
--- what a pair rule adds towards the length m: its products for all left lengths
-abbrev pub pairSum : (count : ℕ → ℕ → ℕ) (m : ℕ) → ℕ × ℕ → ℕ
-pairSum count m x = partSum count (x .0) (x .1) m (m - 1)
+      pub adding-over : {t : Tally} → t ≡ Over → TalliedAs (sum + x * y) t → most < before + partSum (countAt totals) B C m to
+      adding-over e f = omega (arith, w .added, one-more, run-le (product totals B C m) 1 (k + 1) to l, says-over e f)
 
--- ---- T as a sum of products
+-- ---- T in place of the table's counts
 
--- T of a length of 2 or more is what the pair rules add together
-pub T-pairs : (chain : ℕ → List Rule) (A m : ℕ) → 2 ≤ m → T chain A m ≡ sumOver (pairSum (T chain) m) (pairsOf (chain A))
-T-pairs chain A m h =
-    T-more chain A m h
-    ∙ sum-ext (pairTotal (λ q. T chain) 0 m) (pairSum (T chain) m) (pairsOf (chain A)) (λ x i. sym (part-all (T chain) (x .0) (x .1) m (omega arith)))
+module _ {rules totals : List (List ℕ)} {m a : ℕ} (d : Deriving rules totals m a) {B C : ℕ} (hB : B < countIn rules) (hC : C < countIn rules) {k : ℕ} (l : k < m) where
+  -- where the shorter lengths' counts are in the table, a pair rule can be added up to every left length
+  pub halves-asked : Halves totals B C m k
+  halves-asked =
+      let few = d .table .few in
+      let r = d .rows in
+      record {
+        long = r .long;
+        left = omega arith;
+        right = omega arith;
+        short = d .short;
+        bound = l;
+        left-over = λ i u v. r .right B i hB (omega arith) v ∙ r .longest B i hB u v;
+        right-over = λ i u v. r .right C i hC (omega arith) v ∙ r .longest C i hC u v;
+      }
+
+  -- and has then added the sum of its products for the left lengths up to there
+  pub part-counts : partSum (countAt totals) B C m k ≡ addedAfter (ruled rules) B C m k
+  part-counts =
+      run-ext (product totals B C m) (productAt (λ p. T (ruled rules)) B C 0 m) 1 k
+      (λ i u v. rw (d .rows .right B i hB u (omega arith), d .rows .right C (m - i) hC (omega arith) (omega arith)))

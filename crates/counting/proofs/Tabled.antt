@@ -17,7 +17,7 @@ use Rattle.grammar.proofs.Ruling.{words-ruled, pairs-ruled, pair-inside}
 use Rattle.counting.specs.Totals.{total, T}
 use Rattle.counting.specs.Inner.Sentences.{sentences, splitList}
 use Rattle.counting.specs.Refusals.{most, overflows, tooLarge}
-use Rattle.counting.proofs.Totals.{pairTotal, split-moved, total-none, total-one, total-more}
+use Rattle.counting.proofs.Totals.{pairTotal, pair-moved, total-none, total-one, total-more}
 use Rattle.counting.proofs.Sentences.{sentences-none, sentences-one, sentences-more}
 
 -- two chains have the same words and the same pair rules, and these lead nowhere else
@@ -46,8 +46,8 @@ module _ {c d : ℕ → List Rule} {N : ℕ} (s : SameRules c d N) where
         total-more c v p A (suc (suc m)) (omega arith)
         ∙ sum-ext (pairTotal (total c v) p (suc (suc m))) (pairTotal (total d v) p (suc (suc m))) (pairsOf (c A))
         (λ x i. let in-N = s .inside A x h i in
-        split-moved (total c v) (total d v) (x .0) (x .1) p p 1 (suc (suc m) - 1) (λ k a b. total-below n p (x .0) k (omega arith) (in-N .0))
-        (λ k a b. total-below n (p + k) (x .1) (1 + (suc (suc m) - 1) - k) (omega arith) (in-N .1)))
+        pair-moved (total c v) (total d v) p p (suc (suc m)) x (λ k a b. total-below n p (x .0) k (omega arith) (in-N .0))
+        (λ k a b. total-below n (p + k) (x .1) (suc (suc m) - k) (omega arith) (in-N .1)))
         ∙ ap (sumOver (pairTotal (total d v) p (suc (suc m)))) (s .pairs A h)
         ∙ sym (total-more d v p A (suc (suc m)) (omega arith))
 

@@ -5,87 +5,47 @@ use mathlib.Core.Path.{_≡_, refl, sym, _∙_}
 use mathlib.Core.List.{List, [], _∷_}
 use Prim.Native.Nat.{ℕ, zero, suc, _+_, _*_, _-_, _≤_, _<_}
 use native.Mathlib.Omega.{arith}
-use native.Mathlib.Numerals.{add-one}
-use native.Mathlib.Decide.{ℕ-discrete}
 use borrow.Author.Tests.{ne-eqb}
 use Rattle.lists.specs.Joined.{sumOver, upFrom}
 use Rattle.lists.proofs.Sums.{sum-ext, sum-one}
+use Rattle.lists.proofs.Runs.{run-ext, run-same, run-later}
 use lib.ListN.{length}
 use Rattle.grammar.specs.Chains.{Rule, word, pair, wordsOf, pairsOf}
-use Rattle.counting.specs.Totals.{splitSum, ruleTotal, totalTo, total, T, Sums}
+use Rattle.counting.specs.Totals.{ruleTotal, totalTo, total, T, addedAfter, Sums}
 
 -- ---- a pair rule's products
 
+-- the product of a pair rule's halves for the length m and the left length k, at the position p
+abbrev pub productAt : (f : ℕ → ℕ → ℕ → ℕ) (B C p m k : ℕ) → ℕ
+productAt f B C p m k = f p B k * f (p + k) C (m - k)
+
+-- it is 0 where a half has no derivation
+module _ (f : ℕ → ℕ → ℕ → ℕ) (B C p m k : ℕ) where
+  pub left-none : f p B k ≡ 0 → productAt f B C p m k ≡ 0
+  left-none e = rw e (omega arith)
+
+  pub right-none : f (p + k) C (m - k) ≡ 0 → productAt f B C p m k ≡ 0
+  right-none e = rw e (omega arith)
+
+-- what a pair rule adds
+abbrev pub pairTotal : (f : ℕ → ℕ → ℕ → ℕ) (p m : ℕ) → ℕ × ℕ → ℕ
+pairTotal f p m x = sumOver (productAt f (x .0) (x .1) p m) (upFrom 1 (m - 1))
+
 -- halves that are equal, from p on and from q on, make equal products
-pub split-moved : (f g : ℕ → ℕ → ℕ → ℕ) (B C p q k j : ℕ) → ((i : ℕ) → k ≤ i → i < k + j → f p B i ≡ g q B i)
-    → ((i : ℕ) → k ≤ i → i < k + j → f (p + i) C (k + j - i) ≡ g (q + i) C (k + j - i)) → splitSum f B C p k j ≡ splitSum g B C q k j
-split-moved f g B C p q k zero l r = refl
-split-moved f g B C p q k (suc j) l r =
-    let e : k + suc j - k ≡ suc j = omega arith in
-    let d : k + suc j ≡ suc k + j = omega arith in
-    rw (
-      l k (omega arith) (omega arith),
-      rw e at (r k (omega arith) (omega arith)),
-      split-moved f g B C p q (suc k) j (λ i a b. l i (omega arith) (omega arith)) (λ i a b. rw d at (r i (omega arith) (omega arith))),
-    )
+pub pair-moved : (f g : ℕ → ℕ → ℕ → ℕ) (p q m : ℕ) (x : ℕ × ℕ) → ((i : ℕ) → 1 ≤ i → i < m → f p (x .0) i ≡ g q (x .0) i)
+    → ((i : ℕ) → 1 ≤ i → i < m → f (p + i) (x .1) (m - i) ≡ g (q + i) (x .1) (m - i)) → pairTotal f p m x ≡ pairTotal g q m x
+pair-moved f g p q m x l r =
+    run-ext (productAt f (x .0) (x .1) p m) (productAt g (x .0) (x .1) q m) 1 (m - 1) (λ i a b. rw (l i a (omega arith), r i a (omega arith)))
 
-pub split-ext : (f g : ℕ → ℕ → ℕ → ℕ) (B C p k j : ℕ) → 1 ≤ k → ((q A i : ℕ) → 1 ≤ i → i < k + j → f q A i ≡ g q A i)
-    → splitSum f B C p k j ≡ splitSum g B C p k j
-split-ext f g B C p k j h e =
-    split-moved f g B C p p k j (λ i l u. e p B i (omega arith) u) (λ i l u. e (p + i) C (k + j - i) (omega arith) (omega arith))
-
--- one left length more, as a loop that counts up to m meets it
-pub split-step : (f : ℕ → ℕ → ℕ → ℕ) (B C p k m : ℕ) → k < m
-    → splitSum f B C p k (m - k) ≡ f p B k * f (p + k) C (m - k) + splitSum f B C p (k + 1) (m - (k + 1))
-split-step f B C p k m h = let e : m - k ≡ suc (m - (k + 1)) = omega arith in rw (e, add-one k)
-
-pub split-end : (f : ℕ → ℕ → ℕ → ℕ) (B C p k m : ℕ) → m ≤ k → splitSum f B C p k (m - k) ≡ 0
-split-end f B C p k m h = let e : m - k ≡ 0 = omega arith in rw e
-
--- products that are all 0
-pub split-zero : (f : ℕ → ℕ → ℕ → ℕ) (B C p k j : ℕ) → ((i : ℕ) → k ≤ i → i < k + j → f p B i * f (p + i) C (k + j - i) ≡ 0) → splitSum f B C p k j ≡ 0
-split-zero f B C p k zero e = refl
-split-zero f B C p k (suc j) e =
-    let z : k + suc j - k ≡ suc j = omega arith in
-    let s : suc k + j ≡ k + suc j = omega arith in
-    omega (arith, rw z at (e k (omega arith) (omega arith)), split-zero f B C p (suc k) j (λ i l u. rw s (e i (omega arith) (omega arith))))
-
--- left lengths at which the left half has no derivation add nothing, and so do those at which the right half has none
-pub split-dead : (f : ℕ → ℕ → ℕ → ℕ) (B C p k m : ℕ) → ((i : ℕ) → k ≤ i → i < m → f p B i ≡ 0) → splitSum f B C p k (m - k) ≡ 0
-split-dead f B C p k m h = split-zero f B C p k (m - k) (λ i l u. let z : f p B i ≡ 0 = h i l (omega arith) in rw z (omega arith))
-
-pub split-skip : (f : ℕ → ℕ → ℕ → ℕ) (B C p m d : ℕ) → d + 1 ≤ m → ((i : ℕ) → 1 ≤ i → i < d + 1 → f (p + i) C (m - i) ≡ 0)
-    → splitSum f B C p 1 (m - 1) ≡ splitSum f B C p (d + 1) (m - (d + 1))
-split-skip f B C p m zero h e = refl
-split-skip f B C p m (suc d) h e =
-    let z : f (p + (d + 1)) C (m - (d + 1)) ≡ 0 = e (d + 1) (omega arith) (omega arith) in
-    let n : f p B (d + 1) * f (p + (d + 1)) C (m - (d + 1)) ≡ 0 = rw z (omega arith) in
-    let q : suc d + 1 ≡ d + 1 + 1 = omega arith in
-    rw q
-    (omega (arith, split-skip f B C p m d (omega arith) (λ i l u. e i l (omega arith)), split-step f B C p (d + 1) m (omega arith)))
-
--- and each of them is no more than all
-pub split-part : (f : ℕ → ℕ → ℕ → ℕ) (B C p k j i : ℕ) → k ≤ i → i < k + j → f p B i * f (p + i) C (k + j - i) ≤ splitSum f B C p k j
-split-part f B C p k zero i h l = absurd (omega arith)
-split-part f B C p k (suc j) i h l =
-    elim (ℕ-discrete k i) [
-      | yes e ↦ let z : k + suc j - k ≡ suc j = omega arith in rw (← e, z) (omega arith)
-      | no n ↦
-          let z : k + suc j - i ≡ suc k + j - i = omega arith in
-          rw z (omega (arith, split-part f B C p (suc k) j i (omega arith) (omega arith)))
-    ]
+pub pair-ext : (f g : ℕ → ℕ → ℕ → ℕ) (p m : ℕ) (x : ℕ × ℕ) → ((q A i : ℕ) → 1 ≤ i → i < m → f q A i ≡ g q A i) → pairTotal f p m x ≡ pairTotal g p m x
+pair-ext f g p m x e = pair-moved f g p p m x (λ i l u. e p (x .0) i l u) (λ i l u. e (p + i) (x .1) (m - i) (omega arith) (omega arith))
 
 -- ---- a chain's rules by kind
 
 rule-ext : (v : ℕ → ℕ → ℕ) (f g : ℕ → ℕ → ℕ → ℕ) (p m : ℕ) (r : Rule) → ((q A i : ℕ) → 1 ≤ i → i < m → f q A i ≡ g q A i)
     → ruleTotal v f p m r ≡ ruleTotal v g p m r
 rule-ext v f g p m (word w) e = refl
-rule-ext v f g p zero (pair B C) e = refl
-rule-ext v f g p (suc m) (pair B C) e = split-ext f g B C p 1 (suc m - 1) (omega arith) (λ q A i l u. e q A i l (omega arith))
-
--- what a pair rule adds
-abbrev pub pairTotal : (f : ℕ → ℕ → ℕ → ℕ) (p m : ℕ) → ℕ × ℕ → ℕ
-pairTotal f p m x = splitSum f (x .0) (x .1) p 1 (m - 1)
+rule-ext v f g p m (pair B C) e = pair-ext f g p m (B, C) e
 
 rules-one : (v : ℕ → ℕ → ℕ) (f : ℕ → ℕ → ℕ → ℕ) (p : ℕ) (rs : List Rule) → sumOver (ruleTotal v f p 1) rs ≡ sumOver (v p) (wordsOf rs)
 rules-one v f p [] = refl
@@ -142,10 +102,10 @@ module _ (chain : ℕ → List Rule) where
       total-more v p A (suc (suc m)) (omega arith)
       ∙ sum-ext (pairTotal (total chain v) p (suc (suc m))) (pairTotal (total chain u) q (suc (suc m))) (pairsOf (chain A))
       (λ x i.
-      split-moved (total chain v) (total chain u) (x .0) (x .1) p q 1 (suc (suc m) - 1)
+      pair-moved (total chain v) (total chain u) p q (suc (suc m)) x
       (λ k a b. moved-below v u n p q (x .0) k (omega arith) (λ j w l. e j w (omega arith)))
       (λ k a b.
-      moved-below v u n (p + k) (q + k) (x .1) (1 + (suc (suc m) - 1) - k) (omega arith)
+      moved-below v u n (p + k) (q + k) (x .1) (suc (suc m) - k) (omega arith)
       (λ j w l.
       let y : p + k + j ≡ p + (k + j) = omega arith in
       let z : q + k + j ≡ q + (k + j) = omega arith in
@@ -167,19 +127,18 @@ module _ (chain : ℕ → List Rule) where
   T-more A m h =
       total-more (λ q w. 1) 0 A m h
       ∙ sum-ext (pairTotal (total chain (λ q w. 1)) 0 m) (pairTotal (λ q. T chain) 0 m) (pairsOf (chain A))
-      (λ x i. split-ext (total chain (λ q w. 1)) (λ q. T chain) (x .0) (x .1) 0 1 (m - 1) (omega arith) (λ q B k l u. T-anywhere q B k))
+      (λ x i. pair-ext (total chain (λ q w. 1)) (λ q. T chain) 0 m x (λ q B k l u. T-anywhere q B k))
 
-  -- the products one after another
-  split-products : (f : ℕ → ℕ → ℕ) (B C k j m : ℕ) → k + j ≡ m → splitSum (λ q. f) B C 0 k j ≡ sumOver (λ i. f B i * f C (m - i)) (upFrom k j)
-  split-products f B C k zero m e = refl
-  split-products f B C k (suc j) m e =
-      let z : m - k ≡ suc j = omega arith in
-      rw z (omega (arith, split-products f B C (suc k) j m (omega arith)))
+  -- formula 4a's first and last product are 0
+  all-lengths : (B C m : ℕ) → addedAfter chain B C m (m - 1) ≡ sumOver (λ k. T chain B k * T chain C (m - k)) (upFrom 0 (m + 1))
+  all-lengths B C m =
+      let product = productAt (λ q. T chain) B C 0 m in
+      let e : m + 1 - 1 ≡ m = omega arith in
+      let first = run-later product 0 1 (m + 1) (omega arith)
+      (λ i l u. left-none (λ q. T chain) B C 0 m i (let z : i ≡ 0 = omega arith in rw z (total-none (λ q w. 1) 0 B))) in
+      let last = run-same product 1 (m - 1) m (omega arith)
+      (λ i l u. right-none (λ q. T chain) B C 0 m i (let z : m - i ≡ 0 = omega arith in rw z (total-none (λ q w. 1) 0 C))) in
+      omega (arith, rw e at first, last)
 
   pub sums : Sums chain
-  sums = record {
-    words = T-one;
-    pairs = λ A m h. T-more A m h
-        ∙ sum-ext (pairTotal (λ q. T chain) 0 m) (λ (x : ℕ × ℕ). sumOver (λ k. T chain (x .0) k * T chain (x .1) (m - k)) (upFrom 1 (m - 1))) (pairsOf (chain A))
-        (λ x i. split-products (T chain) (x .0) (x .1) 1 (m - 1) m (omega arith));
-  }
+  sums = record { words = T-one; pairs = T-more; formula-4a = all-lengths }

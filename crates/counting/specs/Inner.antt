@@ -4,4 +4,5 @@ pub mod Sentences
 pub mod Counted
 pub mod Preparing
 pub mod Filling
+pub mod InOrder
 pub mod Owned

@@ -12,16 +12,11 @@ use lib.ListN.{length}
 use Rattle.lists.specs.Joined.{sumOver, upFrom}
 use Rattle.grammar.specs.Chains.{Rule, word, pair, wordsOf, pairsOf}
 
--- What a pair rule (B, C) adds at the position p: the products for the left lengths k, k + 1, .. and the right lengths j, j - 1, .. 1,
--- the left length upward (001, formula 4a). `total p B k` is the half's own total.
-abbrev pub splitSum : (total : ℕ → ℕ → ℕ → ℕ) → (B C p k j : ℕ) → ℕ
-splitSum total B C p k zero = 0
-splitSum total B C p k (suc j) = total p B k * total (p + k) C (suc j) + splitSum total B C p (suc k) j
-
--- what a rule adds for the length m: a word rule its word's weight for length 1, a pair rule its products
+-- What a rule adds for the length m at the position p: a word rule its word's weight for length 1, a pair rule the products of its halves, the
+-- left length k upward (001, formula 4a). `total p B k` is the half's own total.
 abbrev pub ruleTotal : (v : ℕ → ℕ → ℕ) (total : ℕ → ℕ → ℕ → ℕ) (p m : ℕ) → Rule → ℕ
 ruleTotal v total p m (word w) = cond (eqb m 1) (v p w) 0
-ruleTotal v total p m (pair B C) = splitSum total B C p 1 (m - 1)
+ruleTotal v total p m (pair B C) = sumOver (λ k. total p B k * total (p + k) C (m - k)) (upFrom 1 (m - 1))
 
 module _ (chain : ℕ → List Rule) where
   -- halves are shorter than the whole, so a depth above the length adds all
@@ -37,8 +32,13 @@ module _ (chain : ℕ → List Rule) where
   abbrev pub T : ℕ → ℕ → ℕ
   T A m = total (λ p w. 1) 0 A m
 
-  -- T by its two equations (000, T_A; 001, formula 3): how many words, and "the sum over rules and k of products"
+  -- what the pair rule (B, C) has added for the length m after the left length k: "the sum of its products for left lengths 1 to k" (document 02, U3)
+  abbrev pub addedAfter : (B C m k : ℕ) → ℕ
+  addedAfter B C m k = sumOver (λ i. T B i * T C (m - i)) (upFrom 1 k)
+
+  -- T by its two equations (000, T_A; 001, formula 3): how many words, and "the sum over rules and k of products". The sum over k is that of 001's
+  -- formula 4a, whose products for k = 0 and k = m are 0, as no derivation is empty.
   pub record Sums : Type 0 where
     pub words : (A : ℕ) → T A 1 ≡ length (wordsOf (chain A))
-    pub pairs : (A m : ℕ) → 2 ≤ m
-        → T A m ≡ sumOver (λ (x : ℕ × ℕ). sumOver (λ k. T (x .0) k * T (x .1) (m - k)) (upFrom 1 (m - 1))) (pairsOf (chain A))
+    pub pairs : (A m : ℕ) → 2 ≤ m → T A m ≡ sumOver (λ (x : ℕ × ℕ). addedAfter (x .0) (x .1) m (m - 1)) (pairsOf (chain A))
+    pub formula-4a : (B C m : ℕ) → addedAfter B C m (m - 1) ≡ sumOver (λ k. T B k * T C (m - k)) (upFrom 0 (m + 1))

@@ -69,26 +69,27 @@ fn add_product(sum: u64, x: u64, y: u64) -> Tally
     Tally::Over
 }
 
-// How many of the lengths from 1 to m - 1 are above the longest with a derivation.
-fn above(longest: u64, m: usize) -> usize
-    requires { ⌜ 1 ≤ m ⌝ }
-    ensures { λ r. ⌜ r ≡ m - 1 - longest ⌝ }
+// How many of the lengths from 1 to `to` are above the longest with a derivation.
+fn above(longest: u64, to: usize) -> usize
+    ensures { λ r. ⌜ r ≡ to - longest ⌝ }
 {
     let l = longest as usize;
-    if m <= l {
+    if to <= l {
         return 0;
     }
-    m - 1 - l
+    to - l
 }
 
-// What the pair rule (b, c) adds towards the length m, product after product with the left length upward (001, formula 4a). Left out are
-// the first left lengths, where the right half is longer than c's longest, and the last, which are above b's: their products are 0.
-fn add_pair(totals: &[[u64; 32]], b: usize, c: usize, m: usize, before: u64) -> Tally
-    requires { ⌜ Halves (now totals) b c m ⌝ }
-    ensures { λ r. ⌜ TalliedAs (before + partSum (countAt (now (totals .entry))) b c m (m - 1)) r ⌝ }
+// The sum of 001's formula 4a for the pair rule (b, c) and the length m, added to what was there before: product after product, the left length k
+// upward, T(b, k) for its g1(k) and T(c, m - k) for its g2(n - k), up to the left length `to`. Left out are products that are 0: 4a's k = 0 and k = n,
+// as no derivation is empty; the first left lengths, where the right half is longer than c's longest; the last, where the left half is longer than
+// b's. What that comes to by T: `InOrder` in specs/Inner.
+fn add_pair(totals: &[[u64; 32]], b: usize, c: usize, m: usize, to: usize, before: u64) -> Tally
+    requires { ⌜ Halves (now totals) b c m to ⌝ }
+    ensures { λ r. ⌜ TalliedAs (before + partSum (countAt (now (totals .entry))) b c m to) r ⌝ }
 {
-    let last = m - 1 - above(longest_at(totals, b), m);
-    let mut k = above(longest_at(totals, c), m);
+    let last = to - above(longest_at(totals, b), to);
+    let mut k = above(longest_at(totals, c), m - 1);
     let mut sum = before;
     while k < last {
         k += 1;
@@ -117,6 +118,7 @@ fn derive(rules: &[[u8; 256]], totals: &[[u64; 32]], a: usize, m: usize) -> Tall
             rules::left_at(rules, i),
             rules::right_at(rules, i),
             m,
+            m - 1,
             sum,
         );
         match s {

@@ -2,6 +2,7 @@
 pub mod Sums
 pub mod Members
 pub mod Places
+pub mod Runs
 pub mod Orders
 pub mod Tests
 pub mod Owners

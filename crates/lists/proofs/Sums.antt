@@ -66,6 +66,11 @@ module _ {X Y : Type 0} where
   sum-concat f g [] = refl
   sum-concat f g (x ∷ l) = omega (arith, sum-append g (f x) (concatMap f l), sum-concat f g l)
 
+  -- a sum of sums, the other way round
+  pub sum-swap : (f : X → Y → ℕ) (l : List X) (k : List Y) → sumOver (λ x. sumOver (f x) k) l ≡ sumOver (λ y. sumOver (λ x. f x y) l) k
+  sum-swap f [] k = sym (sum-none (λ y. 0) k (λ y m. refl))
+  sum-swap f (x ∷ l) k = omega (arith, sum-swap f l k, sum-plus (f x) (λ y. sumOver (λ z. f z y) l) k)
+
   pub length-concat : (f : X → List Y) (l : List X) → length (concatMap f l) ≡ sumOver (λ x. length (f x)) l
   length-concat f [] = refl
   length-concat f (x ∷ l) = omega (arith, length-append (f x) (concatMap f l), length-concat f l)

@@ -13,6 +13,7 @@ use borrow.Author.Tests.{le-ltb, lt-leb, le-leb}
 use Rattle.lists.specs.Joined.{upFrom}
 use Rattle.lists.specs.Linked.{metFrom}
 use Rattle.lists.specs.Searched.{someBelow, same}
+use Rattle.lists.proofs.Runs.{run-last, run-none}
 use Rattle.answers.specs.Answer.{firstThatApplies, given, refused}
 use Rattle.answers.specs.Length.{badLength}
 use Rattle.answers.proofs.Refusals.{row-applies, row-passed, rows-pass, answer-accepted, answer-refused}
@@ -20,10 +21,10 @@ use Rattle.grammar.specs.Chains.{Rule, rest, chain}
 use Rattle.grammar.specs.Refusals.{tooShort, outOfRange, wrongSize, fits, badRule, badLink, metTwice, onNoChain, someAlike, repeated, Accepted}
 use Rattle.grammar.specs.Trees.{leaf, node, sentence}
 use Rattle.grammar.specs.FullList.{treesTo, trees}
-use Rattle.counting.specs.Totals.{splitSum, totalTo, total, T}
+use Rattle.counting.specs.Totals.{totalTo, total, T, addedAfter}
 use Rattle.counting.specs.Refusals.{most, preparedRows}
 use Rattle.counting.specs.Answers.{countOf}
-use Rattle.counting.proofs.Totals.{split-step, split-end, split-skip, T-one, T-more}
+use Rattle.counting.proofs.Totals.{productAt, right-none, T-one, T-more}
 use Rattle.counting.proofs.OneLength.{OneLength, words-alone}
 use Rattle.ranking.specs.Answers.{entryOf, unrankRows, unrankOf, numberOf, rankRows, rankOf}
 use Rattle.history.specs.Layout.{twoAt, recordWords}
@@ -41,15 +42,15 @@ use Rattle.sampling.proofs.Premises.{prepared-pass, heard-single, premi
 
 module _ (rules : ℕ → List Rule) (B C y : ℕ) (one : OneLength rules C 1 y) where
   -- only the left length one below adds
-  one-right : (m : ℕ) → 2 ≤ m → splitSum (λ q. T rules) B C 0 1 (m - 1) ≡ T rules B (m - 1) * y
+  one-right : (m : ℕ) → 2 ≤ m → addedAfter rules B C m (m - 1) ≡ T rules B (m - 1) * y
   one-right m h =
-      let z : m - 2 + 1 ≡ m - 1 = omega arith in
+      let product = productAt (λ q. T rules) B C 0 m in
+      let z : 1 + (m - 2) ≡ m - 1 = omega arith in
+      let s : m - 2 + 1 ≡ m - 1 = omega arith in
       let r : m - (m - 1) ≡ 1 = omega arith in
-      let skip : splitSum (λ q. T rules) B C 0 1 (m - 1) ≡ splitSum (λ q. T rules) B C 0 (m - 1) (m - (m - 1))
-      = rw z at (split-skip (λ q. T rules) B C 0 m (m - 2) (omega arith) (λ i l u. one .elsewhere (m - i) (λ e. omega arith))) in
-      let step = split-step (λ q. T rules) B C 0 (m - 1) m (omega arith) in
-      let product : T rules B (m - 1) * T rules C (m - (m - 1)) ≡ T rules B (m - 1) * y = rw (r, one .here) in
-      omega (arith, skip, step, product, split-end (λ q. T rules) B C 0 (m - 1 + 1) m (omega arith))
+      let none = run-none product 1 (m - 2) (λ i l u. right-none (λ q. T rules) B C 0 m i (one .elsewhere (m - i) (λ e. omega arith))) in
+      let last : product (m - 1) ≡ T rules B (m - 1) * y = rw (r, one .here) in
+      omega (arith, none, rw (z, s) at (run-last product 1 (m - 2)), last)
 
 -- ---- the grammar F
 

@@ -4,9 +4,10 @@
 use mathlib.Core.Path.{_≡_}
 use mathlib.Core.Bool.{Bool, true, not, cond}
 use mathlib.Core.List.{List, []}
-use Prim.Native.Nat.{ℕ, zero, suc, _+_, _*_, _-_, _≤_, _<_}
+use Prim.Native.Nat.{ℕ, _*_, _-_, _≤_, _<_}
 use lib.Dec.{ltb, eqb}
 use lib.ListN.{length, getD}
+use Rattle.lists.specs.Joined.{sumOver, upFrom}
 use Rattle.lists.specs.Searched.{someBelow}
 use Rattle.lists.specs.Inner.Tables.{put, Wide, Kept}
 use Rattle.grammar.specs.Inner.Rules.{countIn, ruled, Ruled}
@@ -41,19 +42,17 @@ pub record FilledAs (rules : List (List ℕ)) (n : ℕ) (before after : List (Li
 
 -- ---- one pair rule
 
--- What a pair rule (B, C) has added after the left length k, towards the length m: the sum of its products for the left lengths 1 to k,
--- the left length upward (001, formula 4a). `count` gives the counts of the halves.
+-- what the pair rule (B, C) has added for the length m after the left length k, with the counts of a table in place of T (`addedAfter`)
 abbrev pub partSum : (count : ℕ → ℕ → ℕ) (B C m k : ℕ) → ℕ
-partSum count B C m zero = 0
-partSum count B C m (suc k) = partSum count B C m k + count B (suc k) * count C (m - suc k)
+partSum count B C m k = sumOver (λ i. count B i * count C (m - i)) (upFrom 1 k)
 
--- the two halves' counts below m are there, and zero past their longest lengths
-pub record Halves (totals : List (List ℕ)) (B C m : ℕ) : Type 0 where
+-- the two halves' counts below m are there, and zero past their longest lengths; `to` is a left length, or 0
+pub record Halves (totals : List (List ℕ)) (B C m to : ℕ) : Type 0 where
   pub long : 17 ≤ length totals
   pub left : B < 32
   pub right : C < 32
-  pub some : 1 ≤ m
   pub short : m ≤ 16
+  pub bound : to < m
   pub left-over : (k : ℕ) → longestAt totals B < k → k < m → countAt totals B k ≡ 0
   pub right-over : (k : ℕ) → longestAt totals C < k → k < m → countAt totals C k ≡ 0
 

@@ -1,18 +1,18 @@
 -- `add_pair` meets its contract. The loop's invariant: after the left length k, the sum is what it was with the products for the left
 -- lengths 1 to k (001, formula 4a). It starts after the left lengths at which the right half is too long, which add nothing, and ends
--- where the left half is. The measure is the left lengths left. Assumes nothing.
+-- at the bound or where the left half is. The measure is the left lengths left. Assumes nothing.
 use Prim.Native.Nat.{_-_}
 use native.Mathlib.Omega.{arith}
 use borrow.Author.Needs.{needs}
-use Rattle.counting.proofs.Filling.{Adding, adding-start, adding-step, adding-over, adding-end}
+use Rattle.counting.proofs.PairSums.{Adding, adding-start, adding-step, adding-over, adding-end}
 use Rattle.counting.proofs.tallies.add_pair.Statement.{statement}
 use Rattle.counting.proofs.tallies.add_pair.Tie as tie
 
 abbrev Inv-loop : tie.InvT-loop
-Inv-loop totals b c m before last k₀ sum₀ k sum = Adding totals b c m before k sum
+Inv-loop totals b c m to before last k₀ sum₀ k sum = Adding totals b c m to before k sum
 
 abbrev μ-loop : tie.MeasureT-loop
-μ-loop totals b c m before last k₀ sum₀ k sum = last - k
+μ-loop totals b c m to before last k₀ sum₀ k sum = last - k
 
 abbrev start : tie.At-loop Inv-loop μ-loop → tie.Start Inv-loop μ-loop
 start c = c .before .before .before .before .before
@@ -47,12 +47,12 @@ add-pair-spec =
     (tie.spec
     Inv-loop
     μ-loop
+    (λ c κs. omega arith)
+    (λ c κs. tt)
     (λ c. omega arith)
     (λ c κs. omega arith)
-    (λ c κs. omega arith)
     (λ c. omega arith)
-    (λ c κs. omega arith)
-    (λ c κs. omega arith)
+    (λ c κs. tt)
     loop-holds
     (λ c. omega arith)
     (λ c κs. omega arith)

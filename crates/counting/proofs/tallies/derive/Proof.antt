@@ -28,7 +28,7 @@ loop-holds c = summing-start (c .before .before .pre) (c .pairs-from2 .ensures .
 add-pair-requires : tie.Need-add-pair-requires Inv-loop μ-loop
 add-pair-requires c κs =
     let l = c .before .before .before in
-    summing-asks (start l .pre) (l .loop .inv) (omega arith) (c .before .left-at .ensures .0) (c .right-at .ensures .0)
+    summing-asks (start l .pre) (l .loop .inv) (omega arith) (c .before .left-at .ensures .0) (c .right-at .ensures .0) (omega arith)
 
 returns : tie.Need-returns Inv-loop μ-loop
 returns c =
@@ -59,6 +59,7 @@ derive-spec =
     loop-holds
     (λ c κs. let d = start (c .before) .pre in (d .table .long, omega arith))
     (λ c κs. let d = start (c .before .before) .pre in (d .table .long, omega arith))
+    (λ c. omega (arith, start (c .before .before .before) .pre .more))
     add-pair-requires
     (λ c. search needs)
     returns
