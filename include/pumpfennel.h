@@ -69,7 +69,7 @@ enum pumpfennel_refusal {
     PUMPFENNEL_GRAMMAR_EQUAL_RULES = 8,
     /* The length, or the sentence's length, is not 1 to 16. */
     PUMPFENNEL_BAD_LENGTH = 9,
-    /* Some count up to the length is above 2^64 - 1. */
+    /* A count that the length needs is above 2^64 - 1. */
     PUMPFENNEL_TOO_MANY_DERIVATIONS = 10,
     /* The history has fewer than 4 bytes, K is above 1,000, or it has fewer than 4 + 20K bytes. */
     PUMPFENNEL_HISTORY_WRONG_SIZE = 11,
@@ -117,7 +117,7 @@ static inline const char *pumpfennel_refusal_text(uint8_t refusal) {
     case PUMPFENNEL_BAD_LENGTH:
         return "the length, or the sentence's length, is not 1 to 16";
     case PUMPFENNEL_TOO_MANY_DERIVATIONS:
-        return "some count up to the length is above 2^64 - 1";
+        return "a count that the length needs is above 2^64 - 1";
     case PUMPFENNEL_HISTORY_WRONG_SIZE:
         return "the history has fewer than 4 bytes, K is above 1,000, or it has fewer than 4 + 20K bytes";
     case PUMPFENNEL_HISTORY_BAD_RECORD:
@@ -153,7 +153,13 @@ uint8_t pumpfennel_check_grammar(const uint8_t *grammar, size_t grammar_len, uin
 /* Check diary: gives how many records the history has. Refusals 11 to 14. */
 uint8_t pumpfennel_check_history(const uint8_t *history, size_t history_len, uint64_t *records);
 
-/* Count: gives how many derivations the start has with that length. Refusals 1 to 10. */
+/*
+ * Count: gives how many derivations the start has with that length. Refusals 1 to 10.
+ *
+ * 10, here and below: the length needs the start's count at that length; and with a nonterminal's count at a length, the counts of
+ * both nonterminals of each of its pair rules at every shorter length. What no sentence of that length reaches may have any number of
+ * derivations.
+ */
 uint8_t pumpfennel_count(const uint8_t *grammar, size_t grammar_len, uint64_t length, uint64_t *total);
 
 /*

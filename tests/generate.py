@@ -127,3 +127,47 @@ def brimful(extra=0):
         y8: [pair(y4, x4)],
     }
     return grammar(17, s, [chains[a] for a in range(16)])
+
+
+def heavy(first):
+    """The chains of five nonterminals from the number first on. That one has 2 * 240^8 derivations of length 8, which is
+    above 2^64 - 1, and none of another length."""
+    four, also_four, two, one = range(first + 1, first + 5)
+    return [[pair(four, four), pair(also_four, four)], [pair(two, two)], [pair(two, two)], [pair(one, one)], [word(i) for i in range(240)]]
+
+
+def reaching():
+    """Grammars with a count above 2^64 - 1, by name, each with the lengths from 1 to 16 that need it (document 02, U2)."""
+    start, other, further = range(3)
+    single = [[pair(other, other)], [word(0)]]  # one derivation, of two words
+    eight = [[pair(i + 1, i + 1)] for i in range(7, 10)] + [[word(0)]]  # 7: one derivation, of eight words
+    return {
+        # the start never uses it
+        'out of reach': (grammar(240, start, [[word(0), pair(start, other)], [word(1)], *heavy(2)]), range(0)),
+        # needed one length below the whole, beside a partner with no derivation at all
+        'left of nothing': (grammar(240, start, [[word(0), pair(further, other)], [], *heavy(2)]), range(9, 17)),
+        'right of nothing': (grammar(240, start, [[word(0), pair(other, further)], [], *heavy(2)]), range(9, 17)),
+        # beside a partner of two words
+        'left of two words': (grammar(240, start, [[pair(3, other)], [pair(further, further)], [word(0)], *heavy(3)]), range(9, 17)),
+        # two lengths below the whole
+        'two steps': (grammar(240, start, [[word(0), pair(further, other)], [], [pair(other, 3)], *heavy(3)]), range(10, 17)),
+        # the start itself: at the whole length, and from two lengths below the whole on, which leaves out the one between
+        'the start': (grammar(240, start, [heavy(0)[0] + [pair(5, 6), pair(10, 7)], *heavy(0)[1:], [pair(start, 6)], [], *eight]), [8, *range(10, 17)]),
+        # a half that only the other half of a rule reaches
+        'a half of a half': (grammar(240, start, [[pair(other, other)], [word(0), pair(further, other)], [pair(3, further)], *heavy(3)]), range(11, 17)),
+        # no derivation of the start, and none of what it uses
+        'nothing derived': (grammar(240, start, [[pair(start, start)], [pair(other, further)], *heavy(2)]), range(0)),
+        'single': (grammar(240, further, [*single, [pair(start, other)], *heavy(3)]), range(0)),
+    }
+
+
+def random_heavy(rng):
+    """An accepted grammar with few nonterminals, one of them with very many words, so that its counts soon pass 2^64 - 1."""
+    n, w = 2 + rng.below(6), rng.choice([16, 40, 200])
+    chains = [[word(rng.below(w))] if rng.below(3) == 0 else [] for _ in range(n)] + [[word(i) for i in range(w)]]
+    for _ in range(1 + rng.below(3 * n)):
+        chain, rule = chains[rng.below(n)], pair(rng.below(n + 1), rng.below(n + 1))
+        if rule not in chain:
+            chain.append(rule)
+    total = sum(map(len, chains))
+    return grammar(w, rng.below(n), chains, rng.shuffled(range(1, total + 1)))

@@ -20,7 +20,7 @@ from typing import NamedTuple
 
 import oracle
 import vectors
-from generate import Rng, brimful, damaged, grammar, history, low_high, pair, random_damage, random_grammar, word
+from generate import Rng, brimful, damaged, grammar, history, low_high, pair, random_damage, random_grammar, reaching, word
 from oracle import F, G
 
 READ = 65536  # House bank and listing program: "reads up to 65,536 bytes of standard input"
@@ -95,19 +95,20 @@ def lengths():
 
 def several_refusals():
     """A bank with one of 2 to 8 or none, with and without each of 9, 10 and 15, a diary with one of 11 to 14 or none: the
-    smallest is the answer. Words alone make the second nonterminal's counts pass 64 bits, at length 16 and not at 15."""
-    words = [word(i) for i in range(16)]
-    bank = grammar(16, 0, [[pair(0, 0), word(0)], [pair(2, 2), pair(1, 2)], words, [word(0), word(1)]])
-    rule = [None] + [8 + 4 * i for i in range(bank[2])]
+    smallest is the answer. The length 16 needs 20^15 derivations of the second nonterminal, above 2^64 - 1; 15 needs 20^14."""
+    words = [word(i) for i in range(20)]
+    bank = grammar(20, 0, [[pair(0, 0), word(0), pair(1, 4)], [pair(2, 2), pair(1, 2)], words, [word(0), word(1)], []])
+    rule = [None] + [9 + 4 * i for i in range(bank[2])]
+    last = bank[2]
     banks = {
         0: bank,
-        2: damaged(bank, [(3, 4)]),
+        2: damaged(bank, [(3, 5)]),
         3: bank + b'\0',
-        4: damaged(bank, [(rule[22] + vectors.KIND, 2)]),
-        5: damaged(bank, [(rule[21] + vectors.NEXT, 23)]),
-        6: damaged(bank, [(rule[22] + vectors.NEXT, 1)]),
-        7: damaged(bank, [(rule[21] + vectors.NEXT, 0)]),
-        8: damaged(bank, [(rule[22] + vectors.A, 0)]),
+        4: damaged(bank, [(rule[last] + vectors.KIND, 2)]),
+        5: damaged(bank, [(rule[last - 1] + vectors.NEXT, last + 1)]),
+        6: damaged(bank, [(rule[last] + vectors.NEXT, 1)]),
+        7: damaged(bank, [(rule[last - 1] + vectors.NEXT, 0)]),
+        8: damaged(bank, [(rule[last] + vectors.A, 0)]),
     }
     for refusal, nine, length, ambiguous in itertools.product(banks, (0, 9), (15, 16), (0, 15)):
         diary = history([bytes([2]), bytes([0 if ambiguous else 7]) * length, bytes([3])])
@@ -194,6 +195,17 @@ def nearly_all_heard(rng):
         yield f'left {left}', framed(10, F, history(heard, rng.shuffled(range(1, len(heard) + 1))))
 
 
+def needed_pairs(rng):
+    """Counts above 2^64 - 1 that the length needs, and such that it doesn't (document 02, U2)."""
+    for name, (bank, _) in reaching().items():
+        for length in range(1, 17):
+            yield f'{name}, length {length}', framed(length, bank, EMPTY)
+    for i, (bank, lengths) in enumerate(vectors.formerly_refused(rng, 60)):
+        for length in lengths:
+            sentences = heard_sentences(rng, bank, length) if oracle.count(bank, length)[0] == 0 else [bytes(length)]
+            yield f'needed pairs {i}, length {length}', framed(length, bank, history(sentences, rng.shuffled(range(1, len(sentences) + 1))))
+
+
 # ---- Random banks and diaries
 
 def manageable(bank, length):
@@ -262,7 +274,7 @@ def quick(data):
 def all_inputs():
     """Each input once."""
     fixed = [*examples(), *house_bank(Rng(11)), *traps(), *lengths(), *several_refusals(), *cut_short(), *bank_sizes(),
-             *long_inputs(), *thousand_records(Rng(12)), *nearly_all_heard(Rng(13))]
+             *long_inputs(), *thousand_records(Rng(12)), *nearly_all_heard(Rng(13)), *needed_pairs(Rng(16))]
     drawn = [(name, data) for name, data in [*random_inputs(Rng(14)), *noise(Rng(15))] if quick(data)]
     unique = {}
     for name, data in fixed + drawn:

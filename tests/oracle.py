@@ -1,7 +1,7 @@
 #!/usr/bin/env python3
-"""Brute-force answers to every call of document 01, for the tests.
+"""Brute-force answers to every call of document 01, with the requests of document 02 that have landed (U2), for the tests.
 
-Written from document 01 alone: the headings below are its sections, and each definition cites its
+Written from the documents alone: the headings below are sections of document 01, and each definition cites its
 sentence. Derivations are enumerated one by one as trees, in the document's order. Where that list
 would be long (LISTED), the same answers come from exact counts; the tests hold the two ways against
 each other.
@@ -28,7 +28,7 @@ from itertools import chain as concat
 from typing import NamedTuple
 
 MOST = 2**64 - 1  # opening paragraph: "counts and numbers have 64 bits"
-LISTED = 200_000  # the most derivations, over all nonterminals and lengths, that are listed as trees
+LISTED = 200_000  # the most derivations, over all needed pairs, that are listed as trees
 WORD, PAIR = 0, 1  # Bank bytes: "The kind is 0 for a word rule, 1 for a pair rule"
 
 # Examples. F and G; F with any number of words is f_words.
@@ -192,9 +192,19 @@ class Grammar:
             return len(self.words(a))
         return sum(self.total(b, k) * self.total(c, m - k) for _, b, c, k in self.splits(a, m))
 
+    @memo
+    def needed(self, length):
+        """Document 02, U2: "The pair (S, length) is needed. If (A, m) is needed, so are (B, k) and (C, m - k)
+        for each pair rule of A and each k"."""
+        pairs, found = set(), {(self.start, length)}
+        while found:
+            pairs |= found
+            found = {half for a, m in found for _, b, c, k in self.splits(a, m) for half in ((b, k), (c, m - k))} - pairs
+        return pairs
+
     def totals(self, length):
-        """T(A, m) for every nonterminal and every m from 1 to the length."""
-        return [self.total(a, m) for a in range(len(self.chains)) for m in range(1, length + 1)]
+        """T(A, m) of every needed pair."""
+        return [self.total(a, m) for a, m in self.needed(length)]
 
 
 @lru_cache(maxsize=4)
@@ -376,6 +386,7 @@ def length_lines(length):
 
 
 def total_lines(grammar, length):
+    """Document 02, U2: "10 applies exactly if the count of a needed pair is above 2^64 - 1"."""
     yield 10, any(total > MOST for total in read(grammar).totals(length))
 
 

@@ -15,7 +15,7 @@ import unittest
 import listings
 import oracle
 import vectors
-from generate import Rng, brimful, damaged, grammar, history, pair, random_damage, word
+from generate import Rng, brimful, damaged, grammar, history, pair, random_damage, reaching, word
 from oracle import F, G
 
 ROOT = pathlib.Path(__file__).resolve().parent.parent
@@ -215,6 +215,9 @@ def all_cases():
     for bank in deep_banks():
         for length in (5, 6, 15, 16):
             yield from cases_of(length, bank, history([bytes(length), b'\1' * length]))
+    for bank, _ in reaching().values():
+        for length in (3, 8, 9, 10):
+            yield from cases_of(length, bank, history([bytes(length)]))
     thousand = [oracle.unrank(oracle.matrix(), 5, 7 * i, bytes(5))[2] for i in range(1000)]
     for many in (0, 1, 999, 1000):
         yield from cases_of(5, oracle.matrix(), history(thousand[:many]))
@@ -223,6 +226,8 @@ def all_cases():
         yield from cases_of(1, bank, diary)
     for _, _, bank in vectors.TRAPS:
         yield 'check_grammar', bank
+    for _, _, bank in vectors.defects():
+        yield from cases_of(2, bank, history([bytes(2)]))
     for _, _, diary in vectors.HISTORY_TRAPS:
         yield 'check_history', diary
         yield 'append', diary, b'\1\2'

@@ -1,6 +1,7 @@
 """Tests of the brute-force program: document 01's examples, and small random grammars on which its
 enumeration, its counts and an order of trees written apart from it must agree."""
 import unittest
+import unittest.mock
 
 import generate
 import oracle
@@ -123,15 +124,24 @@ class Refusals(unittest.TestCase):
         self.assertEqual(oracle.count(generate.brimful(1), 16), (10, 0))
         self.assertEqual(oracle.count(generate.brimful(1), 15), (0, 0))
 
-    def test_totals_of_every_nonterminal_and_shorter_length_count(self):
-        useless = generate.grammar(16, 2, [[pair(1, 1), pair(0, 1)], [word(i) for i in range(16)], []])
-        self.assertEqual(oracle.count(useless, 15), (0, 0))
-        self.assertEqual(oracle.count(useless, 16), (10, 0))
-        self.assertEqual(oracle.remaining(useless, b'', 16), (10, 0, 0, 0))
-        # 2 * 240^8 derivations of 1 with length 8, none with another
-        words = [word(i) for i in range(240)]
-        shorter = generate.grammar(240, 0, [[], [pair(2, 2), pair(3, 2)], [pair(4, 4)], [pair(4, 4)], [pair(5, 5)], words])
-        self.assertEqual([oracle.count(shorter, m)[0] for m in (7, 8, 9, 16)], [0, 10, 10, 10])
+    def test_only_totals_of_needed_pairs_must_fit(self):
+        for name, (grammar, refused) in generate.reaching().items():
+            with self.subTest(name):
+                for length in range(1, 17):
+                    ten = length in refused
+                    self.assertEqual(oracle.count(grammar, length)[0] == 10, ten)
+                    self.assertEqual(oracle.unrank(grammar, length, PAST, b'')[0], 10 if ten else 16)
+                    self.assertEqual(oracle.rank(grammar, bytes([239]) * length)[0], 10 if ten else 17)
+                    self.assertEqual(oracle.remaining(grammar, b'', length)[0], 10 if ten else 11)
+                    self.assertEqual(oracle.draw(grammar, EMPTY, length, PAST, b'')[0], 10 if ten else 16)
+
+    def test_a_call_that_is_refused_no_more_answers_by_the_same_definitions(self):
+        grammar, _ = generate.reaching()['the start']
+        self.assertEqual(oracle.count(grammar, 9), (0, 1))
+        self.assertEqual(oracle.unrank(grammar, 9, 0, bytes(9)), (0, 1, bytes(9)))
+        self.assertEqual(oracle.rank(grammar, bytes(9)), (0, 0, 1))
+        self.assertEqual(oracle.remaining(grammar, history([bytes(9)]), 9), (0, 1, 1, 0))
+        self.assertEqual(oracle.draw(grammar, EMPTY, 9, 0, bytes(9)), (0, 1, 0, bytes(9)))
 
     def test_history_before_the_draw_number(self):
         self.assertEqual(oracle.draw(F, b'', 2, PAST, b''), (11, 0, 0, b''))
@@ -282,6 +292,14 @@ def stands_before(grammar, nonterminal, x, y):
     return stands_before(grammar, b, x.right, y.right)
 
 
+def ways_down(read, a, m):
+    """Each pair on each way down from (a, m), as often as a way leads to it: document 02's U2, step by step."""
+    yield a, m
+    for _, b, c, k in read.splits(a, m):
+        yield from ways_down(read, b, k)
+        yield from ways_down(read, c, m - k)
+
+
 class SmallGrammars(unittest.TestCase):
     """Some hundred random grammars, each nonterminal and each length that has few derivations."""
 
@@ -302,6 +320,20 @@ class SmallGrammars(unittest.TestCase):
         cases = list(self.lists(500))
         self.assertGreater(len(cases), 1000)
         self.assertGreater(sum(oracle.count(*case)[1] > 10 for case in cases), 50)
+
+    def test_ten_with_a_lowered_bound(self):
+        tried = 0
+        for grammar, length in self.lists(200):
+            if length > 4:
+                continue
+            read = oracle.read(grammar)
+            most = max(len(read.derivations(a, m)) for a, m in ways_down(read, read.start, length))
+            for bound in (most - 1, most):
+                with unittest.mock.patch.object(oracle, 'MOST', bound):
+                    self.assertEqual(oracle.count(grammar, length)[0], 10 if bound < most else 0)
+            largest = max(len(read.derivations(a, m)) for a in range(grammar[0]) for m in range(1, length + 1))
+            tried += largest > most
+        self.assertGreater(tried, 100)  # so often a pair that isn't needed has more derivations
 
     def test_the_recursion_counts_the_list(self):
         for grammar, length in self.lists(5000):

@@ -33,7 +33,8 @@ import sys
 from typing import NamedTuple
 
 import oracle
-from generate import Rng, brimful, damaged, grammar, history, low_high, pair, random_damage, random_grammar, word
+from generate import (Rng, brimful, damaged, grammar, history, low_high, pair, random_damage, random_grammar, random_heavy,
+                      reaching, word)
 from oracle import F, G
 
 
@@ -450,6 +451,19 @@ def small_grammars(rng, count):
             yield data
 
 
+def formerly_refused(rng, count):
+    """Random grammars with a length that isn't refused, although some count up to it is above 2^64 - 1: of a pair that isn't needed. With
+    each the last such length, the one before it and the one after it."""
+    while count:
+        data = random_heavy(rng)
+        read = oracle.read(data)
+        large = [m for m in range(1, 17) if any(read.total(a, m) > oracle.MOST for a in range(data[0]))]
+        lengths = [length for length in range(1, 17) if large and large[0] <= length and oracle.count(data, length)[0] == 0]
+        if lengths and (oracle.count(data, lengths[-1])[1] or rng.below(4) == 0):
+            count -= 1
+            yield data, [length for length in range(lengths[-1] - 1, lengths[-1] + 2) if length <= 16]
+
+
 def ranking_cases():
     rng = Rng(31415)
     stated = {
@@ -487,6 +501,20 @@ def ranking_cases():
         calls = Calls(f'random {i}', data)
         every_number(calls, range(1, 7))
         every_sentence(calls, data[1] + 1, range(1, 4))
+        made.append(calls)
+    for name, (data, refused) in reaching().items():
+        calls = Calls(name, data)
+        for length in range(1, 17):
+            calls.count(length)
+        for length in sorted({3, 9, 10, *refused[:1]}):
+            calls.there_and_back(length, 0)
+            calls.number(bytes(length))
+        made.append(calls)
+    for i, (data, lengths) in enumerate(formerly_refused(rng, 30)):
+        calls = Calls(f'needed pairs {i}', data)
+        for length in lengths:
+            some_numbers(calls, rng, length, 3)
+            calls.number(bytes(length))
         made.append(calls)
     return [case for calls in [*banks.values(), *made] for case in calls.framed_cases()]
 

@@ -1,4 +1,4 @@
-//! The calls of document 01 in plain Rust: the yardstick. Written from document 01 alone; no unsafe code, no threads, nothing kept
+//! The calls of document 01, with document 02's U2, in plain Rust: the yardstick. Written from the documents alone; no unsafe code, no threads, nothing kept
 //! between calls. An error is the refusal's number.
 
 const MOST_RECORDS: usize = 1000;
@@ -130,15 +130,34 @@ pub type Totals = [[u64; 17]; 32];
 
 pub const NO_TOTALS: Totals = [[0; 17]; 32];
 
-/// 10, or T for the lengths 1 to n. Which lengths a nonterminal has is a mask, so that no product with a zero is looked at.
+/// The nonterminals that are needed at each length from 1 to n: the start symbol at n, and with a nonterminal those of its pair rules at every
+/// shorter length.
+fn needed(g: &Grammar, n: usize) -> [u32; 17] {
+    let mut at = [0u32; 17];
+    at[n] = 1 << (g.start & 31);
+    let (mut met, mut halves) = (0u32, 0u32);
+    for m in (2..=n).rev() {
+        for a in Bits(at[m] & !met) {
+            for &(b, c) in g.pairs(a) {
+                halves |= 1 << (b & 31) | 1 << (c & 31);
+            }
+        }
+        met |= at[m];
+        at[m - 1] = halves;
+    }
+    at
+}
+
+/// 10, or T of the needed pairs in a table of zeros. Which lengths a nonterminal has is a mask, so that no product with a zero is looked at.
 fn fill_totals(g: &Grammar, n: usize, t: &mut Totals) -> Result<(), u8> {
+    let needed = needed(g, n);
     let mut lengths = [0u32; 32];
-    for a in 0..g.nonterminals {
+    for a in Bits(needed[1]) {
         t[a][1] = g.words(a).len() as u64;
         lengths[a] = u32::from(t[a][1] != 0) << 1;
     }
     for m in 2..=n {
-        for a in 0..g.nonterminals {
+        for a in Bits(needed[m]) {
             let mut sum = 0u64;
             for &(b, c) in g.pairs(a) {
                 let (b, c) = (b as usize & 31, c as usize & 31);

@@ -186,7 +186,9 @@ pub fn check_history(history: &[u8]) -> Result<u64, Refusal> {
 ///
 /// # Errors
 ///
-/// Refusals 1 to 10.
+/// Refusals 1 to 10. 10, here and below: the length needs the start's count at that length; and with a nonterminal's count at
+/// a length, those of both nonterminals of each of its pair rules at every shorter length. What no sentence of that length
+/// reaches may have any number of derivations.
 pub fn count(grammar: &[u8], length: u64) -> Result<u64, Refusal> {
     let mut total = 0;
     // SAFETY: a slice, and a figure of this function.

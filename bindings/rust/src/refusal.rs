@@ -25,7 +25,7 @@ pub enum Refusal {
     GrammarEqualRules = 8,
     /// The length, or the sentence's length, is not 1 to 16.
     BadLength = 9,
-    /// Some count up to the length is above 2^64 - 1.
+    /// A count that the length needs is above 2^64 - 1.
     TooManyDerivations = 10,
     /// The history has fewer than 4 bytes, K is above 1,000, or it has fewer than 4 + 20K bytes.
     HistoryWrongSize = 11,
@@ -86,7 +86,7 @@ impl Refusal {
             Refusal::GrammarRuleOnNoChain => "a rule is on no chain",
             Refusal::GrammarEqualRules => "one chain holds two rules with the same kind, a and b",
             Refusal::BadLength => "the length, or the sentence's length, is not 1 to 16",
-            Refusal::TooManyDerivations => "some count up to the length is above 2^64 - 1",
+            Refusal::TooManyDerivations => "a count that the length needs is above 2^64 - 1",
             Refusal::HistoryWrongSize => {
                 "the history has fewer than 4 bytes, K is above 1,000, or it has fewer than 4 + 20K bytes"
             }

@@ -1,36 +1,21 @@
 -- The plan from its rows. A pair rule stands at a place, so its nonterminals are among those gathered; the nonterminals of its halves are
 -- wanted where they have derivations, so their lengths are cut.
 -- Assumes nothing.
-use mathlib.Core.Path.{_≡_, refl, ap}
+use mathlib.Core.Path.{_≡_, refl}
 use mathlib.Core.Bool.{true}
-use mathlib.Core.List.{List, [], _∷_, Memᴰ·of-map}
-use Prim.Native.Nat.{ℕ, _+_, _-_, _≤_, _<_}
+use mathlib.Core.List.{List, [], _∷_}
+use Prim.Native.Nat.{ℕ, _+_, _-_, _≤_}
 use native.Mathlib.Omega.{arith}
 use lib.ListN.{length, set}
-use Rattle.lists.specs.Joined.{_∈_, upFrom}
-use Rattle.lists.proofs.Members.{upFrom-∈}
 use Rattle.sets.specs.Inner.Sets.{member}
-use Rattle.grammar.specs.Inner.Rules.{leftAt, rightAt, pairFrom, countIn, pairsIn, ruled, Ruled}
-use Rattle.grammar.proofs.Ruling.{pair-below}
+use Rattle.grammar.specs.Inner.Rules.{pairFrom, countIn, ruled}
+use Rattle.grammar.proofs.Ruling.{pair-place, pair-below}
 use Rattle.counting.specs.Totals.{T}
 use Rattle.counting.specs.Inner.Counted.{Asked, Counted}
 use Rattle.counting.proofs.Asking.{asked-left, asked-right}
 use Rattle.charts.specs.Inner.Plan.{Cut}
 use Rattle.charts.specs.Inner.Planning.{at, SidedAs, AllWantedAs, AllCutAs, Spots, SpottedAs, PlacedAs, Plans, BuiltAs}
 use Rattle.charts.proofs.Placing.{placed-rows}
-
--- where a pair rule stands
-pub pair-place : {rules : List (List ℕ)} → Ruled rules → (A : ℕ) (x : ℕ × ℕ) → A < countIn rules → x ∈ pairsIn rules A
-    → (i : ℕ) × (i < pairFrom rules (countIn rules)) × (leftAt rules i ≡ x .0) × (rightAt rules i ≡ x .1)
-unfolding pairsIn
-pair-place {rules} t A x h m =
-    let q = Memᴰ·of-map (λ i. (leftAt rules i, rightAt rules i)) (upFrom (pairFrom rules A) (pairFrom rules (A + 1) - pairFrom rules A)) m in
-    let u = upFrom-∈ (pairFrom rules A) (pairFrom rules (A + 1) - pairFrom rules A) (q .1) in (
-      q .0,
-      pair-below t A (q .0) h (omega (arith, t .pair-rises A h)),
-      ap (λ (e : ℕ × ℕ). e .0) (q .2),
-      ap (λ (e : ℕ × ℕ). e .1) (q .2),
-    )
 
 module _ {rules totals : List (List ℕ)} {n N end lefts rights : ℕ} {cuts′ wanted′ partners′ : List ℕ}
     (c : Counted rules totals n) (eN : N ≡ countIn rules) (ee : end ≡ pairFrom rules (countIn rules))
@@ -47,14 +32,15 @@ module _ {rules totals : List (List ℕ)} {n N end lefts rights : ℕ} {cuts′ 
   assembled ps =
       record {
         wants = is-wanted;
-        asks = λ A m h s l t. record { inside = omega (arith, ws .each m s l .only A h t); some = s; short = l };
+        asks = λ A m h s l t. c .only A m h s l (ws .each m s l .only A h t);
         pairs = λ A B C h i.
-            let q = pair-place (c .table) A (B, C) h i in
-            rw (q .2, q .3) at (ss .pair (q .0) (omega (arith, q .1)));
+            let q = pair-place rules A (B, C) i in
+            rw (q .3, q .4) at (ss .pair (q .0) (omega (arith, pair-below (c .table) A (q .0) h (q .2))));
         cut = λ A B C m k a i s l hb hc.
-            let q = pair-place (c .table) A (B, C) (a .inside) i in
-            ks .each m (a .some) (a .short) .has B C k s l (rw (q .2) at (ss .left (q .0) (omega (arith, q .1))))
-            (is-wanted B k (asked-left (c .table) a (B, C) i k s (omega arith)) hb) (rw (q .3) at (ss .right (q .0) (omega (arith, q .1))))
+            let q = pair-place rules A (B, C) i in
+            let b = pair-below (c .table) A (q .0) (a .inside) (q .2) in
+            ks .each m (a .some) (a .short) .has B C k s l (rw (q .3) at (ss .left (q .0) (omega arith)))
+            (is-wanted B k (asked-left (c .table) a (B, C) i k s (omega arith)) hb) (rw (q .4) at (ss .right (q .0) (omega arith)))
             (is-wanted C (m - k) (asked-right (c .table) a (B, C) i (m - k) (omega arith) (omega arith)) hc);
         within = λ m k h s l t. ks .each m s l .only k h t;
         whole = ps .whole;

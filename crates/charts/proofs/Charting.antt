@@ -14,7 +14,7 @@ use Rattle.lists.specs.Inner.Tables.{entry, Wide}
 use Rattle.lists.specs.Joined.{_∈_}
 use Rattle.sets.specs.Inner.Sets.{member, members}
 use Rattle.sets.proofs.Digits.{member-none}
-use Rattle.sets.proofs.Loops.{turn-member, turn}
+use Rattle.sets.proofs.Loops.{turn-out, turn}
 use Rattle.sets.proofs.Lists.{members-∈}
 use Rattle.grammar.specs.Inner.Rules.{countIn, ruled}
 use Rattle.counting.specs.Totals.{total, T}
@@ -205,9 +205,7 @@ module _ {rules plan map : List (List ℕ)} {n m left : ℕ} {sets : List ℕ} {
         here : (i : ℕ) → Span n i m → needed plan i m ≡ true → member next i ≡ false → Dec (i ≡ p) → Done rules map n i m totals′
         here i s h z (yes e) = rw e span-done
         here i s h z (no e) =
-            let out : member left i ≡ false
-            = turn-member left p next t i (omega (arith, s .inside, n-low)) ∙ rw (ne-eqb p i (λ x. e (sym x)), z) in
-            other-done i m s h (λ x. e (x .0)) (f .here i s h out)
+            other-done i m s h (λ x. e (x .0)) (f .here i s h (turn-out left p next t i (omega (arith, s .inside, n-low)) z e))
 
 -- ---- all spans
 

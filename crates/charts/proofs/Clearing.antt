@@ -5,14 +5,13 @@ use mathlib.Core.List.{List, [], _∷_}
 use Prim.Native.Nat.{ℕ, zero, suc, _<_}
 use native.Mathlib.Omega.{arith}
 use native.Mathlib.Decide.{ℕ-discrete}
-use borrow.Author.Tests.{ne-eqb}
 use lib.ListN.{length, getD, set, drop, replicate, length-set}
 use lib.Seq.{set-getD, set-set}
 use Rattle.lists.specs.Inner.Tables.{put}
 use Rattle.lists.proofs.Tables.{put-same, put-beside, row-same}
 use Rattle.sets.specs.Inner.Sets.{member, members}
 use Rattle.sets.proofs.Digits.{member-none}
-use Rattle.sets.proofs.Loops.{lowest-low, turn, turn-member}
+use Rattle.sets.proofs.Loops.{lowest-low, turn, turn-out}
 use Rattle.charts.specs.Inner.Filling.{Zero, Clears, blanked}
 
 all-zero : (n : ℕ) (l : List ℕ) → length l ≡ n → ((A : ℕ) → A < n → getD l A 0 ≡ 0) → l ≡ replicate n 0
@@ -55,6 +54,6 @@ module _ {s row : ℕ} {before : List (List ℕ)} (q : Clears s row before) wher
               | yes e ↦ rw e (put-same now row a 0 clear-inside (omega (arith, w .wide, lowest-low left a first)))
               | no n ↦
                   put-beside now row a 0 A clear-inside n
-                  ∙ w .zero A h (turn-member left a next (turn left a first next rest) A h ∙ rw (ne-eqb a A (λ x. n (sym x)), z))
+                  ∙ w .zero A h (turn-out left a next (turn left a first next rest) A h z n)
             ];
           }

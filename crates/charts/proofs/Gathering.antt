@@ -80,14 +80,14 @@ pub wants-start : (totals : List (List ℕ)) (m s : ℕ) → members s ≡ [] �
 wants-start totals m s e = record { has = λ A h t. absurd (omega arith); only = λ A h t. absurd (none-member s A e h t) }
 
 module _ {totals : List (List ℕ)} {a m s : ℕ} (w : WantedAs totals a m s) where
-  pub wants-put : (r : ℕ) → ((b : ℕ) → member r b ≡ (member s b || eqb a b)) → WantedAs totals (a + 1) m r
-  wants-put r e =
+  pub wants-put : (r : ℕ) → 1 ≤ entry totals m a → ((b : ℕ) → member r b ≡ (member s b || eqb a b)) → WantedAs totals (a + 1) m r
+  wants-put r n e =
       record {
         has = below-more (λ A. 1 ≤ entry totals m A → member r A ≡ true) a (λ A h t. with-more s a r e A (w .has A h t)) (λ t. with-new s a r e a refl);
         only = λ A h t.
             elim (with-only s a r e A t) [
-              | inl l ↦ omega (arith, w .only A h l)
-              | inr q ↦ omega arith
+              | inl l ↦ w .only A h l
+              | inr q ↦ rw (← q) n
             ];
       }
 
@@ -95,7 +95,7 @@ module _ {totals : List (List ℕ)} {a m s : ℕ} (w : WantedAs totals a m s) wh
   wants-pass z =
       record {
         has = below-more (λ A. 1 ≤ entry totals m A → member s A ≡ true) a (λ A h t. w .has A h t) (λ t. absurd (omega arith));
-        only = λ A h t. omega (arith, w .only A h t);
+        only = w .only;
       }
 
 pub wanted-start : {totals : List (List ℕ)} {N : ℕ} {row : List ℕ} → length row ≡ 32 → AllWantedAs totals N (1 - 1) row

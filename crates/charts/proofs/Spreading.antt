@@ -8,15 +8,13 @@ use mathlib.Core.List.{List, [], _∷_, List·Memᴰ·head}
 use Prim.Native.Nat.{ℕ, _+_, _-_, _≤_, _<_}
 use native.Mathlib.Omega.{arith}
 use native.Mathlib.Decide.{ℕ-discrete}
-use borrow.Author.Tests.{ne-eqb}
 use lib.Dec.{eqb, leb}
 use lib.ListN.{length, set}
 use lib.Seq.{getD-set-other}
-use Rattle.lists.proofs.Tests.{or-true}
 use Rattle.sets.specs.Inner.Sets.{member, members}
 use Rattle.sets.proofs.Digits.{member-none}
 use Rattle.sets.proofs.Lists.{members-∈}
-use Rattle.sets.proofs.Loops.{turn-member, with-new, with-only, either-left, either-right, either-cases, moved-there, moved-back, none-member}
+use Rattle.sets.proofs.Loops.{turn-among, turn-out, with-new, with-only, either-left, either-right, either-cases, moved-there, moved-back, none-member}
 use Rattle.charts.specs.Inner.Planning.{at, Halves, Inside, Spreads, SpreadAs, Spots, SpottedAs}
 use Rattle.charts.proofs.Gathering.{stored-long, stored-same, stored-more}
 
@@ -109,11 +107,10 @@ module _ {s m left : ℕ} {before row : List ℕ} (a : Spreads s m before) (w : 
             elim (ℕ-discrete j k) [
               | yes e ↦ rw e (new p l h)
               | no n ↦
-                  let g : member left j ≡ false = turn-member left k next t j u ∙ rw (ne-eqb k j (λ e. n (sym e))) f in
-                  let q = w .done p j l u c g h in
+                  let q = w .done p j l u c (turn-out left k next t j u f n) h in
                   (more-two p j (more-one p j (q .0)), more-two (p + j) (m - j) (more-one (p + j) (m - j) (q .1)))
             ];
-        rest = λ j l h. w .rest j l (turn-member left k next t j l ∙ or-true (eqb k j) (member next j) h);
+        rest = λ j l h. w .rest j l (turn-among left k next t j l h);
         kept = λ n h l i.
             let in-row = w .kept n h l i in
             let in-one = inside-put n row k x (w .long) (low .0) in-row

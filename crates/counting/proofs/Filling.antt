@@ -1,43 +1,37 @@
 -- The turns of the loops that fill the table of totals, each as a law over plain numbers and lists. A nonterminal's sum so far, with what its
--- later pair rules add, comes to T; a row is right for the nonterminals passed. The loop over one pair rule's left lengths is in PairSums.antt.
+-- later pair rules add, comes to T; a row is right for the nonterminals passed; the rows passed have what is asked for. The loop over one pair rule's left
+-- lengths is in PairSums.antt.
 -- Assumes nothing.
 use mathlib.Core.Path.{_≡_, refl, sym, ap, _∙_}
 use mathlib.Core.Bool.{Bool, true, false, not, false≢true}
-use mathlib.Core.List.{List, []}
+use mathlib.Core.List.{List, [], _∷_}
 use Prim.Native.Nat.{ℕ, suc, _+_, _-_, _≤_, _<_}
 use native.Mathlib.Omega.{arith}
 use native.Mathlib.Decide.{ℕ-discrete}
-use borrow.Author.Tests.{ltb-false, lt-ltb, le-ltb, eq-eqb, ne-eqb, not-true, not-false}
-use lib.Dec.{ltb}
+use borrow.Author.Tests.{eq-eqb, ne-eqb}
 use lib.ListN.{length, getD, set, drop, length-set}
 use lib.Seq.{drop-cons, drop-length}
-use Rattle.lists.specs.Joined.{sumOver}
+use Rattle.lists.specs.Joined.{_∈_, sumOver}
 use Rattle.lists.specs.Inner.Tables.{put, Wide, Kept}
-use Rattle.lists.proofs.Tests.{below-at, below-clear, below-some, to-clear, to-some}
+use Rattle.lists.proofs.Members.{getD-∈}
 use Rattle.lists.proofs.Tables.{put-same, put-row, put-other-row, put-beside, kept-same, kept-then, kept-put}
-use Rattle.grammar.specs.Inner.Rules.{leftAt, rightAt, wordFrom, pairFrom, countIn, pairsIn, ruled}
-use Rattle.grammar.proofs.Ruling.{words-ruled, pairs-ruled, word-count, pair-count, pair-here, pair-below}
+use Rattle.sets.specs.Inner.Sets.{members}
+use Rattle.sets.proofs.Digits.{member-none}
+use Rattle.sets.proofs.Loops.{lowest-low, turn, turn-out, first-member}
+use Rattle.grammar.specs.Inner.Rules.{leftAt, rightAt, wordFrom, pairFrom, startIn, pairsIn, ruled}
+use Rattle.grammar.proofs.Ruling.{words-ruled, pairs-ruled, word-count, pair-count, pair-here}
 use Rattle.counting.specs.Totals.{T}
-use Rattle.counting.specs.Refusals.{most, overflows}
-use Rattle.counting.specs.Inner.Counted.{countAt, longestAt}
-use Rattle.counting.specs.Inner.Filling.{
-  TalliedAs,
-  Filling,
-  FilledAs,
-  partSum,
-  Halves,
-  RowTo,
-  Deriving,
-  longer,
-  stored,
-  rowTooLarge,
-  RowFilledAs,
-  RowFilling,
-}
+use Rattle.counting.specs.Needed.{Needed}
+use Rattle.counting.specs.Refusals.{most}
+use Rattle.counting.specs.Inner.Counted.{countAt, longestAt, Asked}
+use Rattle.counting.specs.Inner.Needs.{needsAt, NeedsAs, MemberOf, FoundAs}
+use Rattle.counting.specs.Inner.Filling.{TalliedAs, Filling, FilledAs, partSum, Halves, Below, Deriving, longer, stored, RowFilling, RowTo, RowFilledAs}
 use Rattle.counting.specs.declared.tallies.Tally.{Tally}
 use Rattle.counting.specs.declared.tallies.Tally.the-variants.{Fits, Over}
 use Rattle.counting.proofs.Totals.{pairTotal, T-one, T-more}
-use Rattle.counting.proofs.PairSums.{says-fits, says-over, halves-asked, part-counts}
+use Rattle.counting.proofs.Needed.{overflows-needed, overflows-fit}
+use Rattle.counting.proofs.Asking.{asked-of}
+use Rattle.counting.proofs.PairSums.{says-fits, says-over, halves-asked, part-counts, halves-below}
 
 -- ---- the loop over a nonterminal's pair rules
 
@@ -47,17 +41,17 @@ pub record Summing (rules : List (List ℕ)) (a m i sum : ℕ) : Type 0 where
   pub to : i ≤ pairFrom rules (a + 1)
   pub due : sum + sumOver (pairTotal (λ p. T (ruled rules)) 0 m) (drop (i - pairFrom rules a) (pairsIn rules a)) ≡ T (ruled rules) a m
 
-module _ {rules totals : List (List ℕ)} {m a : ℕ} (d : Deriving rules totals m a) where
-  pub deriving-few : a < 32
-  deriving-few = omega (arith, d .table .few, d .inside)
+pub deriving-few : {rules totals : List (List ℕ)} {m a : ℕ} → Deriving rules totals m a → a < 32
+deriving-few d = omega (arith, d .table .few, d .inside)
 
+module _ {rules totals : List (List ℕ)} {m a : ℕ} (d : Deriving rules totals m a) (more : 2 ≤ m) where
   pub summing-start : {i : ℕ} → i ≡ pairFrom rules a → Summing rules a m i 0
   summing-start {i} e =
       let z : i - pairFrom rules a ≡ 0 = omega arith in
       record {
         from = omega arith;
         to = omega (arith, d .table .pair-rises a (d .inside));
-        due = rw z (omega (arith, rw (pairs-ruled rules a) at (T-more (ruled rules) a m (d .more))));
+        due = rw z (omega (arith, rw (pairs-ruled rules a) at (T-more (ruled rules) a m more)));
       }
 
   module _ {i sum : ℕ} (w : Summing rules a m i sum) where
@@ -75,27 +69,36 @@ module _ {rules totals : List (List ℕ)} {m a : ℕ} (d : Deriving rules totals
           let z : pairFrom rules a + (i - pairFrom rules a) ≡ i = omega arith in
           rw z at (pair-here rules a (i - pairFrom rules a) (omega arith)) ∙ rw (eB, eC)
 
-      inside : (B < countIn rules) × (C < countIn rules)
-      inside =
-          let b = pair-below (d .table) a i (d .inside) l in
-          (omega (arith, d .table .lefts i b), omega (arith, d .table .rights i b))
+      there : i - pairFrom rules a < length (pairsIn rules a)
+      there = omega (arith, pair-count rules a)
+
+      listed : (B, C) ∈ pairsIn rules a
+      listed = rw (← here) (getD-∈ (pairsIn rules a) (i - pairFrom rules a) (0, 0) there)
 
       step : sum + partSum (countAt totals) B C m (m - 1) + sumOver (pairTotal (λ p. T (ruled rules)) 0 m) (drop (i + 1 - pairFrom rules a) (pairsIn rules a)) ≡ T (ruled rules) a m
       step =
           let z : i + 1 - pairFrom rules a ≡ suc (i - pairFrom rules a) = omega arith in
           let added : partSum (countAt totals) B C m (m - 1) ≡ pairTotal (λ p. T (ruled rules)) 0 m rule
-          = part-counts d (inside .0) (inside .1) {k = m - 1} (omega arith) ∙ rw here in
-          let there : i - pairFrom rules a < length (pairsIn rules a) = omega (arith, pair-count rules a) in
+          = part-counts d listed {k = m - 1} (omega arith) ∙ rw here in
           rw z (omega (arith, rw (drop-cons (pairsIn rules a) (i - pairFrom rules a) (0, 0) there) at (w .due), added))
 
       pub summing-asks : {to : ℕ} → to ≡ m - 1 → Halves totals B C m to
-      summing-asks e = halves-asked d (inside .0) (inside .1) (omega (arith, d .more))
+      summing-asks e = halves-asked d listed (omega arith)
 
       pub summing-step : {v : ℕ} {t : Tally} → t ≡ Fits v → TalliedAs (sum + partSum (countAt totals) B C m (m - 1)) t → Summing rules a m (i + 1) v
       summing-step e f = record { from = omega arith; to = omega arith; due = omega (arith, step, says-fits e f) }
 
       pub summing-over : {t : Tally} → t ≡ Over → TalliedAs (sum + partSum (countAt totals) B C m (m - 1)) t → most < T (ruled rules) a m
       summing-over e f = omega (arith, step, says-over e f)
+
+-- ---- the length 1
+
+-- the word rules are as many as T says
+pub words-count : {rules totals : List (List ℕ)} {m a from to : ℕ} → Deriving rules totals m a → m ≡ 1 → from ≡ wordFrom rules a → to ≡ wordFrom rules (a + 1)
+    → (from ≤ to) × (to - from ≡ T (ruled rules) a m)
+words-count {rules} {a = a} d e u v =
+    let s = d .table .word-rises a (d .inside) in
+    (omega arith, rw e (omega (arith, T-one (ruled rules) a, ap length (words-ruled rules a), word-count rules a)))
 
 -- ---- what a store leaves
 
@@ -121,10 +124,6 @@ module _ (totals : List (List ℕ)) (m a v : ℕ) (long : 17 ≤ length totals) 
   high-beside A n =
       put-other-row once 0 a (longer (longestAt totals a) m v) m A (λ e. omega arith) ∙ put-beside totals m a v A (omega arith) n
 
-  high-other : (A k : ℕ) → 1 ≤ k → (k ≡ m → ⊥) → countAt (stored totals a m v) A k ≡ countAt totals A k
-  high-other A k l n =
-      put-other-row once 0 a (longer (longestAt totals a) m v) k A (λ e. omega arith) ∙ put-other-row totals m a v k A n
-
   low-same : longestAt (stored totals a m v) a ≡ longer (longestAt totals a) m v
   low-same =
       put-same once 0 a (longer (longestAt totals a) m v) (omega (arith, once-long))
@@ -144,214 +143,200 @@ longer-past {old} {m} {v} {k} l u =
       | no n ↦ let q : m < k = rw (ne-eqb v 0 n) at l in absurd (omega arith)
     ]
 
-module _ {rules totals : List (List ℕ)} {m a v : ℕ} (few : countIn rules ≤ 32) (ha : a < countIn rules) (h₁ : 1 ≤ m) (h : m ≤ 16)
-    (e : v ≡ T (ruled rules) a m) (r : RowTo rules totals m a) where
-  past : {k : ℕ} → longestAt (stored totals a m v) a < k → k ≤ m → (longestAt totals a < k) × (v ≡ 0)
-  past l u = longer-past (rw (low-same totals m a v (r .long) (r .wide) (omega arith) h₁ h) at l) u
-
-  other : {A k : ℕ} → (A ≡ a → ⊥) → longestAt (stored totals a m v) A < k → longestAt totals A < k
-  other {A} n l = rw (low-other totals m a v (r .long) (r .wide) (omega arith) h₁ h A n) at l
-
-  row-store : RowTo rules (stored totals a m v) m (a + 1)
-  row-store =
-      let kept = kept-stored totals a m v h (r .wide) in
-      record {
-        long = omega (arith, kept .long, r .long);
-        wide = kept .wide;
-        right = λ A k hA l u. high-other totals m a v (r .long) (r .wide) (omega arith) h₁ h A k l (λ z. omega arith) ∙ r .right A k hA l u;
-        longest = λ A k hA l u. elim (ℕ-discrete A a) [
-          | yes z ↦ rw z (r .longest a k ha (past (rw z at l) (omega arith) .0) u)
-          | no n ↦ r .longest A k hA (other n l) u
-        ];
-        right-here = λ A hA. elim (ℕ-discrete A a) [
-          | yes z ↦ rw z (high-same totals m a v (r .long) (r .wide) (omega arith) h₁ h ∙ e)
-          | no n ↦ high-beside totals m a v (r .long) (r .wide) (omega arith) h₁ h A n ∙ r .right-here A (omega arith)
-        ];
-        longest-here = λ A hA l. elim (ℕ-discrete A a) [
-          | yes z ↦ rw z (sym e ∙ past (rw z at l) (omega arith) .1)
-          | no n ↦ r .longest-here A (omega arith) (other n l)
-        ];
-      }
-
--- before the nonterminal a: the row is right up to there, and its counts fit
-pub record Passed (rules start totals : List (List ℕ)) (m a : ℕ) : Type 0 where
-  pub reached : a ≤ countIn rules
-  pub rows : RowTo rules totals m a
-  pub fit : (A : ℕ) → A < a → ltb most (T (ruled rules) A m) ≡ false
-  pub kept : Kept 17 32 start totals
-
-module _ {rules start : List (List ℕ)} {m : ℕ} (f : RowFilling rules start m) where
-  pub passed-start : Passed rules start start m 0
-  passed-start = record {
-    reached = omega arith;
-    rows = f .rows;
-    fit = λ A h. absurd (omega arith);
-    kept = kept-same (f .rows .wide);
+module _ {rules start : List (List ℕ)} {m set : ℕ} (f : RowFilling rules start m set) where
+  -- at first all members are left
+  pub row-start : RowTo rules start start m set set
+  row-start = record {
+    right = λ A i o. absurd (false≢true (sym o ∙ i .1));
+    fits = λ A i o. absurd (false≢true (sym o ∙ i .1));
+    longest = λ A i o l. absurd (false≢true (sym o ∙ i .1));
+    only = λ A h o. absurd (omega (arith, f .zeros A));
+    risen = λ A k h l. l;
+    others = λ r h n. refl;
+    kept = kept-same (f .wide);
   }
 
-  module _ {a n : ℕ} (all : n ≡ countIn rules) (l : a < n) where
-    pub passed-few : a < 32
-    passed-few = omega (arith, f .table .few)
+  module _ {totals : List (List ℕ)} {left : ℕ} (w : RowTo rules start totals m set left) where
+    pub row-long : 17 ≤ length totals
+    row-long = omega (arith, w .kept .long, f .long)
 
-    pub passed-asks : {totals : List (List ℕ)} → 2 ≤ m → Passed rules start totals m a → Deriving rules totals m a
-    passed-asks h p = record { table = f .table; more = h; short = f .short; inside = omega arith; rows = p .rows }
-
-    pub passed-step : {before after : List (List ℕ)} {v : ℕ} → Passed rules start before m a → after ≡ stored before a m v → v ≤ most → v ≡ T (ruled rules) a m
-        → Passed rules start after m (a + 1)
-    passed-step {before} {v = v} p s u e =
-        let k = f .table .few in
-        record {
-          reached = omega arith;
-          rows = rw s (row-store (omega arith) (omega arith) (f .some) (f .short) e (p .rows));
-          fit = λ A l. elim (ℕ-discrete A a) [
-            | yes z ↦ le-ltb most (T (ruled rules) A m) (rw z (omega arith))
-            | no z ↦ p .fit A (omega arith)
-          ];
-          kept = rw s (kept-then (p .kept) (kept-stored before a m v (f .short) (p .rows .wide)));
-        }
-
-    pub passed-fits : {before after : List (List ℕ)} {v : ℕ} {t : Tally} → Passed rules start before m a → after ≡ stored before a m v → v ≤ most
-        → t ≡ Fits v → TalliedAs (T (ruled rules) a m) t → Passed rules start after m (a + 1)
-    passed-fits p s u e f = passed-step p s u (says-fits e f)
-
-    pub passed-over : {after : List (List ℕ)} {t : Tally} → Passed rules start after m a → t ≡ Over → TalliedAs (T (ruled rules) a m) t → RowFilledAs rules start after m false
-    passed-over p e s = record {
-      says = ap not (sym (below-some (λ A. ltb most (T (ruled rules) A m)) (countIn rules) a (omega arith) (lt-ltb most (T (ruled rules) a m) (says-over e s))));
-      row = λ z. absurd (false≢true z);
-      kept = p .kept;
+    -- counts below m are there as they were
+    below-still : {X : ℕ} → Below rules start m X → Below rules totals m X
+    below-still {X} b = record {
+      inside = b .inside;
+      right = λ k l u. ap (λ (r : List ℕ). getD r X 0) (w .others k l (λ e. omega arith)) ∙ b .right k l u;
+      longest = λ k l u o. b .longest k l u (w .risen X k (omega arith) o);
     }
 
-  pub passed-end : {after : List (List ℕ)} {a n : ℕ} → n ≡ countIn rules → n ≤ a → Passed rules start after m a → RowFilledAs rules start after m true
-  passed-end {after} {a} all l p =
-      let z : a ≡ countIn rules = omega arith in
-      record {
-        says = ap not (sym (below-clear (λ A. ltb most (T (ruled rules) A m)) (countIn rules) (λ A h. p .fit A (omega arith))));
-        row = λ _. rw z at (p .rows);
-        kept = p .kept;
+    pub row-end : left ≡ 0 → RowFilledAs rules start totals m set true
+    row-end e = record { row = λ _. rw e at w; over = λ z. absurd (false≢true (sym z)); kept = w .kept }
+
+    module _ {a : ℕ} (first : members left ≡ a ∷ drop 1 (members left)) (among : (A : ℕ) → MemberOf left A → MemberOf set A) where
+      chosen : MemberOf set a
+      chosen = among a (lowest-low left a first, first-member left a (drop 1 (members left)) first)
+
+      pub row-asks : Deriving rules totals m a
+      row-asks = record {
+        table = f .owners .table;
+        some = f .some;
+        short = f .short;
+        inside = f .owners .inside a chosen;
+        long = row-long;
+        halves = λ x i. let h = f .halves a chosen x i in (below-still (h .0), below-still (h .1));
       }
 
--- ---- the row 1
+      pub row-over : {t : Tally} → t ≡ Over → TalliedAs (T (ruled rules) a m) t → RowFilledAs rules start totals m set false
+      row-over e s = record { row = λ z. absurd (false≢true z); over = λ _. (a, chosen, says-over e s); kept = w .kept }
 
-module _ {rules start : List (List ℕ)} (f : RowFilling rules start 1) {a n : ℕ} (all : n ≡ countIn rules) (h : a < n) where
-  -- the word rules are as many as T says
-  pub words-count : {from to : ℕ} → from ≡ wordFrom rules a → to ≡ wordFrom rules (a + 1) → (from ≤ to) × (to - from ≡ T (ruled rules) a 1)
-  words-count u v =
-      let s = f .table .word-rises a (omega arith) in
-      (omega arith, omega (arith, T-one (ruled rules) a, ap length (words-ruled rules a), word-count rules a))
+      abbrev wide : Wide totals 32
+      wide = w .kept .wide
 
-  -- the longest length of a may be set anew
-  pub passed-anew : {before : List (List ℕ)} → Passed rules start before 1 a → Passed rules start (put before 0 a 0) 1 a
-  passed-anew {before} p =
-      let kept = kept-put 0 a 0 (omega arith) (p .kept) in
-      let long = p .rows .long in
-      record {
-        reached = p .reached;
-        rows = record {
-          long = omega (arith, length-set before 0 (set (getD before 0 []) a 0));
-          wide = kept .wide;
-          right = λ A k hA l u. absurd (omega arith);
-          longest = λ A k hA l u. absurd (omega arith);
-          right-here = λ A l. put-other-row before 0 a 0 1 A (λ z. omega arith) ∙ p .rows .right-here A l;
-          longest-here = λ A l u. p .rows .longest-here A l (rw (put-beside before 0 a 0 A (omega arith) (λ z. omega arith)) at u);
-        };
-        fit = p .fit;
-        kept = kept;
-      }
+      module _ (v : ℕ) where
+        own : countAt (stored totals a m v) a m ≡ v
+        own = high-same totals m a v row-long wide (chosen .0) (f .some) (f .short)
+
+        beside : (A : ℕ) → (A ≡ a → ⊥) → countAt (stored totals a m v) A m ≡ countAt totals A m
+        beside = high-beside totals m a v row-long wide (chosen .0) (f .some) (f .short)
+
+        past : {A : ℕ} → (A ≡ a → ⊥) → {k : ℕ} → longestAt (stored totals a m v) A < k → longestAt totals A < k
+        past {A} n l = rw (low-other totals m a v row-long wide (chosen .0) (f .some) (f .short) A n) at l
+
+        past-own : {k : ℕ} → longestAt (stored totals a m v) a < k → k ≤ m → (longestAt totals a < k) × (v ≡ 0)
+        past-own l u = longer-past (rw (low-same totals m a v row-long wide (chosen .0) (f .some) (f .short)) at l) u
+
+      pub row-step : (next : ℕ) → members next ≡ drop 1 (members left) → {after : List (List ℕ)} {v : ℕ} {t : Tally} → after ≡ stored totals a m v → v ≤ most
+          → t ≡ Fits v → TalliedAs (T (ruled rules) a m) t → RowTo rules start after m set next
+      row-step next rest {v = v} s u e says =
+          let is : v ≡ T (ruled rules) a m = says-fits e says in
+          let turned = turn left a first next rest in
+          rw s
+          (record {
+            right = λ A i o. elim (ℕ-discrete A a) [
+              | yes z ↦ rw z (own v ∙ is)
+              | no n ↦ beside v A n ∙ w .right A i (turn-out left a next turned A (i .0) o n)
+            ];
+            fits = λ A i o. elim (ℕ-discrete A a) [
+              | yes z ↦ rw z (omega (arith, is))
+              | no n ↦ w .fits A i (turn-out left a next turned A (i .0) o n)
+            ];
+            longest = λ A i o l. elim (ℕ-discrete A a) [
+              | yes z ↦ rw z (sym is ∙ past-own v (rw z at l) (omega arith) .1)
+              | no n ↦ w .longest A i (turn-out left a next turned A (i .0) o n) (past v n l)
+            ];
+            only = λ A h o. elim (ℕ-discrete A a) [
+              | yes z ↦ rw z chosen
+              | no n ↦ w .only A h (rw (beside v A n) at o)
+            ];
+            risen = λ A k j l. elim (ℕ-discrete A a) [
+              | yes z ↦ w .risen A k j (rw z (past-own v (rw z at l) j .0))
+              | no n ↦ w .risen A k j (past v n l)
+            ];
+            others = λ r h n. put-row (put totals m a v) 0 a (longer (longestAt totals a) m v) r (λ z. omega arith) ∙ put-row totals m a v r n ∙ w .others r h n;
+            kept = kept-then (w .kept) (kept-stored totals a m v (f .short) wide);
+          })
 
 -- ---- the loop over the rows
 
--- before the row m: the rows below it are right, and their counts fit
-pub record Rising (rules start totals : List (List ℕ)) (m : ℕ) : Type 0 where
-  pub rows : RowTo rules totals m 0
-  pub fit : (k : ℕ) → 1 ≤ k → k < m → rowTooLarge rules k ≡ false
+-- before the row m: those below it have their counts where they are asked for, and these fit; nothing else has one, and the others are all 0
+pub record Rising (rules start totals : List (List ℕ)) (n m : ℕ) : Type 0 where
+  pub some : 1 ≤ m
+  pub right : (A k : ℕ) → Asked rules n A k → k < m → countAt totals A k ≡ T (ruled rules) A k
+  pub fits : (A k : ℕ) → Asked rules n A k → k < m → T (ruled rules) A k ≤ most
+  pub longest : (A k : ℕ) → Asked rules n A k → k < m → longestAt totals A < k → T (ruled rules) A k ≡ 0
+  pub only : (A k : ℕ) → A < 32 → 1 ≤ k → k < m → 1 ≤ countAt totals A k → Asked rules n A k
+  pub zeros : (k A : ℕ) → m ≤ k → k ≤ 16 → countAt totals A k ≡ 0
   pub kept : Kept 17 32 start totals
 
-row-next : {rules totals : List (List ℕ)} {m : ℕ} → RowTo rules totals m (countIn rules) → RowTo rules totals (m + 1) 0
-row-next {m = m} r = record {
-  long = r .long;
-  wide = r .wide;
-  right = λ A k hA l u. elim (ℕ-discrete k m) [
-    | yes z ↦ rw z (r .right-here A hA)
-    | no n ↦ r .right A k hA l (omega arith)
-  ];
-  longest = λ A k hA l u. elim (ℕ-discrete k m) [
-    | yes z ↦ rw z (r .longest-here A hA (rw z at l))
-    | no n ↦ r .longest A k hA l (omega arith)
-  ];
-  right-here = λ A h. absurd (omega arith);
-  longest-here = λ A h l. absurd (omega arith);
-}
-
-module _ {rules start : List (List ℕ)} where
-  pub rising-step : {before after : List (List ℕ)} {m : ℕ} {b : Bool} → b ≡ true → RowFilledAs rules before after m b → Rising rules start before m
-      → Rising rules start after (m + 1)
-  rising-step {m = m} t d r = record {
-    rows = row-next (d .row t);
-    fit = λ k l u. elim (ℕ-discrete k m) [
-      | yes z ↦ rw z (not-true (rowTooLarge rules m) (sym (d .says) ∙ t))
-      | no n ↦ r .fit k l (omega arith)
-    ];
-    kept = kept-then (r .kept) (d .kept);
-  }
-
-  -- from the row 1 on
-  pub rising-first : {after : List (List ℕ)} → RowFilledAs rules start after 1 true → Rising rules after after 2
-  rising-first d = record {
-    rows = row-next (d .row refl);
-    fit = λ k l u. let z : k ≡ 1 = omega arith in rw z (not-true (rowTooLarge rules 1) (sym (d .says)));
-    kept = kept-same (d .kept .wide);
-  }
-
 module _ {rules start : List (List ℕ)} {n : ℕ} (f : Filling rules n start) where
-  -- a table that may hold anything has no row
-  pub rising-begins : RowFilling rules start 1
-  rising-begins = record {
-    table = f .table;
+  -- at first no row is there
+  pub rising-start : Rising rules start start n 1
+  rising-start = record {
     some = omega arith;
-    short = omega arith;
-    rows = record {
-      long = f .long;
-      wide = f .wide;
-      right = λ A k hA l u. absurd (omega arith);
-      longest = λ A k hA l u. absurd (omega arith);
-      right-here = λ A l. absurd (omega arith);
-      longest-here = λ A l u. absurd (omega arith);
-    };
+    right = λ A k a l. absurd (omega (arith, a .some));
+    fits = λ A k a l. absurd (omega (arith, a .some));
+    longest = λ A k a l. absurd (omega (arith, a .some));
+    only = λ A k h s l. absurd (omega arith);
+    zeros = λ k A l u. f .zeros k A u;
+    kept = kept-same (f .wide);
   }
 
-  module _ {first totals : List (List ℕ)} {m : ℕ} (k : Kept 17 32 start first) (r : Rising rules first totals m) where
-    pub rising-asks : 1 ≤ m → m ≤ n → RowFilling rules totals m
-    rising-asks h l = record { table = f .table; some = h; short = omega (arith, f .short); rows = r .rows }
+  module _ {totals : List (List ℕ)} {m : ℕ} (r : Rising rules start totals n m) where
+    module _ (short : m ≤ n) {needs : List ℕ} (found : FoundAs rules n needs) {set : ℕ} (e : set ≡ needsAt needs m) where
+      found-here : NeedsAs rules n m set
+      found-here = rw e (found .each m (r .some) short)
 
-    pub rising-over : {after : List (List ℕ)} {b : Bool} → 1 ≤ m → m ≤ n → b ≡ false → RowFilledAs rules totals after m b → FilledAs rules n start after false
-    unfolding overflows
-    rising-over h l t d =
-        let kept = kept-then k (kept-then (r .kept) (d .kept)) in
-        record {
-          says = ap not (sym (to-some (rowTooLarge rules) n m h l (not-false (rowTooLarge rules m) (sym (d .says) ∙ t))));
-          counted = λ z. absurd (false≢true z);
-          long = kept .long;
-          wide = kept .wide;
-          rest = kept .rest;
+      pub rising-asks : RowFilling rules totals m set
+      rising-asks = record {
+        owners = record { table = f .table; inside = λ A i. found-here A (i .0) .0 (i .1) .inside };
+        some = r .some;
+        short = omega (arith, f .short);
+        long = omega (arith, r .kept .long, f .long);
+        wide = r .kept .wide;
+        zeros = λ A. r .zeros m A (omega arith) (omega (arith, f .short));
+        halves = λ A i. halves-below (f .table) (found-here A (i .0) .0 (i .1)) (λ B k a l. (r .right B k a l, r .longest B k a l));
+      }
+
+      pub rising-over : {after : List (List ℕ)} {b : Bool} → b ≡ false → RowFilledAs rules totals after m set b → FilledAs rules n start after false
+      rising-over z d =
+          let q = d .over z in
+          let kept = kept-then (r .kept) (d .kept) in
+          record {
+            says = ap not (sym (overflows-needed (ruled rules) (λ p w. 1) .1 (q .0, m, found-here (q .0) (q .1 .0) .0 (q .1 .1) .needed, q .2)));
+            counted = λ z. absurd (false≢true z);
+            long = kept .long;
+            wide = kept .wide;
+            rest = kept .rest;
+          }
+
+      module _ {after : List (List ℕ)} (d : RowTo rules totals after m set 0) where
+        member-here : {A k : ℕ} → Asked rules n A k → k ≡ m → MemberOf set A
+        member-here {A} a z =
+            let l : A < 32 = omega (arith, a .inside, f .table .few) in
+            (l, found-here A l .1 (rw z at a))
+
+        row-still : (A k : ℕ) → 1 ≤ k → k < m → countAt after A k ≡ countAt totals A k
+        row-still A k l u = ap (λ (r : List ℕ). getD r A 0) (d .others k l (λ z. omega arith))
+
+        pub rising-step : Rising rules start after n (m + 1)
+        rising-step = record {
+          some = omega arith;
+          right = λ A k a u. elim (ℕ-discrete k m) [
+            | yes z ↦ rw z (d .right A (member-here a z) (member-none A))
+            | no n ↦ row-still A k (a .some) (omega arith) ∙ r .right A k a (omega arith)
+          ];
+          fits = λ A k a u. elim (ℕ-discrete k m) [
+            | yes z ↦ rw z (d .fits A (member-here a z) (member-none A))
+            | no n ↦ r .fits A k a (omega arith)
+          ];
+          longest = λ A k a u l. elim (ℕ-discrete k m) [
+            | yes z ↦ rw z (d .longest A (member-here a z) (member-none A) (rw z at l))
+            | no n ↦ r .longest A k a (omega arith) (d .risen A k (omega arith) l)
+          ];
+          only = λ A k h s u o. elim (ℕ-discrete k m) [
+            | yes z ↦ let i = d .only A h (rw z at o) in rw z (found-here A h .0 (i .1))
+            | no n ↦ r .only A k h s (omega arith) (rw (row-still A k s (omega arith)) at o)
+          ];
+          zeros = λ k A l u. ap (λ (r : List ℕ). getD r A 0) (d .others k (omega arith) (λ z. omega arith)) ∙ r .zeros k A (omega arith) u;
+          kept = kept-then (r .kept) (d .kept);
         }
 
     pub rising-end : n < m → FilledAs rules n start totals true
-    unfolding overflows
     rising-end h =
-        let kept = kept-then k (r .kept) in
+        let kept = r .kept in
+        let fit : (A k : ℕ) → Needed (ruled rules) (startIn rules) n A k → T (ruled rules) A k ≤ most
+        = λ A k a. let q = asked-of (f .table) (f .some) a in r .fits A k q (omega (arith, q .short)) in
         record {
-          says = ap not (sym (to-clear (rowTooLarge rules) n (λ k l u. r .fit k l (omega arith))));
+          says = ap not (sym (overflows-fit (ruled rules) (λ p w. 1) .1 fit));
           counted = λ _. record {
             table = f .table;
             some = f .some;
             short = f .short;
-            long = r .rows .long;
-            wide = r .rows .wide;
-            right = λ A k q. r .rows .right A k (q .inside) (q .some) (omega (arith, q .short));
-            fits = λ A k q.
-                let fit = r .fit k (q .some) (omega (arith, q .short)) in
-                ltb-false most (T (ruled rules) A k) (below-at (λ A. ltb most (T (ruled rules) A k)) (countIn rules) A fit (q .inside));
-            longest = λ A k q u. r .rows .longest A k (q .inside) u (omega (arith, q .short));
+            long = omega (arith, kept .long, f .long);
+            wide = kept .wide;
+            right = λ A k a. r .right A k a (omega (arith, a .short));
+            fits = λ A k a. r .fits A k a (omega (arith, a .short));
+            longest = λ A k a. r .longest A k a (omega (arith, a .short));
+            only = λ A k i s l. r .only A k i s (omega arith);
           };
           long = kept .long;
           wide = kept .wide;

@@ -1,5 +1,5 @@
 -- Nonterminals whose derivations all have one length: by word rules alone, or by one pair rule of two such nonterminals. Then T is a product,
--- and 0 at every other length.
+-- and 0 at every other length. And a nonterminal that puts one of y words behind what it has, whose T is a power of y.
 -- Assumes nothing.
 use mathlib.Core.Path.{_≡_, refl, _∙_}
 use mathlib.Core.List.{List, [], _∷_}
@@ -7,7 +7,7 @@ use Prim.Native.Nat.{ℕ, zero, suc, _+_, _*_, _-_, _≤_, _<_}
 use native.Mathlib.Omega.{arith}
 use native.Mathlib.Decide.{ℕ-discrete}
 use lib.ListN.{length}
-use Rattle.lists.proofs.Runs.{run-step, run-none, run-later}
+use Rattle.lists.proofs.Runs.{run-step, run-last, run-none, run-later}
 use Rattle.grammar.specs.Chains.{Rule, wordsOf, pairsOf}
 use Rattle.counting.specs.Totals.{T, addedAfter}
 use Rattle.counting.proofs.Totals.{productAt, left-none, right-none, T-one, T-more, total-none}
@@ -60,3 +60,38 @@ module _ (chain : ℕ → List Rule) (A : ℕ) where
 
     pub pair-alone : OneLength chain A (b + c) (x * y)
     pair-alone = record { some = omega (arith, hB .some); here = at-sum; elsewhere = not-sum }
+
+-- ---- a word more with every length
+
+-- where all derivations of the right half have one word, only the left length one below adds
+one-right : (rules : ℕ → List Rule) (B C y : ℕ) → OneLength rules C 1 y → (m : ℕ) → 2 ≤ m → addedAfter rules B C m (m - 1) ≡ T rules B (m - 1) * y
+one-right rules B C y one m h =
+    let product = productAt (λ q. T rules) B C 0 m in
+    let z : 1 + (m - 2) ≡ m - 1 = omega arith in
+    let s : m - 2 + 1 ≡ m - 1 = omega arith in
+    let r : m - (m - 1) ≡ 1 = omega arith in
+    let none = run-none product 1 (m - 2) (λ i l u. right-none (λ q. T rules) B C 0 m i (one .elsewhere (m - i) (λ e. omega arith))) in
+    let last : product (m - 1) ≡ T rules B (m - 1) * y = rw (r, one .here) in
+    omega (arith, none, rw (z, s) at (run-last product 1 (m - 2)), last)
+
+-- y with the exponent m + 2
+abbrev pub power : (y m : ℕ) → ℕ
+power y zero = y * y
+power y (suc m) = power y m * y
+
+-- S begins with two of A's y words and puts one more behind
+module _ (rules : ℕ → List Rule) (S A y : ℕ) (no-words : wordsOf (rules S) ≡ []) (two-pairs : pairsOf (rules S) ≡ (A, A) ∷ (S, A) ∷ []) (words : OneLength rules A 1 y) where
+  T-next : (m : ℕ) → T rules S (suc (suc m)) ≡ T rules A (suc m) * y + T rules S (suc m) * y
+  T-next m =
+      let e : suc (suc m) - 1 ≡ suc m = omega arith in
+      let a = rw e at (one-right rules A A y words (suc (suc m)) (omega arith)) in
+      let b = rw e at (one-right rules S A y words (suc (suc m)) (omega arith)) in
+      let c = rw (two-pairs, e) at (T-more rules S (suc (suc m)) (omega arith)) in
+      omega (arith, a, b, c)
+
+  pub T-power : (m : ℕ) → T rules S (suc (suc m)) ≡ power y m
+  T-power zero =
+      let none : T rules S 1 ≡ 0 = T-one rules S ∙ rw no-words in
+      T-next 0 ∙ rw (words .here, none) (omega arith)
+  T-power (suc m) =
+      T-next (suc m) ∙ rw (words .elsewhere (suc (suc m)) (λ e. omega arith), T-power m) (omega arith)

@@ -1,5 +1,5 @@
 -- One pair rule's sum, with the steps of 001's formula 4a: a product more, the loop over the left lengths, and what the rule has added after
--- each of them, with T in place of the table's counts.
+-- each of them, with T in place of the table's counts. The halves of what is asked for are asked for, so their counts are in the table.
 -- Assumes nothing.
 use mathlib.Core.Path.{_≡_, ap, _∙_}
 use mathlib.Core.List.{List}
@@ -7,15 +7,18 @@ use Prim.Native.Nat.{ℕ, _+_, _*_, _-_, _/_, _≤_, _<_}
 use native.Mathlib.Omega.{arith}
 use native.Mathlib.Nat.{mul-le-mul, le-div-iff-mul-le, div-lt-iff-lt-mul}
 use native.Mathlib.Decide.{decLe}
+use Rattle.lists.specs.Joined.{_∈_}
 use Rattle.lists.proofs.Runs.{run-ext, run-last, run-le, run-none, run-same}
-use Rattle.grammar.specs.Inner.Rules.{countIn, ruled}
+use Rattle.grammar.specs.Inner.Rules.{pairsIn, ruled, Ruled}
+use Rattle.grammar.proofs.Ruling.{pair-inside}
 use Rattle.counting.specs.Totals.{T, addedAfter}
 use Rattle.counting.specs.Refusals.{most}
-use Rattle.counting.specs.Inner.Counted.{countAt, longestAt}
-use Rattle.counting.specs.Inner.Filling.{TalliedAs, partSum, Halves, Deriving}
+use Rattle.counting.specs.Inner.Counted.{countAt, longestAt, Asked}
+use Rattle.counting.specs.Inner.Filling.{TalliedAs, partSum, Halves, Below, HalvesBelow, Deriving}
 use Rattle.counting.specs.declared.tallies.Tally.{Tally}
 use Rattle.counting.specs.declared.tallies.Tally.the-variants.{Fits, Over}
 use Rattle.counting.proofs.Totals.{productAt, left-none, right-none}
+use Rattle.counting.proofs.Asking.{asked-left, asked-right}
 
 -- ---- what a tally says
 
@@ -93,24 +96,46 @@ module _ {totals : List (List ℕ)} {B C m to before : ℕ} (h : Halves totals B
 
 -- ---- T in place of the table's counts
 
-module _ {rules totals : List (List ℕ)} {m a : ℕ} (d : Deriving rules totals m a) {B C : ℕ} (hB : B < countIn rules) (hC : C < countIn rules) {k : ℕ} (l : k < m) where
+module _ {rules totals : List (List ℕ)} {m a : ℕ} (d : Deriving rules totals m a) {B C : ℕ} (i : (B, C) ∈ pairsIn rules a) {k : ℕ} (l : k < m) where
+  abbrev left : Below rules totals m B
+  left = d .halves (B, C) i .0
+
+  abbrev right : Below rules totals m C
+  right = d .halves (B, C) i .1
+
   -- where the shorter lengths' counts are in the table, a pair rule can be added up to every left length
   pub halves-asked : Halves totals B C m k
-  halves-asked =
-      let few = d .table .few in
-      let r = d .rows in
-      record {
-        long = r .long;
-        left = omega arith;
-        right = omega arith;
-        short = d .short;
-        bound = l;
-        left-over = λ i u v. r .right B i hB (omega arith) v ∙ r .longest B i hB u v;
-        right-over = λ i u v. r .right C i hC (omega arith) v ∙ r .longest C i hC u v;
-      }
+  halves-asked = record {
+    long = d .long;
+    left = left .inside;
+    right = right .inside;
+    short = d .short;
+    bound = l;
+    left-over = λ i u v. left .right i (omega arith) v ∙ left .longest i (omega arith) v u;
+    right-over = λ i u v. right .right i (omega arith) v ∙ right .longest i (omega arith) v u;
+  }
 
   -- and has then added the sum of its products for the left lengths up to there
   pub part-counts : partSum (countAt totals) B C m k ≡ addedAfter (ruled rules) B C m k
   part-counts =
       run-ext (product totals B C m) (productAt (λ p. T (ruled rules)) B C 0 m) 1 k
-      (λ i u v. rw (d .rows .right B i hB u (omega arith), d .rows .right C (m - i) hC (omega arith) (omega arith)))
+      (λ i u v. rw (left .right i u (omega arith), right .right (m - i) (omega arith) (omega arith)))
+
+-- the halves of what is asked for have their counts, where the counts of what is asked for are there below the length m
+pub halves-below : {rules totals : List (List ℕ)} {n A m : ℕ} → Ruled rules → Asked rules n A m
+    → ((B k : ℕ) → Asked rules n B k → k < m → (countAt totals B k ≡ T (ruled rules) B k) × (longestAt totals B < k → T (ruled rules) B k ≡ 0))
+    → HalvesBelow rules totals m A
+halves-below {A = A} t a there x i =
+    let few = t .few in
+    let in-N = pair-inside t A x (a .inside) i in (
+      record {
+        inside = omega (arith, in-N .0);
+        right = λ k l u. there (x .0) k (asked-left t a x i k l u) u .0;
+        longest = λ k l u. there (x .0) k (asked-left t a x i k l u) u .1;
+      },
+      record {
+        inside = omega (arith, in-N .1);
+        right = λ k l u. there (x .1) k (asked-right t a x i k l u) u .0;
+        longest = λ k l u. there (x .1) k (asked-right t a x i k l u) u .1;
+      },
+    )

@@ -37,6 +37,7 @@ use Rattle.counting.specs.declared.prepare.Prepared.{Prepared}
 use Rattle.counting.specs.declared.prepare.Prepared.the-variants.{Ready, Refused}
 use Rattle.counting.specs.declared.count.CountAnswer.the-variants as counted
 use Rattle.lists.proofs.Tables.{kept-same}
+use Rattle.counting.proofs.Asking.{asked-whole}
 use Rattle.counting.proofs.Tabled.{tabled-T, tabled-large}
 
 refused-ready : {r : Refusal} → Refused r ≡ Ready → ⊥
@@ -108,7 +109,7 @@ module _ {g : List ℕ} {n : ℕ} {rules₀ rules totals₀ : List (List ℕ)} {
     pub prepare-asks : Filling rules n totals₀
     prepare-asks =
         let q = o .ready e in
-        record { table = q .holds .table; some = q .some; short = q .short; long = lent .long; wide = lent .wide }
+        record { table = q .holds .table; some = q .some; short = q .short; long = lent .long; wide = lent .wide; zeros = lent .zeros }
 
     module _ {totals : List (List ℕ)} {fits : Bool} (f : FilledAs rules n totals₀ totals fits) where
       fits-says : fits ≡ not (tooLarge g n)
@@ -158,6 +159,6 @@ module _ {g : List ℕ} {n : ℕ} {rules₀ rules totals₀ totals : List (List 
         let h = t .holds in
         let k : firstThatApplies (preparedRows g n) ≡ 0 = sym (s .refusal) ∙ rw e in
         let S-is : S ≡ start g = f ∙ h .start-is in
-        let right = t .counted .right S n record { inside = omega (arith, h .table .starts); some = t .counted .some; short = omega arith } in
+        let right = t .counted .right S n (rw f (asked-whole (h .table) (t .counted .some))) in
         let z : x ≡ T (chain g) (start g) n = rw S-is at (u ∙ right ∙ sym (tabled-T h S n (omega (arith, h .table .starts, h .count-is)))) in
         rw z (sym (answer-accepted (T (chain g) (start g) n ∷ []) [] [] k))

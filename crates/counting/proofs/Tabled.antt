@@ -1,24 +1,27 @@
 -- Totals and sentences depend on a chain only by the words and the pair rules of its nonterminals: two chains that have the same of both
--- have the same totals and the same sentences. By induction on the length. So what is asked of a grammar may be asked of its table of rules.
+-- have the same totals, needed pairs and sentences. By induction on the length. So what is asked of a grammar may be asked of its table of rules.
 -- Assumes nothing.
 use mathlib.Core.Path.{_≡_, refl, sym, ap, _∙_}
+use mathlib.Core.Bool.{true}
 use mathlib.Core.List.{List, [], _∷_, map}
 use Prim.Native.Nat.{ℕ, zero, suc, _+_, _-_, _≤_, _<_}
 use native.Mathlib.Omega.{arith}
-use lib.Dec.{ltb}
 use Rattle.lists.specs.Joined.{_∈_, sumOver, concatMap}
-use Rattle.lists.specs.Searched.{someBelow}
 use Rattle.lists.proofs.Sums.{sum-ext, concat-ext}
-use Rattle.lists.proofs.Tests.{below-within}
-use Rattle.grammar.specs.Layout.{nonterminals}
+use Rattle.lists.proofs.Tests.{both-ways}
+use Rattle.grammar.specs.Layout.{nonterminals, start}
 use Rattle.grammar.specs.Chains.{Rule, chain, wordsOf, pairsOf}
-use Rattle.grammar.specs.Inner.Rules.{countIn, ruled, Holds}
+use Rattle.grammar.specs.Inner.Rules.{startIn, ruled, Holds}
 use Rattle.grammar.proofs.Ruling.{words-ruled, pairs-ruled, pair-inside}
 use Rattle.counting.specs.Totals.{total, T}
 use Rattle.counting.specs.Inner.Sentences.{sentences, splitList}
-use Rattle.counting.specs.Refusals.{most, overflows, tooLarge}
+use Rattle.counting.specs.Needed.{Needed, whole, left, right}
+use Rattle.counting.specs.Refusals.{overflows, tooLarge}
+use Rattle.counting.specs.Inner.Counted.{Asked}
 use Rattle.counting.proofs.Totals.{pairTotal, pair-moved, total-none, total-one, total-more}
 use Rattle.counting.proofs.Sentences.{sentences-none, sentences-one, sentences-more}
+use Rattle.counting.proofs.Needed.{needed-inside, overflows-needed}
+use Rattle.counting.proofs.Asking.{asked-of}
 
 -- two chains have the same words and the same pair rules, and these lead nowhere else
 pub record SameRules (c d : ℕ → List Rule) (N : ℕ) : Type 0 where
@@ -54,12 +57,25 @@ module _ {c d : ℕ → List Rule} {N : ℕ} (s : SameRules c d N) where
     pub total-alike : (p A m : ℕ) → A < N → total c v p A m ≡ total d v p A m
     total-alike p A m h = total-below (suc m) p A m (omega arith) h
 
-    pub overflows-alike : (n : ℕ) → overflows c v N n ≡ overflows d v N n
-    unfolding overflows
-    overflows-alike n =
-        below-within (λ i. someBelow (λ A. ltb most (total c v 0 A (suc i))) N) (λ i. someBelow (λ A. ltb most (total d v 0 A (suc i))) N) n
-        (λ i l. below-within (λ A. ltb most (total c v 0 A (suc i))) (λ A. ltb most (total d v 0 A (suc i))) N
-        (λ A h. ap (ltb most) (total-alike 0 A (suc i) h)))
+  -- ---- the same needed pairs
+
+  pub same-back : SameRules d c N
+  same-back = record {
+    words = λ A h. sym (s .words A h);
+    pairs = λ A h. sym (s .pairs A h);
+    inside = λ A x h i. s .inside A x h (rw (← s .pairs A h) at i);
+  }
+
+  module _ {S : ℕ} (start : S < N) where
+    pub needed-alike : {n A m : ℕ} → Needed c S n A m → Needed d S n A m
+    needed-alike whole = whole
+    needed-alike (left {A = A} a i l u) = left (needed-alike a) (rw (s .pairs A (needed-inside N start (s .inside) a)) at i) l u
+    needed-alike (right {A = A} a i l u) = right (needed-alike a) (rw (s .pairs A (needed-inside N start (s .inside) a)) at i) l u
+
+    overflows-over : (v : ℕ → ℕ → ℕ) (n : ℕ) → overflows c v S n ≡ true → overflows d v S n ≡ true
+    overflows-over v n e =
+        let q = overflows-needed c v .0 e in
+        overflows-needed d v .1 (q .0, q .1, needed-alike (q .2), rw (← total-alike v 0 (q .0) (q .1) (needed-inside N start (s .inside) (q .2))) (q .3))
 
   -- ---- the same sentences
 
@@ -78,6 +94,10 @@ module _ {c d : ℕ → List Rule} {N : ℕ} (s : SameRules c d N) where
 
   pub sentences-alike : (A m : ℕ) → A < N → sentences c A m ≡ sentences d A m
   sentences-alike A m h = sentences-below (suc m) A m (omega arith) h
+
+-- the same totals that don't fit
+pub overflows-alike : {c d : ℕ → List Rule} {N S : ℕ} → SameRules c d N → S < N → (v : ℕ → ℕ → ℕ) (n : ℕ) → overflows c v S n ≡ overflows d v S n
+overflows-alike s h v n = both-ways (overflows _ v _ n) (overflows _ v _ n) (overflows-over s h v n) (overflows-over (same-back s) h v n)
 
 -- ---- a grammar and its table of rules
 
@@ -98,10 +118,11 @@ module _ {g : List ℕ} {rules : List (List ℕ)} (h : Holds g rules) where
   pub tabled-sentences : (A m : ℕ) → A < nonterminals g → sentences (chain g) A m ≡ sentences (ruled rules) A m
   tabled-sentences A m l = sentences-alike tabled-alike A m l
 
-  pub tabled-overflows : (v : ℕ → ℕ → ℕ) (n : ℕ) → overflows (chain g) v (nonterminals g) n ≡ overflows (ruled rules) v (countIn rules) n
-  tabled-overflows v n = rw (h .count-is) (overflows-alike tabled-alike v n)
-
   -- 10, of the table
-  pub tabled-large : (n : ℕ) → tooLarge g n ≡ overflows (ruled rules) (λ p w. 1) (countIn rules) n
+  pub tabled-large : (n : ℕ) → tooLarge g n ≡ overflows (ruled rules) (λ p w. 1) (startIn rules) n
   unfolding tooLarge
-  tabled-large n = tabled-overflows (λ p w. 1) n
+  tabled-large n = rw (h .start-is) (overflows-alike tabled-alike (rw (← h .start-is, ← h .count-is) (h .table .starts)) (λ p w. 1) n)
+
+  -- the needed pairs of the grammar are asked for
+  pub tabled-asked : {n A m : ℕ} → 1 ≤ n → Needed (chain g) (start g) n A m → Asked rules n A m
+  tabled-asked l a = asked-of (h .table) l (rw (h .start-is) (needed-alike tabled-alike (rw (← h .start-is, ← h .count-is) (h .table .starts)) a))

@@ -2,6 +2,7 @@
 pub mod Says
 pub mod Sentences
 pub mod Counted
+pub mod Needs
 pub mod Preparing
 pub mod Filling
 pub mod InOrder

@@ -1,4 +1,5 @@
 pub mod Totals
+pub mod Needed
 pub mod Refusals
 pub mod Answers
 pub mod Inner

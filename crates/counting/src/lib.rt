@@ -1,4 +1,5 @@
 // Counting (document 01: T): the table of T by length, and *Count*.
 pub mod count;
+pub mod needs;
 pub mod prepare;
 pub mod tallies;

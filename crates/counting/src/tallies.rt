@@ -1,6 +1,5 @@
-// The table of totals by the names of its rows: the counts T of the length m at `totals[m][a]`, or that some T is above 2^64 - 1.
+// The table of totals by the names of its rows: the counts T of the length m at `totals[m][a]` where they are needed, or that one of them is above 2^64 - 1.
 ghost use mathlib.Core.Path.{_≡_};
-ghost use mathlib.Core.Bool.{true};
 ghost use Prim.Native.Nat.{_+_, _*_, _-_, _≤_, _<_};
 ghost use lib.ListN.{length};
 ghost use Rattle.lists.specs.Inner.Tables.{CopiedAs};
@@ -8,6 +7,7 @@ ghost use Rattle.grammar.specs.Inner.Rules.{ruled};
 ghost use Rattle.counting.specs.Totals.{T};
 ghost use Rattle.counting.specs.Inner.Counted.{countAt, longestAt};
 ghost use Rattle.counting.specs.Inner.Filling.{TalliedAs, partSum, Halves, Deriving, longer, stored, RowFilling, RowFilledAs, Filling, FilledAs};
+use crate::needs;
 use grammar::rules;
 
 // The longest length at which a nonterminal has a derivation; the rows 1 to 16 are those of their lengths.
@@ -21,7 +21,7 @@ pub enum Tally {
 
 const MOST: u64 = 18446744073709551615;
 
-// T(a, m), where the table has it.
+// T(a, m), where it is needed; else 0.
 pub fn count_at(totals: &[[u64; 32]], a: usize, m: usize) -> u64
     requires { ⌜ (17 ≤ length (now totals)) × (a < 32) × (m ≤ 16) ⌝ }
     ensures { λ r. ⌜ r ≡ countAt (now (totals .entry)) a m ⌝ }
@@ -106,7 +106,7 @@ fn add_pair(totals: &[[u64; 32]], b: usize, c: usize, m: usize, to: usize, befor
 
 // T(a, m) for m of 2 or more, by the pair rules of a.
 fn derive(rules: &[[u8; 256]], totals: &[[u64; 32]], a: usize, m: usize) -> Tally
-    requires { ⌜ Deriving (now rules) (now totals) m a ⌝ }
+    requires { ⌜ Deriving (now rules) (now totals) m a × (2 ≤ m) ⌝ }
     ensures { λ r. ⌜ TalliedAs (T (ruled (now (rules .entry))) a m) r ⌝ }
 {
     let end = rules::pairs_from(rules, a + 1);
@@ -132,6 +132,18 @@ fn derive(rules: &[[u8; 256]], totals: &[[u64; 32]], a: usize, m: usize) -> Tall
     Tally::Fits(sum)
 }
 
+// T(a, m): by the word rules of a for the length 1, by its pair rules for a greater one.
+fn derivations(rules: &[[u8; 256]], totals: &[[u64; 32]], a: usize, m: usize) -> Tally
+    requires { ⌜ Deriving (now rules) (now totals) m a ⌝ }
+    ensures { λ r. ⌜ TalliedAs (T (ruled (now (rules .entry))) a m) r ⌝ }
+{
+    if m == 1 {
+        let words = rules::words_from(rules, a + 1) - rules::words_from(rules, a);
+        return Tally::Fits(words as u64);
+    }
+    derive(rules, totals, a, m)
+}
+
 // The longest length with a derivation, once v derivations of the length m are found.
 fn longer_of(old: u64, m: usize, v: u64) -> u64
     ensures { λ r. ⌜ r ≡ longer old m v ⌝ }
@@ -149,50 +161,37 @@ fn put(totals: &mut [[u64; 32]], a: usize, m: usize, v: u64)
     totals[LONGEST][a] = longest;
 }
 
-// The row 1, by the word rules; and the longest lengths anew.
-fn word_row(rules: &[[u8; 256]], totals: &mut [[u64; 32]])
-    requires { ⌜ RowFilling (now rules) (now totals) 1 ⌝ }
-    ensures { λ _. ⌜ RowFilledAs (now (rules .entry)) (now (totals .entry)) (now (totals .exit)) 1 true ⌝ }
+// The row m, which is all 0, for a set of nonterminals; false where some T in it is above 2^64 - 1.
+fn row(rules: &[[u8; 256]], set: u32, m: usize, totals: &mut [[u64; 32]]) -> bool
+    requires { ⌜ RowFilling (now rules) (now totals) m set ⌝ }
+    ensures { λ r. ⌜ RowFilledAs (now (rules .entry)) (now (totals .entry)) (now (totals .exit)) m set r ⌝ }
 {
-    let n = rules::count(rules);
-    let mut a = 0;
-    while a < n {
-        let words = rules::words_from(rules, a + 1) - rules::words_from(rules, a);
-        totals[LONGEST][a] = 0;
-        put(totals, a, 1, words as u64);
-        a += 1;
-    }
-}
-
-// The row m, for m of 2 or more; false where some T in it is above 2^64 - 1.
-fn row(rules: &[[u8; 256]], m: usize, totals: &mut [[u64; 32]]) -> bool
-    requires { ⌜ RowFilling (now rules) (now totals) m × (2 ≤ m) ⌝ }
-    ensures { λ r. ⌜ RowFilledAs (now (rules .entry)) (now (totals .entry)) (now (totals .exit)) m r ⌝ }
-{
-    let n = rules::count(rules);
-    let mut a = 0;
-    while a < n {
-        let s = derive(rules, totals, a, m);
+    let mut left = set;
+    while left != 0 {
+        let a = sets::lowest(left);
+        let s = derivations(rules, totals, a, m);
         match s {
             Tally::Over => return false,
             Tally::Fits(v) => {
                 put(totals, a, m, v);
             }
         }
-        a += 1;
+        left = sets::after_lowest(left);
     }
     true
 }
 
-// The rows from 1 to n, in a table that may hold anything; false where some T in them is above 2^64 - 1.
+// The rows from 1 to n, in a table whose rows up to 16 are all 0: T of the needed pairs; false where T of one of them is above 2^64 - 1. What no sentence
+// reaches may be above it: it isn't computed.
 pub fn fill(rules: &[[u8; 256]], n: usize, totals: &mut [[u64; 32]]) -> bool
     requires { ⌜ Filling (now rules) n (now totals) ⌝ }
     ensures { λ r. ⌜ FilledAs (now (rules .entry)) n (now (totals .entry)) (now (totals .exit)) r ⌝ }
 {
-    word_row(rules, totals);
-    let mut m = 2;
+    let mut needs = [0u32; 17];
+    needs::find(rules, n, &mut needs);
+    let mut m = 1;
     while m <= n {
-        if !row(rules, m, totals) {
+        if !row(rules, needs[m], m, totals) {
             return false;
         }
         m += 1;

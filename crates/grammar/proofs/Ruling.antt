@@ -110,6 +110,15 @@ module _ (rules : List (List ℕ)) (a i : ℕ) where
       Memᴰ·map (λ j. (leftAt rules j, rightAt rules j))
       (∈-upFrom i (pairFrom rules a) (pairFrom rules (a + 1) - pairFrom rules a) h (omega arith))
 
+-- and what is listed stands at a place
+pub pair-place : (rules : List (List ℕ)) (a : ℕ) (x : ℕ × ℕ) → x ∈ pairsIn rules a
+    → (i : ℕ) × (pairFrom rules a ≤ i) × (i < pairFrom rules (a + 1)) × (leftAt rules i ≡ x .0) × (rightAt rules i ≡ x .1)
+unfolding pairsIn
+pair-place rules a x m =
+    let q = Memᴰ·of-map (λ i. (leftAt rules i, rightAt rules i)) (upFrom (pairFrom rules a) (pairFrom rules (a + 1) - pairFrom rules a)) m in
+    let u = upFrom-∈ (pairFrom rules a) (pairFrom rules (a + 1) - pairFrom rules a) (q .1) in
+    (q .0, u .0, omega arith, ap (λ (e : ℕ × ℕ). e .0) (q .2), ap (λ (e : ℕ × ℕ). e .1) (q .2))
+
 -- ---- inside
 
 module _ {rules : List (List ℕ)} (t : Ruled rules) where
@@ -122,9 +131,7 @@ module _ {rules : List (List ℕ)} (t : Ruled rules) where
 
   -- a pair rule's nonterminals are some of the grammar's
   pub pair-inside : (a : ℕ) (x : ℕ × ℕ) → a < countIn rules → x ∈ pairsIn rules a → (x .0 < countIn rules) × (x .1 < countIn rules)
-  unfolding pairsIn
   pair-inside a x h m =
-      let q = Memᴰ·of-map (λ i. (leftAt rules i, rightAt rules i)) (upFrom (pairFrom rules a) (pairFrom rules (a + 1) - pairFrom rules a)) m in
-      let u = upFrom-∈ (pairFrom rules a) (pairFrom rules (a + 1) - pairFrom rules a) (q .1) in
-      let b = pair-below a (q .0) h (omega (arith, t .pair-rises a h)) in
-      rw (← q .2) (t .lefts (q .0) b, t .rights (q .0) b)
+      let q = pair-place rules a x m in
+      let b = pair-below a (q .0) h (q .2) in
+      (omega (arith, q .3, t .lefts (q .0) b), omega (arith, q .4, t .rights (q .0) b))

@@ -27,7 +27,7 @@ pub fn explain(r: Refusal) {
             b"listing: refused: the length, or the sentence's length, is not 1 to 16\n",
         ),
         Refusal::TooManyDerivations => say(
-            b"listing: refused: some count up to the length is above 2^64 - 1\n",
+            b"listing: refused: a count that the length needs is above 2^64 - 1\n",
         ),
         Refusal::HistoryWrongSize => say(
             b"listing: refused: the history has fewer than 4 bytes, K is above 1,000, or it has fewer than 4 + 20K bytes\n",

@@ -14,6 +14,7 @@ use Rattle.grammar.specs.Chains.{rest, chain}
 use Rattle.grammar.specs.Trees.{Tree, sentence, Derives}
 use Rattle.grammar.proofs.Plain.{plain, plain-single}
 use Rattle.counting.specs.Totals.{totalTo, total}
+use Rattle.counting.specs.Needed.{neededTo, neededPairs}
 use Rattle.counting.specs.Refusals.{overflows, tooLarge}
 use Rattle.matrix.specs.Table.{table}
 
@@ -30,7 +31,7 @@ pub no-two : (m m′ : ℕ) (t u : Tree) → Derives (chain table) (start table)
     → sentence t ≡ sentence u → t ≡ u
 no-two m m′ t u d d′ e = plain-single (chain table) lengths (nonterminals table) is-plain (omega arith) d d′ e
 
--- no total of a nonterminal and a length up to 5 is above 2^64 - 1
+-- no count that the length 5 needs is above 2^64 - 1
 pub counts-fit : tooLarge table 5 ≡ false
-unfolding tooLarge overflows total totalTo someBelow metFrom rest
+unfolding tooLarge overflows neededPairs neededTo total totalTo metFrom rest
 counts-fit = refl

@@ -14,6 +14,7 @@ use Rattle.grammar.specs.Refusals.{grammarRows}
 use Rattle.grammar.specs.Answers.{checkGrammar}
 use Rattle.counting.specs.Refusals.{preparedRows}
 use Rattle.counting.specs.Answers.{countOf}
+use Rattle.counting.proofs.Ten.{ten, counts-small}
 use Rattle.history.specs.Layout.{recordsOf}
 use Rattle.history.specs.Refusals as history
 use Rattle.history.specs.Refusals.{historyRows}
@@ -25,7 +26,7 @@ use Rattle.sampling.specs.Question.{plainly}
 use Rattle.sampling.specs.Demand3.{Single, Premises}
 use Rattle.sampling.specs.Unheard.{heardOf, leftOf}
 use Rattle.sampling.specs.Answers.{drawn, remainingRows, remainingTo, drawRows, drawTo}
-use Rattle.sampling.proofs.Premises.{counts-small, premises}
+use Rattle.sampling.proofs.Premises.{premises}
 use Rattle.sampling.proofs.Demand3.{demand-3, once, alike}
 use Rattle.sampling.proofs.Examples.{examples, example-premises, logged-twice}
 use Rattle.matrix.specs.Table.{table}
@@ -33,6 +34,7 @@ use Rattle.matrix.proofs.Rules.{is-accepted}
 use Rattle.matrix.proofs.Counts.{sentences-of-five, no-others}
 use Rattle.matrix.proofs.Single.{no-two, counts-fit}
 use Rattle.pumpfennel.specs.Demands.{Refuses, Demand1, Demands}
+use Rattle.pumpfennel.proofs.Former.{former-answers}
 
 -- an answer by its list of refusals
 refuses : (rows : List Row) (figures before after : List ℕ) → Refuses rows (length figures) before (answer rows figures before after)
@@ -81,6 +83,8 @@ demands = record {
   once = λ g h a. once g h (a .length);
   alike = λ g h h′ a. alike g h h′ (a .length);
   premises = λ g h a. premises g h (a .length);
+  ten = ten;
+  former = former-answers;
   instance = example-premises;
   logged-twice = logged-twice;
   house = record { accepted = is-accepted; five = sentences-of-five; others = no-others; single = house-single };

@@ -1,3 +1,4 @@
 -- What the calls answer case by case, and the theorem of the demands.
 pub mod Cases
+pub mod Former
 pub mod Demands

@@ -10,7 +10,7 @@ use Rattle.answers.specs.Answer.{Row, Answer, firstThatApplies}
 use Rattle.grammar.specs.Refusals as grammar
 use Rattle.grammar.specs.Refusals.{grammarRows}
 use Rattle.grammar.specs.Answers.{checkGrammar}
-use Rattle.counting.specs.Refusals.{preparedRows}
+use Rattle.counting.specs.Refusals.{Ten, preparedRows}
 use Rattle.counting.specs.Answers.{countOf}
 use Rattle.history.specs.Refusals as history
 use Rattle.history.specs.Refusals.{historyRows}
@@ -22,6 +22,7 @@ use Rattle.sampling.specs.Answers.{remainingRows, remainingTo, drawRows, drawTo
 use Rattle.sampling.specs.Demand3.{Single, Premises, Demand3, Once, SameBarred, Alike}
 use Rattle.sampling.specs.Examples.{Examples, F, heard01, heardTwice}
 use Rattle.matrix.specs.Table.{table}
+use Rattle.pumpfennel.specs.Former.{FormerAnswers}
 
 -- ---- demand 1: "The first fitting refusal of its list is returned, every figure zero, every lent buffer unchanged."
 
@@ -64,6 +65,9 @@ pub record Demands : Type 0 where
   pub alike : (g h h′ : List ℕ) (a : Question) → history.Accepted h → history.Accepted h′ → SameBarred g h h′ a → Alike g h h′ a
   -- the premises are no more than that *Left* isn't refused
   pub premises : (g h : List ℕ) (a : Question) → (Premises g h a ↔ (remainingTo g h a .refusal ≡ 0))
+  -- "10 applies exactly if the count of a needed pair is above 2^64 - 1", and "Every call that did not return 10 has its former answer" (document 02, U2)
+  pub ten : (g : List ℕ) (n : ℕ) → Ten g n
+  pub former : FormerAnswers
   -- there is such a grammar, history and length; there are two histories that bar the same; and the house bank is as document 01 says, so that
   -- with every accepted history each of its unheard sentences comes exactly once
   pub instance : Premises F heard01 (plainly 2)

@@ -1,2 +1,3 @@
 pub mod Calls
+pub mod Former
 pub mod Demands

@@ -18,7 +18,7 @@ use Rattle.grammar.proofs.Kept.{ruled-same}
 use Rattle.counting.specs.Inner.Preparing.{PreparedAs}
 use Rattle.counting.specs.declared.prepare.Prepared.{Prepared}
 use Rattle.counting.specs.declared.prepare.Prepared.the-variants.{Ready as Passed}
-use Rattle.counting.proofs.Asking.{counted-copied}
+use Rattle.counting.proofs.Asking.{asked-whole, counted-copied}
 use Rattle.charts.proofs.Placing.{room-short, room-low}
 use Rattle.charts.specs.Inner.Letters.{letterAt, weightBy}
 use Rattle.charts.specs.Inner.Maps.{totalAt, Span, Mapped, Everywhere, LetteredAs}
@@ -37,7 +37,7 @@ use Rattle.ranking.proofs.Weighing.{given, readings-weigh, numbered}
 
 module _ {rules totals : List (List ℕ)} {n : ℕ} (c : Counted rules totals n) where
   pub start-asked : Asked rules n (startIn rules) n
-  start-asked = record { inside = c .table .starts; some = c .some; short = omega arith }
+  start-asked = asked-whole (c .table) (c .some)
 
   pub whole : Span n 0 n
   whole = record { some = c .some; inside = omega arith }

@@ -20,7 +20,7 @@ use Rattle.lists.proofs.Sums.{concat-ext}
 use Rattle.lists.proofs.Members.{∈-concat, concat-∈}
 use Rattle.lists.proofs.Tests.{and-left, and-right, some-ext}
 use Rattle.lists.proofs.Struck.{struck-map}
-use Rattle.lists.proofs.Tables.{wide-made}
+use Rattle.lists.proofs.Tables.{wide-made, made-entry}
 use Rattle.lists.proofs.Strikes.{keep-length, keep-∈, ∈-keep, struck-rising, skip-lt}
 use Rattle.answers.specs.Answer.{Row, firstThatApplies, given, refused, answerOf, answer}
 use Rattle.answers.specs.Inner.Refusals.{refusalNumber}
@@ -59,7 +59,12 @@ use Rattle.sampling.proofs.Barred.{collected, heard-length, left-at, un
 
 pub lent-made : (h numbers : List ℕ) → Room h numbers → Lent h (replicate 4 (replicate 256 0)) (replicate 17 (replicate 32 0)) numbers
 lent-made h numbers room = record {
-  tables = record { rules-room = record { long = omega arith; wide = wide-made 4 256 0 }; long = omega arith; wide = wide-made 17 32 0 };
+  tables = record {
+    rules-room = record { long = omega arith; wide = wide-made 4 256 0 };
+    long = omega arith;
+    wide = wide-made 17 32 0;
+    zeros = λ r A l. made-entry 17 32 r A;
+  };
   room = room;
 }
 

@@ -1,5 +1,5 @@
--- The examples P1 to P10. Lists and small counts are computed. T of the grammar F is not: its pair rules have the words' nonterminal on the
--- right, so only the left length one below adds, and T doubles with the length. So all its counts up to length 16 are at most 65,536.
+-- The examples P1 to P10. Lists and small counts are computed. T of the grammar F is not: it doubles with the length (`T-power` in the crate
+-- `counting`). So all its counts up to length 16 are at most 65,536.
 -- Assumes nothing.
 use mathlib.Core.Path.{_≡_, refl, sym, ap, _∙_}
 use mathlib.Core.Bool.{Bool, true, false, _||_, or-false}
@@ -13,19 +13,19 @@ use borrow.Author.Tests.{le-ltb, lt-leb, le-leb}
 use Rattle.lists.specs.Joined.{upFrom}
 use Rattle.lists.specs.Linked.{metFrom}
 use Rattle.lists.specs.Searched.{someBelow, same}
-use Rattle.lists.proofs.Runs.{run-last, run-none}
 use Rattle.answers.specs.Answer.{firstThatApplies, given, refused}
 use Rattle.answers.specs.Length.{badLength}
 use Rattle.answers.proofs.Refusals.{row-applies, row-passed, rows-pass, answer-accepted, answer-refused}
-use Rattle.grammar.specs.Chains.{Rule, rest, chain}
+use Rattle.grammar.specs.Chains.{Rule, wordsOf, pairsOf, rest, chain}
 use Rattle.grammar.specs.Refusals.{tooShort, outOfRange, wrongSize, fits, badRule, badLink, metTwice, onNoChain, someAlike, repeated, Accepted}
 use Rattle.grammar.specs.Trees.{leaf, node, sentence}
 use Rattle.grammar.specs.FullList.{treesTo, trees}
-use Rattle.counting.specs.Totals.{totalTo, total, T, addedAfter}
-use Rattle.counting.specs.Refusals.{most, preparedRows}
+use Rattle.counting.specs.Totals.{totalTo, total, T}
+use Rattle.counting.specs.Refusals.{most, AllFit, preparedRows}
 use Rattle.counting.specs.Answers.{countOf}
-use Rattle.counting.proofs.Totals.{productAt, right-none, T-one, T-more}
-use Rattle.counting.proofs.OneLength.{OneLength, words-alone}
+use Rattle.counting.proofs.Totals.{T-one}
+use Rattle.counting.proofs.OneLength.{OneLength, words-alone, power, T-power}
+use Rattle.counting.proofs.Ten.{needed-within}
 use Rattle.ranking.specs.Answers.{entryOf, unrankRows, unrankOf, numberOf, rankRows, rankOf}
 use Rattle.history.specs.Layout.{twoAt, recordWords}
 use Rattle.history.specs.Chain.{numbersFrom}
@@ -38,71 +38,55 @@ use Rattle.sampling.specs.Demand3.{Premises, SameBarred}
 use Rattle.sampling.specs.Examples.{F, G, heard01, heardTwice, Examples}
 use Rattle.sampling.proofs.Premises.{prepared-pass, heard-single, premises-pass}
 
--- ---- where all derivations of the right half have one word
+-- ---- the grammar F, and any other with its rules of nonterminals 0 and 1
 
-module _ (rules : ℕ → List Rule) (B C y : ℕ) (one : OneLength rules C 1 y) where
-  -- only the left length one below adds
-  one-right : (m : ℕ) → 2 ≤ m → addedAfter rules B C m (m - 1) ≡ T rules B (m - 1) * y
-  one-right m h =
-      let product = productAt (λ q. T rules) B C 0 m in
-      let z : 1 + (m - 2) ≡ m - 1 = omega arith in
-      let s : m - 2 + 1 ≡ m - 1 = omega arith in
-      let r : m - (m - 1) ≡ 1 = omega arith in
-      let none = run-none product 1 (m - 2) (λ i l u. right-none (λ q. T rules) B C 0 m i (one .elsewhere (m - i) (λ e. omega arith))) in
-      let last : product (m - 1) ≡ T rules B (m - 1) * y = rw (r, one .here) in
-      omega (arith, none, rw (z, s) at (run-last product 1 (m - 2)), last)
+-- T of S: four at length 2, and then twice as many at each length
+doubled-le : (m k : ℕ) → power 2 m ≤ power 2 (k + m)
+doubled-le m zero = let e : 0 + m ≡ m = omega arith in rw e (omega arith)
+doubled-le m (suc k) = let e : suc k + m ≡ suc (k + m) = omega arith in rw e (omega (arith, doubled-le m k))
 
--- ---- the grammar F
+module _ (rules : ℕ → List Rule) (no-words : wordsOf (rules 0) ≡ []) (two-pairs : pairsOf (rules 0) ≡ (1, 1) ∷ (0, 1) ∷ []) (words : OneLength rules 1 1 2) where
+  pub doubled : (m : ℕ) → T rules 0 (suc (suc m)) ≡ power 2 m
+  doubled = T-power rules 0 1 2 no-words two-pairs words
+
+  pub doubled-fits : (A m : ℕ) → A < 2 → 1 ≤ m → m ≤ 16 → T rules A m ≤ most
+  doubled-fits zero zero a l u = absurd (omega arith)
+  doubled-fits zero (suc zero) a l u = omega (arith, T-one rules 0, ap length no-words)
+  doubled-fits zero (suc (suc m)) a l u =
+      let e : 14 - m + m ≡ 14 = omega arith in
+      omega (arith, doubled m, rw e at (doubled-le m (14 - m)))
+  doubled-fits (suc zero) m a l u =
+      elim (ℕ-discrete m 1) [
+        | yes e ↦ rw e (omega (arith, words .here))
+        | no ne ↦ omega (arith, words .elsewhere m ne)
+      ]
+  doubled-fits (suc (suc A)) m a l u = absurd (omega arith)
 
 words-two : OneLength (chain F) 1 1 2
 unfolding metFrom rest
 words-two = words-alone (chain F) 1 refl
 
--- T of S: four at length 2, and then twice as many at each length
-abbrev doubled : ℕ → ℕ
-doubled zero = 4
-doubled (suc m) = doubled m * 2
-
-T-next : (m : ℕ) → T (chain F) 0 (suc (suc m)) ≡ T (chain F) 1 (suc m) * 2 + T (chain F) 0 (suc m) * 2
-unfolding metFrom rest
-T-next m =
-    let e : suc (suc m) - 1 ≡ suc m = omega arith in
-    let a = rw e at (one-right (chain F) 1 1 2 words-two (suc (suc m)) (omega arith)) in
-    let b = rw e at (one-right (chain F) 0 1 2 words-two (suc (suc m)) (omega arith)) in
-    let c = rw e at (T-more (chain F) 0 (suc (suc m)) (omega arith)) in
-    omega (arith, a, b, c)
-
 T-first : T (chain F) 0 1 ≡ 0
 unfolding metFrom rest
 T-first = T-one (chain F) 0
 
-pub T-doubled : (m : ℕ) → T (chain F) 0 (suc (suc m)) ≡ doubled m
-T-doubled zero = omega (arith, T-next 0, words-two .here, T-first)
-T-doubled (suc m) = omega (arith, T-next (suc m), words-two .elsewhere (suc (suc m)) (λ e. omega arith), T-doubled m)
-
-doubled-le : (m k : ℕ) → doubled m ≤ doubled (k + m)
-doubled-le m zero = let e : 0 + m ≡ m = omega arith in rw e (omega arith)
-doubled-le m (suc k) = let e : suc k + m ≡ suc (k + m) = omega arith in rw e (omega (arith, doubled-le m k))
+T-doubled : (m : ℕ) → T (chain F) 0 (suc (suc m)) ≡ power 2 m
+unfolding metFrom rest
+T-doubled m = doubled (chain F) refl refl words-two m
 
 F-accepted : Accepted F
 unfolding firstThatApplies tooShort outOfRange wrongSize fits badRule badLink metTwice onNoChain someAlike repeated metFrom someBelow
 F-accepted = refl
 
 F-counts : (A m : ℕ) → A < 2 → 1 ≤ m → m ≤ 16 → T (chain F) A m ≤ most
-F-counts zero zero a l u = absurd (omega arith)
-F-counts zero (suc zero) a l u = omega (arith, T-first)
-F-counts zero (suc (suc m)) a l u =
-    let e : 14 - m + m ≡ 14 = omega arith in
-    omega (arith, T-doubled m, rw e at (doubled-le m (14 - m)))
-F-counts (suc zero) m a l u =
-    elim (ℕ-discrete m 1) [
-      | yes e ↦ rw e (omega (arith, words-two .here))
-      | no ne ↦ omega (arith, words-two .elsewhere m ne)
-    ]
-F-counts (suc (suc A)) m a l u = absurd (omega arith)
+unfolding metFrom rest
+F-counts = doubled-fits (chain F) refl refl words-two
+
+F-fits : (n : ℕ) → 1 ≤ n → n ≤ 16 → AllFit (chain F) (λ p w. 1) 0 n
+F-fits n l u A m a = let w = needed-within F n F-accepted l a in F-counts A m (w .0) (w .1) (omega (arith, w .2))
 
 F-prepared : (n : ℕ) → 1 ≤ n → n ≤ 16 → firstThatApplies (preparedRows F n) ≡ 0
-F-prepared n l u = prepared-pass F n F-accepted l u (λ A m a b c. F-counts A m a b (omega arith))
+F-prepared n l u = prepared-pass F n F-accepted l u (F-fits n l u)
 
 F-count : (n t : ℕ) → 1 ≤ n → n ≤ 16 → T (chain F) 0 n ≡ t → countOf F n ≡ given (t ∷ []) []
 unfolding countOf
@@ -158,7 +142,7 @@ example-premises =
       bank = F-accepted;
       some = omega arith;
       short = omega arith;
-      counts = λ A m a l u. F-counts A m a l (omega arith);
+      counts = F-fits 2 (omega arith) (omega arith);
       diary = heard01-accepted;
       single = heard-single F heard01 2 heard01-accepted .0 heard01-clear;
     }
@@ -233,7 +217,8 @@ G-counts zero (suc (suc (suc (suc (suc m))))) a l u = absurd (omega arith)
 G-counts (suc A) m a l u = absurd (omega arith)
 
 G-prepared : (n : ℕ) → 1 ≤ n → n ≤ 4 → firstThatApplies (preparedRows G n) ≡ 0
-G-prepared n l u = prepared-pass G n G-accepted l (omega arith) (λ A m a b c. G-counts A m a b (omega arith))
+G-prepared n l u =
+    prepared-pass G n G-accepted l (omega arith) (λ A m a. let w = needed-within G n G-accepted l a in G-counts A m (w .0) (w .1) (omega (arith, w .2)))
 
 G-count : (n t : ℕ) → 1 ≤ n → n ≤ 4 → T (chain G) 0 n ≡ t → countOf G n ≡ given (t ∷ []) []
 unfolding countOf

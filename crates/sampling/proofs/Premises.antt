@@ -6,22 +6,21 @@ use mathlib.Core.Path.{_≡_, refl, sym, _∙_}
 use mathlib.Core.Logic.{_↔_}
 use mathlib.Core.Bool.{true, false}
 use mathlib.Core.List.{List, [], _∷_, _++_}
-use Prim.Native.Nat.{ℕ, zero, suc, _≤_, _<_}
+use Prim.Native.Nat.{ℕ, _≤_, _<_}
 use native.Mathlib.Omega.{arith}
 use lib.ListN.{length}
-use lib.Dec.{ltb, leb}
-use borrow.Author.Tests.{ltb-false, le-ltb, lt-leb}
-use Rattle.lists.specs.Searched.{someBelow}
+use lib.Dec.{leb}
+use borrow.Author.Tests.{lt-leb}
 use Rattle.lists.proofs.Orders.{few-same, same-few}
-use Rattle.lists.proofs.Tests.{within-facts, within-both, some-clear, below-at, below-clear, to-clear}
+use Rattle.lists.proofs.Tests.{within-facts, within-both, some-clear}
 use Rattle.answers.specs.Answer.{firstThatApplies}
 use Rattle.answers.specs.Length.{badLength}
 use Rattle.answers.proofs.Refusals.{row-passed, row-clear, rows-pass, rows-clear, answer-number}
-use Rattle.grammar.specs.Layout.{nonterminals}
+use Rattle.grammar.specs.Layout.{start}
 use Rattle.grammar.specs.Chains.{chain}
 use Rattle.grammar.specs.Refusals.{grammarRows, Accepted}
-use Rattle.counting.specs.Totals.{T}
-use Rattle.counting.specs.Refusals.{most, overflows, tooLarge, preparedRows}
+use Rattle.counting.specs.Refusals.{AllFit, tooLarge, preparedRows}
+use Rattle.counting.proofs.Ten.{counts-small}
 use Rattle.ranking.specs.Answers.{totalOf, readingsOf}
 use Rattle.ranking.proofs.Demand2.{exactly-readings}
 use Rattle.history.specs.Refusals as history
@@ -38,30 +37,9 @@ pub length-within : (n : ℕ) → (badLength n ≡ false) ↔ ((1 ≤ n) × (n �
 unfolding badLength
 length-within n = (within-facts 1 16 n, λ q. within-both 1 16 n (q .0) (q .1))
 
--- ---- 10
-
-module _ (g : List ℕ) (n : ℕ) where
-  fits-counts : tooLarge g n ≡ false → (A m : ℕ) → A < nonterminals g → 1 ≤ m → m ≤ n → T (chain g) A m ≤ most
-  unfolding tooLarge overflows
-  fits-counts e A zero h l u = absurd (omega arith)
-  fits-counts e A (suc m) h l u =
-      ltb-false most (T (chain g) A (suc m))
-      (below-at (λ B. ltb most (T (chain g) B (suc m))) (nonterminals g) A
-      (below-at (λ i. someBelow (λ B. ltb most (T (chain g) B (suc i))) (nonterminals g)) n m e u) h)
-
-  counts-fit : ((A m : ℕ) → A < nonterminals g → 1 ≤ m → m ≤ n → T (chain g) A m ≤ most) → tooLarge g n ≡ false
-  unfolding tooLarge overflows
-  counts-fit c =
-      to-clear (λ m. someBelow (λ A. ltb most (T (chain g) A m)) (nonterminals g)) n
-      (λ m l u. below-clear (λ A. ltb most (T (chain g) A m)) (nonterminals g) (λ A h. le-ltb most (T (chain g) A m) (c A m h l u)))
-
-  pub counts-small : (tooLarge g n ≡ false) ↔ ((A m : ℕ) → A < nonterminals g → 1 ≤ m → m ≤ n → T (chain g) A m ≤ most)
-  counts-small = (fits-counts, counts-fit)
-
 -- ---- none of 1 to 10 applies
 
-pub prepared-pass : (g : List ℕ) (n : ℕ) → Accepted g → 1 ≤ n → n ≤ 16
-    → ((A m : ℕ) → A < nonterminals g → 1 ≤ m → m ≤ n → T (chain g) A m ≤ most) → firstThatApplies (preparedRows g n) ≡ 0
+pub prepared-pass : (g : List ℕ) (n : ℕ) → Accepted g → 1 ≤ n → n ≤ 16 → AllFit (chain g) (λ p w. 1) (start g) n → firstThatApplies (preparedRows g n) ≡ 0
 unfolding firstThatApplies
 prepared-pass g n ok l u c =
     rows-pass (grammarRows g) ((badLength n, 9) ∷ (tooLarge g n, 10) ∷ []) refl ok

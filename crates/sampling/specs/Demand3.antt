@@ -11,12 +11,11 @@ use lib.ListN.{length, getD, take, drop}
 use Rattle.lists.specs.Joined.{_∈_, upFrom}
 use Rattle.lists.specs.Ordered.{Pairwise, Exactly}
 use Rattle.answers.specs.Answer.{Answer, given, refused}
-use Rattle.grammar.specs.Layout.{nonterminals}
+use Rattle.grammar.specs.Layout.{start}
 use Rattle.grammar.specs.Chains.{chain}
 use Rattle.grammar.specs.Refusals.{Accepted}
 use Rattle.grammar.specs.Trees.{Tree, sentence, Before}
-use Rattle.counting.specs.Totals.{T}
-use Rattle.counting.specs.Refusals.{most}
+use Rattle.counting.specs.Refusals.{AllFit}
 use Rattle.ranking.specs.Answers.{totalOf}
 use Rattle.ranking.specs.Demand2.{Derivation, HasNumber, OneDerivation}
 use Rattle.history.specs.Refusals as history
@@ -29,13 +28,13 @@ use Rattle.sampling.specs.Answers.{remainingTo, drawTo}
 abbrev pub Single : (g : List ℕ) (s : List ℕ) → Type 0
 Single g s = (t u : Tree) → Derivation g (length s) t → Derivation g (length s) u → sentence t ≡ s → sentence u ≡ s → t ≡ u
 
--- What demand 3 names: an accepted grammar, a length of 1 to 16 up to which no count is 2^64 or more, and an accepted history with no
+-- What demand 3 names: an accepted grammar, a length of 1 to 16 of which no needed count is 2^64 or more, and an accepted history with no
 -- heard sentence of that length that has two derivations. proofs/Premises.antt: they hold exactly where *Left* isn't refused.
 pub record Premises (g h : List ℕ) (a : Question) : Type 0 where
   pub bank : Accepted g
   pub some : 1 ≤ a .length
   pub short : a .length ≤ 16
-  pub counts : (A m : ℕ) → A < nonterminals g → 1 ≤ m → m ≤ a .length → T (chain g) A m ≤ most
+  pub counts : AllFit (chain g) (λ p w. 1) (start g) (a .length)
   pub diary : history.Accepted h
   pub single : (s : List ℕ) → length s ≡ a .length → heard h s ≡ true → Single g s
 

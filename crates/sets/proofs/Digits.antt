@@ -1,34 +1,37 @@
 -- Each operation on bits, by what it does to membership: digit by digit, with the laws of lib.Bits and lib.Pow.
 -- Assumes nothing.
 use mathlib.Core.Path.{_≡_, refl, sym, ap, _∙_}
-use mathlib.Core.Bool.{false, _&&_, _||_}
+use mathlib.Core.Bool.{Bool, true, false, not, _&&_, _||_}
 use Prim.Native.Nat.{ℕ, zero, suc, _+_, _-_, _*_, _/_, _%_, _^_, _<_}
 use native.Mathlib.Nat.{zero-lt-suc, mod-lt, pow-suc, pow-succ', div-div-eq-div-mul, div-one, mul-div-cancel, mul-mod-left, mul-one, one-mul, sub-zero}
 use native.Mathlib.Omega.{arith}
 use lib.Dec.{eqb, leb, eqb·zero-suc, eqb·suc-zero, eqb·suc-suc, leb·zero, leb·suc-zero, leb·suc-suc}
 use lib.Pow.{shl-exact, field, mod-mod-pow}
-use lib.Bits.{bitAnd, bitOr, and-shr, or-shr, and-mod, or-mod, and-mask, shifted-half, shifted-even}
+use lib.Bits.{bitAnd, bitOr, bitXor, and-shr, or-shr, xor-shr, and-mod, or-mod, xor-mod, and-mask, shifted-half, shifted-even}
 use Rattle.sets.specs.Inner.Sets.{member}
 
 -- ---- two sets, digit by digit
 
+-- an operation on digits by its four cases
+digit-by : (f : ℕ → ℕ → ℕ) (g : Bool → Bool → Bool) → eqb (f 0 0) 1 ≡ g false false → eqb (f 0 1) 1 ≡ g false true → eqb (f 1 0) 1 ≡ g true false
+    → eqb (f 1 1) 1 ≡ g true true → (x y : ℕ) → x < 2 → y < 2 → eqb (f x y) 1 ≡ g (eqb x 1) (eqb y 1)
+digit-by f g a b c d zero zero h k = a
+digit-by f g a b c d zero (suc zero) h k = b
+digit-by f g a b c d (suc zero) zero h k = c
+digit-by f g a b c d (suc zero) (suc zero) h k = d
+digit-by f g a b c d (suc (suc x)) y h k = absurd (omega arith)
+digit-by f g a b c d zero (suc (suc y)) h k = absurd (omega arith)
+digit-by f g a b c d (suc zero) (suc (suc y)) h k = absurd (omega arith)
+
 digit-and : (x y : ℕ) → x < 2 → y < 2 → eqb (bitAnd x y) 1 ≡ (eqb x 1 && eqb y 1)
-digit-and zero zero h k = refl
-digit-and zero (suc zero) h k = refl
-digit-and (suc zero) zero h k = refl
-digit-and (suc zero) (suc zero) h k = refl
-digit-and (suc (suc x)) y h k = absurd (omega arith)
-digit-and zero (suc (suc y)) h k = absurd (omega arith)
-digit-and (suc zero) (suc (suc y)) h k = absurd (omega arith)
+digit-and = digit-by bitAnd _&&_ refl refl refl refl
 
 digit-or : (x y : ℕ) → x < 2 → y < 2 → eqb (bitOr x y) 1 ≡ (eqb x 1 || eqb y 1)
-digit-or zero zero h k = refl
-digit-or zero (suc zero) h k = refl
-digit-or (suc zero) zero h k = refl
-digit-or (suc zero) (suc zero) h k = refl
-digit-or (suc (suc x)) y h k = absurd (omega arith)
-digit-or zero (suc (suc y)) h k = absurd (omega arith)
-digit-or (suc zero) (suc (suc y)) h k = absurd (omega arith)
+digit-or = digit-by bitOr _||_ refl refl refl refl
+
+-- `x ^ (x & y)`
+digit-less : (x y : ℕ) → x < 2 → y < 2 → eqb (bitXor x (bitAnd x y)) 1 ≡ (eqb x 1 && not (eqb y 1))
+digit-less = digit-by (λ x y. bitXor x (bitAnd x y)) (λ a b. a && not b) refl refl refl refl
 
 digit-lt : (n : ℕ) → n % 2 < 2
 digit-lt n = mod-lt n (zero-lt-suc 1)
@@ -46,6 +49,13 @@ member-or s t a =
     ap (λ (x : ℕ). eqb (x % 2) 1) (or-shr s t a)
     ∙ ap (λ (x : ℕ). eqb x 1) (or-mod (s / 2 ^ a) (t / 2 ^ a) 1)
     ∙ digit-or (s / 2 ^ a % 2) (t / 2 ^ a % 2) (digit-lt (s / 2 ^ a)) (digit-lt (t / 2 ^ a))
+
+pub member-without : (s t a : ℕ) → member (bitXor s (bitAnd s t)) a ≡ (member s a && not (member t a))
+unfolding member
+member-without s t a =
+    ap (λ (x : ℕ). eqb (x % 2) 1) (xor-shr s (bitAnd s t) a ∙ ap (bitXor (s / 2 ^ a)) (and-shr s t a))
+    ∙ ap (λ (x : ℕ). eqb x 1) (xor-mod (s / 2 ^ a) (bitAnd (s / 2 ^ a) (t / 2 ^ a)) 1 ∙ ap (bitXor (s / 2 ^ a % 2)) (and-mod (s / 2 ^ a) (t / 2 ^ a) 1))
+    ∙ digit-less (s / 2 ^ a % 2) (t / 2 ^ a % 2) (digit-lt (s / 2 ^ a)) (digit-lt (t / 2 ^ a))
 
 -- ---- one set: its lowest digit, and the others
 

@@ -2,7 +2,7 @@
 -- left. And what the contracts of the operations say of single members: one more, two sets together, a set moved; none, and some.
 -- Assumes nothing.
 use mathlib.Core.Path.{_≡_, refl, sym, ap, _∙_}
-use mathlib.Core.Bool.{true, _||_, _&&_, false≢true}
+use mathlib.Core.Bool.{true, false, _||_, _&&_, false≢true}
 use mathlib.Core.List.{List, [], _∷_, List·Memᴰ·head, List·Memᴰ·tail, List·Memᴰ·not-nil}
 use mathlib.Core.Logic.{_⊎_, inl, inr}
 use Prim.Native.Nat.{ℕ, _<_, _+_, _-_, _≤_}
@@ -34,7 +34,7 @@ module _ (left a : ℕ) (first : members left ≡ a ∷ drop 1 (members left)) w
 -- ---- the same by membership
 
 module _ (left a next : ℕ) (t : members left ≡ a ∷ members next) where
-  pub turn-member : (b : ℕ) → b < 32 → member left b ≡ (eqb a b || member next b)
+  turn-member : (b : ℕ) → b < 32 → member left b ≡ (eqb a b || member next b)
   turn-member b h = both-ways (member left b) (eqb a b || member next b) (λ e. there (rw t at (∈-members left b h e))) back
     where
       there : b ∈ (a ∷ members next) → (eqb a b || member next b) ≡ true
@@ -50,6 +50,13 @@ module _ (left a next : ℕ) (t : members left ≡ a ∷ members next) where
             | yes q ↦ here (List·Memᴰ·head q)
             | no n ↦ here (List·Memᴰ·tail (∈-members next b h (rw (ne-eqb a b (λ q. n (sym q))) at e)))
           ]
+
+  -- what is left is among what was; and what isn't left any more is a, or wasn't left before
+  pub turn-among : (b : ℕ) → b < 32 → member next b ≡ true → member left b ≡ true
+  turn-among b h e = turn-member b h ∙ or-true (eqb a b) (member next b) e
+
+  pub turn-out : (b : ℕ) → b < 32 → member next b ≡ false → (b ≡ a → ⊥) → member left b ≡ false
+  turn-out b h o n = turn-member b h ∙ rw (ne-eqb a b (λ e. n (sym e)), o)
 
 -- ---- nothing is left
 

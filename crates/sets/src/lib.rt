@@ -1,6 +1,6 @@
 // Sets of numbers below 32, each the bits of one u32, and what a loop over a set needs: its first member, and the set without it.
 ghost use mathlib.Core.Path.{_≡_};
-ghost use mathlib.Core.Bool.{_&&_, _||_};
+ghost use mathlib.Core.Bool.{_&&_, _||_, not};
 ghost use mathlib.Core.List.{[], _∷_};
 ghost use Prim.Native.Nat.{ℕ, _-_, _<_};
 ghost use lib.Dec.{eqb, leb};
@@ -34,6 +34,13 @@ pub fn either(s: u32, t: u32) -> u32
     ensures { λ r. ⌜ ((b : ℕ) → member r b ≡ (member s b || member t b)) ⌝ }
 {
     s | t
+}
+
+// The members of s that t doesn't have.
+pub fn without(s: u32, t: u32) -> u32
+    ensures { λ r. ⌜ ((b : ℕ) → member r b ≡ (member s b && not (member t b))) ⌝ }
+{
+    s ^ (s & t)
 }
 
 // Each member of s, k more; those that would come to 32 or above are lost.

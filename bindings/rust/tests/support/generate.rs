@@ -1,6 +1,6 @@
 //! Cases from a seed: grammars of several families, histories, numbers, and damage of every kind.
 use super::case::{Call, Case};
-use super::reference::{Full, Grammar, Readings, next_row, read_grammar};
+use super::reference::{Full, Grammar, Readings, next, read_grammar, totals};
 
 /// Numbers from a seed (splitmix64).
 pub struct Rng(u64);
@@ -202,8 +202,27 @@ pub fn brimful(extra: bool) -> Draft {
     Draft::new(17, chains)
 }
 
+/// A grammar of few rules, and beside it one with very many derivations: out of reach, or in pair rules, so that some lengths need
+/// them and others don't.
+fn beside(rng: &mut Rng) -> Draft {
+    let mut draft = random_draft(rng, 4, 4, 10);
+    let many = if rng.once_in(2) { tower(rng) } else { f_words(15 + rng.below(200)) };
+    let n = draft.chains.len();
+    for chain in many.chains {
+        let moved = |body: Body| if body[0] == 1 { pair(n + usize::from(body[1]), n + usize::from(body[2])) } else { body };
+        draft.chains.push(chain.into_iter().map(moved).collect());
+    }
+    draft.words = draft.words.max(many.words);
+    for _ in 0..rng.below(4) {
+        let all = draft.chains.len();
+        let (a, b, c) = (rng.below(n), rng.below(all), rng.below(n));
+        draft.add(a, 0, if rng.once_in(2) { pair(b, c) } else { pair(c, b) });
+    }
+    draft
+}
+
 fn draft(rng: &mut Rng) -> Draft {
-    let mut draft = match rng.below(16) {
+    let mut draft = match rng.below(18) {
         0..=4 => random_draft(rng, 4, 4, 10),
         5 | 6 => random_draft(rng, 8, 6, 30),
         7 if rng.once_in(4) => random_draft(rng, 32, 255, 255),
@@ -227,6 +246,7 @@ fn draft(rng: &mut Rng) -> Draft {
             groups(&[size; 16])
         }
         13 | 14 => tower(rng),
+        15 | 16 => beside(rng),
         _ => brimful(rng.once_in(3)),
     };
     // Something of another kind beside it, reached or not.
@@ -258,14 +278,11 @@ fn draft(rng: &mut Rng) -> Draft {
     draft
 }
 
-/// The rows of T up to 16, or as far as they fit.
+/// The rows of T up to 16, with 2^64 - 1 in place of what is above it.
 pub fn rows(grammar: &Grammar) -> Vec<Vec<u64>> {
     let mut t = vec![vec![0; grammar.chains.len()]];
-    while t.len() <= 16 {
-        match next_row(grammar, &t) {
-            Ok(row) => t.push(row),
-            Err(_) => break,
-        }
+    for _ in 1..=16 {
+        t.push((0..grammar.chains.len()).map(|a| next(grammar, &t, a).try_into().unwrap_or(u64::MAX)).collect());
     }
     t
 }
@@ -477,14 +494,17 @@ fn length(rng: &mut Rng, grammar: &Grammar) -> usize {
         return 1 + rng.below(16);
     }
     let t = rows(grammar);
-    if t.len() <= 16 && rng.once_in(6) {
-        return t.len(); // too many
-    }
-    let mut full: Vec<usize> = (1..t.len()).filter(|&m| t[m][grammar.start] > 0).collect();
+    let mut full: Vec<usize> = (1..=16).filter(|&m| t[m][grammar.start] > 0).collect();
     if rng.once_in(2) && full.iter().any(|m| (2..=6).contains(m)) {
         full.retain(|m| (2..=6).contains(m));
     }
-    if full.is_empty() { 1 + rng.below(16) } else { rng.pick(&full) }
+    for _ in 0..4 {
+        let m = if full.is_empty() { 1 + rng.below(16) } else { rng.pick(&full) };
+        if totals(grammar, m).is_ok() || rng.once_in(4) {
+            return m;
+        }
+    }
+    1 + rng.below(16)
 }
 
 /// A number about a total: most of them below it.

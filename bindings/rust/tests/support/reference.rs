@@ -1,9 +1,9 @@
-//! Document 01 once more in plain Rust, for the tests alone: slow, and written from the document's text. Where there
+//! Document 01, with document 02's U2, once more in plain Rust, for the tests alone: slow, and written from the documents' text. Where there
 //! are few derivations they are written down one by one; else the answers come from exact counts.
 use super::case::{Answer, Call, Case};
 use std::collections::BTreeSet;
 
-/// The most derivations, over all nonterminals and lengths, that are written down.
+/// The most derivations, over all needed pairs, that are written down.
 const LISTED: u128 = 300;
 
 #[derive(Clone, Copy, PartialEq, Eq)]
@@ -68,35 +68,52 @@ pub fn read_grammar(bytes: &[u8]) -> Result<Grammar, u8> {
     Ok(Grammar { words: w, start: usize::from(s), chains })
 }
 
-/// T(A, m) at `[m][A]`, for m up to the length; or 10, where one is above 2^64 - 1.
+/// Document 02, U2: "The pair (S, length) is needed. If (A, m) is needed, so are (B, k) and (C, m - k) for each pair
+/// rule of A and each k."
+pub fn needed(grammar: &Grammar, length: usize) -> BTreeSet<(usize, usize)> {
+    let (mut pairs, mut found) = (BTreeSet::new(), vec![(grammar.start, length)]);
+    while let Some((a, m)) = found.pop() {
+        if !pairs.insert((a, m)) {
+            continue;
+        }
+        for rule in &grammar.chains[a] {
+            if let Rule::Pair(b, c) = *rule {
+                found.extend((1..m).flat_map(|k| [(b, k), (c, m - k)]));
+            }
+        }
+    }
+    pairs
+}
+
+/// T(A, m) at `[m][A]` for the pairs that the length needs, and 0 for all others; or 10, where one is above 2^64 - 1.
 pub fn totals(grammar: &Grammar, length: usize) -> Result<Vec<Vec<u64>>, u8> {
+    let needed = needed(grammar, length);
     let mut t = vec![vec![0; grammar.chains.len()]];
-    for _ in 1..=length {
-        t.push(next_row(grammar, &t)?);
+    for m in 1..=length {
+        let row = (0..grammar.chains.len())
+            .map(|a| if needed.contains(&(a, m)) { u64::try_from(next(grammar, &t, a)).map_err(|_| 10) } else { Ok(0) })
+            .collect::<Result<_, u8>>()?;
+        t.push(row);
     }
     Ok(t)
 }
 
-/// T(A, m) by A, from the rows below m.
-pub fn next_row(grammar: &Grammar, t: &[Vec<u64>]) -> Result<Vec<u64>, u8> {
+/// T(A, m) from the rows below m.
+pub fn next(grammar: &Grammar, t: &[Vec<u64>], a: usize) -> u128 {
     let m = t.len();
-    let mut row = vec![];
-    for chain in &grammar.chains {
-        let mut sum = 0u128;
-        for rule in chain {
-            match *rule {
-                Rule::Word(_) if m == 1 => sum += 1,
-                Rule::Word(_) => {}
-                Rule::Pair(b, c) => {
-                    for k in 1..m {
-                        sum = sum.saturating_add(u128::from(t[k][b]) * u128::from(t[m - k][c]));
-                    }
+    let mut sum = 0u128;
+    for rule in &grammar.chains[a] {
+        match *rule {
+            Rule::Word(_) if m == 1 => sum += 1,
+            Rule::Word(_) => {}
+            Rule::Pair(b, c) => {
+                for k in 1..m {
+                    sum = sum.saturating_add(u128::from(t[k][b]) * u128::from(t[m - k][c]));
                 }
             }
         }
-        row.push(u64::try_from(sum).map_err(|_| 10)?);
     }
-    Ok(row)
+    sum
 }
 
 /// How many derivations a sentence has, and the number of a single one.
@@ -182,12 +199,13 @@ impl<'a> Full<'a> {
 
 /// Every derivation of the start and that length, as its sentence, in order.
 pub fn listed(grammar: &Grammar, length: usize) -> Vec<Vec<u8>> {
+    let needed = needed(grammar, length);
     let mut lists: Vec<Vec<Vec<Vec<u8>>>> = vec![vec![]];
     for m in 1..=length {
         let mut row = vec![];
-        for chain in &grammar.chains {
+        for (a, chain) in grammar.chains.iter().enumerate() {
             let mut list = vec![];
-            for rule in chain {
+            for rule in chain.iter().filter(|_| needed.contains(&(a, m))) {
                 match *rule {
                     Rule::Word(word) if m == 1 => list.push(vec![word]),
                     Rule::Word(_) => {}

@@ -23,7 +23,7 @@ refusalNumber GrammarRuleOnNoChain = 7
 refusalNumber GrammarEqualRules = 8
 -- the length, or the sentence's length, is not 1 to 16
 refusalNumber BadLength = 9
--- some count up to the length is above 2^64 - 1
+-- a count that the length needs is above 2^64 - 1
 refusalNumber TooManyDerivations = 10
 -- the history has fewer than 4 bytes, K is above 1,000, or it has fewer than 4 + 20K bytes
 refusalNumber HistoryWrongSize = 11

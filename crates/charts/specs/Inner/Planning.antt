@@ -31,10 +31,10 @@ pub record SidedAs (rules : List (List ℕ)) (end : ℕ) (row : List ℕ) (lefts
 
 -- ---- the nonterminals with a derivation
 
--- of the length m, among the first N
+-- of the length m, among the first N: those with a count, and no others
 pub record WantedAs (totals : List (List ℕ)) (N m s : ℕ) : Type 0 where
   pub has : (A : ℕ) → A < N → 1 ≤ entry totals m A → member s A ≡ true
-  pub only : (A : ℕ) → A < 32 → member s A ≡ true → A < N
+  pub only : (A : ℕ) → A < 32 → member s A ≡ true → 1 ≤ entry totals m A
 
 -- of each length up to n
 pub record AllWantedAs (totals : List (List ℕ)) (N n : ℕ) (row : List ℕ) : Type 0 where

@@ -6,8 +6,9 @@ use mathlib.Core.List.{List}
 use Prim.Native.Nat.{ℕ, _≤_, _<_}
 use lib.ListN.{length}
 use Rattle.lists.specs.Inner.Tables.{entry, Wide}
-use Rattle.grammar.specs.Inner.Rules.{countIn, ruled, Ruled}
+use Rattle.grammar.specs.Inner.Rules.{startIn, countIn, ruled, Ruled}
 use Rattle.counting.specs.Totals.{T}
+use Rattle.counting.specs.Needed.{Needed}
 use Rattle.counting.specs.Refusals.{most}
 
 -- a's count at the length m, and its longest length
@@ -17,14 +18,15 @@ countAt totals a m = entry totals m a
 abbrev pub longestAt : List (List ℕ) → ℕ → ℕ
 longestAt totals a = entry totals 0 a
 
--- A call with the length n asks for the total of the nonterminal A and the length m: document 01's 10 looks at every nonterminal and
--- every length up to n. Whatever the tables hold is promised for these alone, and only their totals must fit in 64 bits.
+-- A call with the length n asks for the total of the nonterminal A and the length m: the pair is needed, and so lies within the grammar and the
+-- length (`asked-of` in proofs/). Whatever the tables hold is promised for these alone, and only their totals must fit in 64 bits.
 pub record Asked (rules : List (List ℕ)) (n A m : ℕ) : Type 0 where
+  pub needed : Needed (ruled rules) (startIn rules) n A m
   pub inside : A < countIn rules
   pub some : 1 ≤ m
   pub short : m ≤ n
 
--- the counts up to the length n are there, and fit
+-- the counts up to the length n are there, and fit; what isn't asked for has 0
 pub record Counted (rules totals : List (List ℕ)) (n : ℕ) : Type 0 where
   pub table : Ruled rules
   pub some : 1 ≤ n
@@ -34,3 +36,4 @@ pub record Counted (rules totals : List (List ℕ)) (n : ℕ) : Type 0 where
   pub right : (A m : ℕ) → Asked rules n A m → countAt totals A m ≡ T (ruled rules) A m
   pub fits : (A m : ℕ) → Asked rules n A m → T (ruled rules) A m ≤ most
   pub longest : (A m : ℕ) → Asked rules n A m → longestAt totals A < m → T (ruled rules) A m ≡ 0
+  pub only : (A m : ℕ) → A < 32 → 1 ≤ m → m ≤ n → 1 ≤ countAt totals A m → Asked rules n A m

@@ -2,18 +2,19 @@
 -- answers.
 -- Assumes nothing: these are definitions.
 use mathlib.Core.Path.{_≡_}
-use mathlib.Core.Bool.{Bool, true, not, cond}
+use mathlib.Core.Bool.{Bool, true, false, not, cond}
 use mathlib.Core.List.{List, []}
 use Prim.Native.Nat.{ℕ, _*_, _-_, _≤_, _<_}
-use lib.Dec.{ltb, eqb}
+use lib.Dec.{eqb}
 use lib.ListN.{length, getD}
-use Rattle.lists.specs.Joined.{sumOver, upFrom}
-use Rattle.lists.specs.Searched.{someBelow}
-use Rattle.lists.specs.Inner.Tables.{put, Wide, Kept}
-use Rattle.grammar.specs.Inner.Rules.{countIn, ruled, Ruled}
+use Rattle.lists.specs.Joined.{_∈_, sumOver, upFrom}
+use Rattle.lists.specs.Inner.Tables.{entry, put, Wide, Kept}
+use Rattle.sets.specs.Inner.Sets.{member}
+use Rattle.grammar.specs.Inner.Rules.{startIn, countIn, pairsIn, ruled, Ruled}
 use Rattle.counting.specs.Totals.{T}
 use Rattle.counting.specs.Refusals.{most, overflows}
 use Rattle.counting.specs.Inner.Counted.{countAt, longestAt, Counted}
+use Rattle.counting.specs.Inner.Needs.{MemberOf, Owners}
 use Rattle.counting.specs.declared.tallies.Tally.{Tally}
 use Rattle.counting.specs.declared.tallies.Tally.the-variants.{Fits, Over}
 
@@ -24,17 +25,18 @@ TalliedAs n Over = most < n
 
 -- ---- the whole table
 
--- what filling the table asks: it may hold anything
+-- what filling the table asks: no count is there yet
 pub record Filling (rules : List (List ℕ)) (n : ℕ) (totals : List (List ℕ)) : Type 0 where
   pub table : Ruled rules
   pub some : 1 ≤ n
   pub short : n ≤ 16
   pub long : 17 ≤ length totals
   pub wide : Wide totals 32
+  pub zeros : (r A : ℕ) → r ≤ 16 → entry totals r A ≡ 0
 
 -- what it promises: whether all counts fit, and then the counts; the rows from 17 on stay
 pub record FilledAs (rules : List (List ℕ)) (n : ℕ) (before after : List (List ℕ)) (fits : Bool) : Type 0 where
-  pub says : fits ≡ not (overflows (ruled rules) (λ p w. 1) (countIn rules) n)
+  pub says : fits ≡ not (overflows (ruled rules) (λ p w. 1) (startIn rules) n)
   pub counted : fits ≡ true → Counted rules after n
   pub long : length after ≡ length before
   pub wide : Wide after 32
@@ -56,24 +58,26 @@ pub record Halves (totals : List (List ℕ)) (B C m to : ℕ) : Type 0 where
   pub left-over : (k : ℕ) → longestAt totals B < k → k < m → countAt totals B k ≡ 0
   pub right-over : (k : ℕ) → longestAt totals C < k → k < m → countAt totals C k ≡ 0
 
--- ---- one row
+-- ---- one nonterminal
 
--- the rows from 1 to m - 1 are right, and of the row m the nonterminals below a
-pub record RowTo (rules totals : List (List ℕ)) (m a : ℕ) : Type 0 where
-  pub long : 17 ≤ length totals
-  pub wide : Wide totals 32
-  pub right : (A k : ℕ) → A < countIn rules → 1 ≤ k → k < m → countAt totals A k ≡ T (ruled rules) A k
-  pub longest : (A k : ℕ) → A < countIn rules → longestAt totals A < k → k < m → T (ruled rules) A k ≡ 0
-  pub right-here : (A : ℕ) → A < a → countAt totals A m ≡ T (ruled rules) A m
-  pub longest-here : (A : ℕ) → A < a → longestAt totals A < m → T (ruled rules) A m ≡ 0
+-- the counts of X below the length m are there
+pub record Below (rules totals : List (List ℕ)) (m X : ℕ) : Type 0 where
+  pub inside : X < 32
+  pub right : (k : ℕ) → 1 ≤ k → k < m → countAt totals X k ≡ T (ruled rules) X k
+  pub longest : (k : ℕ) → 1 ≤ k → k < m → longestAt totals X < k → T (ruled rules) X k ≡ 0
 
--- what deriving T(a, m) asks, for m of 2 or more
+-- and so are those of all halves of a
+abbrev pub HalvesBelow : (rules totals : List (List ℕ)) (m a : ℕ) → Type 0
+HalvesBelow rules totals m a = (x : ℕ × ℕ) → x ∈ pairsIn rules a → Below rules totals m (x .0) × Below rules totals m (x .1)
+
+-- what T(a, m) asks
 pub record Deriving (rules totals : List (List ℕ)) (m a : ℕ) : Type 0 where
   pub table : Ruled rules
-  pub more : 2 ≤ m
+  pub some : 1 ≤ m
   pub short : m ≤ 16
   pub inside : a < countIn rules
-  pub rows : RowTo rules totals m a
+  pub long : 17 ≤ length totals
+  pub halves : HalvesBelow rules totals m a
 
 -- the longest length with a derivation, once v derivations of the length m are found
 abbrev pub longer : (old m v : ℕ) → ℕ
@@ -83,19 +87,31 @@ longer old m v = cond (eqb v 0) old m
 abbrev pub stored : List (List ℕ) → (a m v : ℕ) → List (List ℕ)
 stored totals a m v = put (put totals m a v) 0 a (longer (longestAt totals a) m v)
 
--- some T(A, m) is above 2^64 - 1
-abbrev pub rowTooLarge : List (List ℕ) → ℕ → Bool
-rowTooLarge rules m = someBelow (λ A. ltb most (T (ruled rules) A m)) (countIn rules)
+-- ---- one row
 
--- what filling the row m asks
-pub record RowFilling (rules totals : List (List ℕ)) (m : ℕ) : Type 0 where
-  pub table : Ruled rules
+-- what filling the row m for a set of nonterminals asks: it is all 0
+pub record RowFilling (rules totals : List (List ℕ)) (m set : ℕ) : Type 0 where
+  pub owners : Owners rules set
   pub some : 1 ≤ m
   pub short : m ≤ 16
-  pub rows : RowTo rules totals m 0
+  pub long : 17 ≤ length totals
+  pub wide : Wide totals 32
+  pub zeros : (A : ℕ) → countAt totals A m ≡ 0
+  pub halves : (A : ℕ) → MemberOf set A → HalvesBelow rules totals m A
 
--- what it promises: whether all its counts fit, and then the row
-pub record RowFilledAs (rules before after : List (List ℕ)) (m : ℕ) (fits : Bool) : Type 0 where
-  pub says : fits ≡ not (rowTooLarge rules m)
-  pub row : fits ≡ true → RowTo rules after m (countIn rules)
+-- The row m is filled for the members of the set that aren't in `left`: they have their counts, which fit, and nothing else has one. No longest length
+-- has fallen, and no other row has changed.
+pub record RowTo (rules before after : List (List ℕ)) (m set left : ℕ) : Type 0 where
+  pub right : (A : ℕ) → MemberOf set A → member left A ≡ false → countAt after A m ≡ T (ruled rules) A m
+  pub fits : (A : ℕ) → MemberOf set A → member left A ≡ false → T (ruled rules) A m ≤ most
+  pub longest : (A : ℕ) → MemberOf set A → member left A ≡ false → longestAt after A < m → T (ruled rules) A m ≡ 0
+  pub only : (A : ℕ) → A < 32 → 1 ≤ countAt after A m → MemberOf set A
+  pub risen : (A k : ℕ) → k ≤ m → longestAt after A < k → longestAt before A < k
+  pub others : (r : ℕ) → 1 ≤ r → (r ≡ m → ⊥) → getD after r [] ≡ getD before r []
+  pub kept : Kept 17 32 before after
+
+-- what it promises: the row, or a count that doesn't fit
+pub record RowFilledAs (rules before after : List (List ℕ)) (m set : ℕ) (fits : Bool) : Type 0 where
+  pub row : fits ≡ true → RowTo rules before after m set 0
+  pub over : fits ≡ false → (A : ℕ) × MemberOf set A × (most < T (ruled rules) A m)
   pub kept : Kept 17 32 before after

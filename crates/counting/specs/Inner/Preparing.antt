@@ -6,7 +6,7 @@ use mathlib.Core.Bool.{false}
 use mathlib.Core.List.{List}
 use Prim.Native.Nat.{ℕ, _≤_}
 use lib.ListN.{length}
-use Rattle.lists.specs.Inner.Tables.{Wide, Kept}
+use Rattle.lists.specs.Inner.Tables.{entry, Wide, Kept}
 use Rattle.answers.specs.Answer.{firstThatApplies}
 use Rattle.answers.specs.Inner.Refusals.{refusalNumber}
 use Rattle.grammar.specs.Inner.Rules.{Holds, Roomy}
@@ -36,11 +36,12 @@ pub record OpenedAs (g : List ℕ) (n : ℕ) (before after : List (List ℕ)) (r
 
 -- ---- 1 to 10
 
--- the tables that preparing is lent: they may hold anything
+-- the tables that preparing is lent: that of the rules may hold anything, that of the totals has no count yet
 pub record Lent (rules totals : List (List ℕ)) : Type 0 where
   pub rules-room : Roomy rules
   pub long : 17 ≤ length totals
   pub wide : Wide totals 32
+  pub zeros : (r A : ℕ) → r ≤ 16 → entry totals r A ≡ 0
 
 -- the tables of a grammar and a length are there
 pub record Tabled (g : List ℕ) (n : ℕ) (rules totals : List (List ℕ)) : Type 0 where

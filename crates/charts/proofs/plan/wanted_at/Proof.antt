@@ -23,7 +23,7 @@ loop-holds c = (omega arith, wants-start _ _ _ (c .none .ensures))
 loop-again : tie.Need-loop-again Inv-loop μ-loop
 loop-again c =
     let w = c .before .before .before .loop .inv .1 in
-    (omega arith, ⊎-elim (λ x. rw (x .2) (wants-put w _ (x .1 .ensures))) (λ x. rw (x .1) (wants-pass w (x .0 .left))) (c .if1 .came))
+    (omega arith, ⊎-elim (λ x. rw (x .2) (wants-put w _ (omega (arith, x .0 .taken)) (x .1 .ensures))) (λ x. rw (x .1) (wants-pass w (x .0 .left))) (c .if1 .came))
 
 returns : tie.Need-returns Inv-loop μ-loop
 returns c =

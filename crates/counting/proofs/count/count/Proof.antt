@@ -1,7 +1,7 @@
 -- `count` meets its contract: a refusal is handed on, and otherwise the table has T(S, n). Assumes nothing.
 use native.Mathlib.Omega.{arith}
 use borrow.Author.Needs.{needs}
-use Rattle.lists.proofs.Tables.{wide-made}
+use Rattle.lists.proofs.Tables.{wide-made, made-entry}
 use Rattle.counting.proofs.Preparing.{count-refused, count-asks, count-given}
 use Rattle.counting.proofs.count.count.Statement.{statement}
 use Rattle.counting.proofs.count.count.Tie as tie
@@ -18,6 +18,7 @@ prepare-requires c κs = record {
   rules-room = record { long = omega arith; wide = wide-made 4 256 0 };
   long = omega arith;
   wide = wide-made 17 32 0;
+  zeros = λ r A l. made-entry 17 32 r A;
 }
 
 count-at-requires : tie.Need-count-at-requires

@@ -17,35 +17,35 @@ abbrev start : tie.At-loop Inv-loop μ-loop → tie.Start Inv-loop μ-loop
 start c = c .before .before .before
 
 pairs-from-requires : tie.Need-pairs-from-requires Inv-loop μ-loop
-pairs-from-requires c κs = let d = c .pre in (d .table .long, omega (arith, deriving-few d))
+pairs-from-requires c κs = let d = c .pre .0 in (d .table .long, omega (arith, deriving-few d))
 
 pairs-from-requires-2 : tie.Need-pairs-from-requires-2 Inv-loop μ-loop
-pairs-from-requires-2 c κs = let d = c .before .pre in (d .table .long, omega (arith, deriving-few d))
+pairs-from-requires-2 c κs = let d = c .before .pre .0 in (d .table .long, omega (arith, deriving-few d))
 
 loop-holds : tie.Need-loop-holds Inv-loop μ-loop
-loop-holds c = summing-start (c .before .before .pre) (c .pairs-from2 .ensures .0)
+loop-holds c = summing-start (c .before .before .pre .0) (c .before .before .pre .1) (c .pairs-from2 .ensures .0)
 
 add-pair-requires : tie.Need-add-pair-requires Inv-loop μ-loop
 add-pair-requires c κs =
     let l = c .before .before .before in
-    summing-asks (start l .pre) (l .loop .inv) (omega arith) (c .before .left-at .ensures .0) (c .right-at .ensures .0) (omega arith)
+    summing-asks (start l .pre .0) (start l .pre .1) (l .loop .inv) (omega arith) (c .before .left-at .ensures .0) (c .right-at .ensures .0) (omega arith)
 
 returns : tie.Need-returns Inv-loop μ-loop
 returns c =
     let s = c .before .before in
     let l = s .before .before .before .before in
-    summing-over (start l .pre) (l .loop .inv) (omega arith) (s .before .before .left-at .ensures .0) (s .before .right-at .ensures .0)
+    summing-over (start l .pre .0) (start l .pre .1) (l .loop .inv) (omega arith) (s .before .before .left-at .ensures .0) (s .before .right-at .ensures .0)
     (c .enum-told .given .1) (s .add-pair .ensures)
 
 loop-again : tie.Need-loop-again Inv-loop μ-loop
 loop-again c =
     let s = c .before .before .before in
     let l = s .before .before .before .before in
-    summing-step (start l .pre) (l .loop .inv) (omega arith) (s .before .before .left-at .ensures .0) (s .before .right-at .ensures .0)
+    summing-step (start l .pre .0) (start l .pre .1) (l .loop .inv) (omega arith) (s .before .before .left-at .ensures .0) (s .before .right-at .ensures .0)
     (c .before .s .given .1) (s .add-pair .ensures)
 
 returns-2 : tie.Need-returns-2 Inv-loop μ-loop
-returns-2 c = let l = c .before in summing-end (start l .pre) (l .loop .inv) (omega arith)
+returns-2 c = let l = c .before in summing-end (start l .pre .0) (start l .pre .1) (l .loop .inv) (omega arith)
 
 pub derive-spec : {M : Type 1} → statement M
 derive-spec =
@@ -53,13 +53,13 @@ derive-spec =
     (tie.spec
     Inv-loop
     μ-loop
-    (λ c. omega (arith, deriving-few (c .pre)))
+    (λ c. omega (arith, deriving-few (c .pre .0)))
     pairs-from-requires
     pairs-from-requires-2
     loop-holds
-    (λ c κs. let d = start (c .before) .pre in (d .table .long, omega arith))
-    (λ c κs. let d = start (c .before .before) .pre in (d .table .long, omega arith))
-    (λ c. omega (arith, start (c .before .before .before) .pre .more))
+    (λ c κs. let d = start (c .before) .pre .0 in (d .table .long, omega arith))
+    (λ c κs. let d = start (c .before .before) .pre .0 in (d .table .long, omega arith))
+    (λ c. omega (arith, start (c .before .before .before) .pre .1))
     add-pair-requires
     (λ c. search needs)
     returns

@@ -1,59 +1,58 @@
--- `fill` meets its contract. The loop's invariant: the rows below m are right, and their counts fit. A row that does not fit is the
+-- `fill` meets its contract. The loop's invariant: the rows below m have what is asked for, and it fits. A row that does not fit is the
 -- answer, for its length is at most n. The measure is the rows left. Assumes nothing.
-use mathlib.Core.Path.{_∙_}
-use Prim.Native.Nat.{_+_, _-_, _≤_}
+use mathlib.Core.Path.{refl, _∙_}
+use Prim.Native.Nat.{_+_, _-_}
 use native.Mathlib.Omega.{arith}
 use borrow.Author.Tests.{not-true, not-false}
-use Rattle.counting.proofs.Filling.{Rising, rising-begins, rising-first, rising-asks, rising-step, rising-over, rising-end}
+use Rattle.counting.proofs.Filling.{Rising, rising-start, rising-asks, rising-over, rising-step, rising-end}
 use Rattle.counting.proofs.tallies.fill.Statement.{statement}
 use Rattle.counting.proofs.tallies.fill.Tie as tie
 
 abbrev Inv-loop : tie.InvT-loop
-Inv-loop rules n totals₀ m₀ totals m = Rising rules totals₀ totals m × (2 ≤ m)
+Inv-loop rules n totals₀ needs m₀ totals m = Rising rules totals₀ totals n m
 
 abbrev μ-loop : tie.MeasureT-loop
-μ-loop rules n totals₀ m₀ totals m = n + 1 - m
+μ-loop rules n totals₀ needs m₀ totals m = n + 1 - m
 
-abbrev worded : tie.At-loop Inv-loop μ-loop → tie.After-word-row Inv-loop μ-loop
-worded c = c .before .before
-
+-- where the table is lent, and where its longest lengths are cleared
 abbrev start : tie.At-loop Inv-loop μ-loop → tie.Start Inv-loop μ-loop
-start c = worded c .before .before
+start c = c .before .before .before
+
+abbrev found : tie.At-loop Inv-loop μ-loop → tie.After-find Inv-loop μ-loop
+found c = c .before
 
 -- where a row has been filled
 abbrev at-loop : tie.After-row Inv-loop μ-loop → tie.At-loop Inv-loop μ-loop
 at-loop c = c .before .before .before
 
-word-row-requires : tie.Need-word-row-requires Inv-loop μ-loop
-word-row-requires c κs = rising-begins (c .before .pre)
-
-loop-holds : tie.Need-loop-holds Inv-loop μ-loop
-loop-holds c = (rising-first (c .before .word-row .ensures), omega arith)
+find-requires : tie.Need-find-requires Inv-loop μ-loop
+find-requires c κs = let f = c .before .pre in record { table = f .table; some = f .some; short = f .short; long = refl }
 
 row-requires : tie.Need-row-requires Inv-loop μ-loop
 row-requires c κs =
     let l = c .before .before in
-    (rising-asks (start l .pre) (worded l .word-row .ensures .kept) (l .loop .inv .0) (omega arith) (omega arith), l .loop .inv .1)
+    rising-asks (start l .pre) (l .loop .inv) (c .before .loop-test .taken) (found l .find .ensures) refl
 
 same-length : tie.Need-same-length Inv-loop μ-loop
 same-length c =
     let d = c .before .before in
     let l = at-loop d in
-    d .row .ensures .kept .long ∙ l .loop .inv .0 .kept .long ∙ worded l .word-row .ensures .kept .long
+    d .row .ensures .kept .long ∙ l .loop .inv .kept .long
 
 returns : tie.Need-returns Inv-loop μ-loop
 returns c =
     let d = c .before .before in
     let l = at-loop d in
-    rising-over (start l .pre) (worded l .word-row .ensures .kept) (l .loop .inv .0) (omega arith) (omega arith) (not-true _ (c .if1 .taken)) (d .row .ensures)
+    rising-over (start l .pre) (l .loop .inv) (d .before .before .loop-test .taken) (found l .find .ensures) refl (not-true _ (c .if1 .taken)) (d .row .ensures)
 
 loop-again : tie.Need-loop-again Inv-loop μ-loop
 loop-again c =
     let d = c .before .before in
-    (rising-step (not-false _ (c .if1 .left)) (d .row .ensures) (at-loop d .loop .inv .0), omega arith)
+    let l = at-loop d in
+    rising-step (start l .pre) (l .loop .inv) (d .before .before .loop-test .taken) (found l .find .ensures) refl (d .row .ensures .row (not-false _ (c .if1 .left)))
 
 returns-2 : tie.Need-returns-2 Inv-loop μ-loop
-returns-2 c = let l = c .before in rising-end (start l .pre) (worded l .word-row .ensures .kept) (l .loop .inv .0) (c .loop-test .left)
+returns-2 c = let l = c .before in rising-end (start l .pre) (l .loop .inv) (c .loop-test .left)
 
 pub fill-spec : {M : Type 1} → statement M
 fill-spec =
@@ -61,13 +60,15 @@ fill-spec =
     (tie.spec
     Inv-loop
     μ-loop
-    word-row-requires
-    loop-holds
+    find-requires
+    (λ c. rising-start (c .before .before .pre))
+    (λ c. omega (arith, c .loop-test .taken, start (c .before) .pre .short))
+    (λ c. omega (arith, c .loop-test .taken, start (c .before) .pre .short))
     row-requires
     same-length
     returns
     (λ c. omega arith)
     (λ c. omega arith)
     loop-again
-    (λ c. let l = c .before in l .loop .inv .0 .kept .long ∙ worded l .word-row .ensures .kept .long)
+    (λ c. let l = c .before in l .loop .inv .kept .long)
     returns-2)

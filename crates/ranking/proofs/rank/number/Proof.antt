@@ -18,7 +18,7 @@ prepared c = c .before .before .before .before
 prepare-requires : tie.Need-prepare-requires
 prepare-requires c κs =
     let p = c .before .before .before .before .pre in
-    record { rules-room = record { long = omega arith; wide = wide-made 13 256 0 }; long = omega (arith, p .counts); wide = p .wide }
+    record { rules-room = record { long = omega arith; wide = wide-made 13 256 0 }; long = omega (arith, p .counts); wide = p .wide; zeros = λ r A l. p .zeros r A }
 
 number-by-requires : tie.Need-number-by-requires
 number-by-requires c κs =

@@ -3,13 +3,14 @@
 use mathlib.Core.Path.{_∙_}
 use native.Mathlib.Omega.{arith}
 use borrow.Author.Needs.{needs}
-use Rattle.lists.proofs.Tables.{wide-made}
+use Rattle.lists.proofs.Tables.{wide-made, made-entry}
 use Rattle.ranking.proofs.Answering.{prepared-none, prepared-refused, give-unprepared, give-tabled}
 use Rattle.ranking.proofs.unrank.unrank.Statement.{statement}
 use Rattle.ranking.proofs.unrank.unrank.Tie as tie
 
 prepare-requires : tie.Need-prepare-requires
-prepare-requires c κs = record { rules-room = record { long = omega arith; wide = wide-made 4 256 0 }; long = omega arith; wide = wide-made 17 32 0 }
+prepare-requires c κs =
+    record { rules-room = record { long = omega arith; wide = wide-made 4 256 0 }; long = omega arith; wide = wide-made 17 32 0; zeros = λ r A l. made-entry 17 32 r A }
 
 -- where preparing ended, from where its answer is known
 abbrev prepared : tie.After-enum-told → tie.After-prepare

@@ -1,0 +1,113 @@
+-- Every call that did not return 10 has its former answer: an answer depends on its list of refusals by the first that applies alone, and that is the
+-- same (`former-first` in the crate `counting`).
+-- Assumes nothing.
+use mathlib.Core.Path.{_≡_, refl, ap, _∙_}
+use mathlib.Core.Logic.{_≢_}
+use mathlib.Core.Bool.{true}
+use mathlib.Core.List.{List, [], _∷_, _++_, List·Memᴰ·head, List·Memᴰ·tail, List·Memᴰ·not-nil}
+use Prim.Native.Nat.{ℕ, zero, suc, _<_}
+use native.Mathlib.Omega.{arith}
+use borrow.Author.Tests.{lt-ltb}
+use lib.Dec.{ltb, leb, eqb}
+use lib.ListN.{length, drop}
+use Rattle.lists.specs.Joined.{_∈_}
+use Rattle.lists.specs.Linked.{metFrom}
+use Rattle.lists.specs.Searched.{someBelow}
+use Rattle.lists.proofs.Tests.{below-some, to-some}
+use Rattle.answers.specs.Answer.{Row, firstThatApplies, given, refused, answerOf, answer}
+use Rattle.answers.specs.Length.{badLength}
+use Rattle.answers.proofs.Refusals.{row-applies, row-passed, rows-pass, answer-number, answer-accepted, answer-refused}
+use Rattle.grammar.specs.Chains.{pairsOf, rest, chain}
+use Rattle.grammar.specs.Refusals.{tooShort, outOfRange, wrongSize, fits, badRule, badLink, metTwice, onNoChain, someAlike, repeated, grammarRows, Accepted}
+use Rattle.grammar.specs.Trees.{sentence}
+use Rattle.counting.specs.Totals.{T}
+use Rattle.counting.specs.Refusals.{most, AllFit, tooLarge, openRows, formerTooLarge}
+use Rattle.counting.specs.Answers.{countOf}
+use Rattle.counting.proofs.Needed.{needed-some, needed-short, needed-inside}
+use Rattle.counting.proofs.OneLength.{OneLength, words-alone, power, T-power}
+use Rattle.counting.proofs.Ten.{former-first}
+use Rattle.ranking.specs.Answers.{totalOf, entryOf, readingsOf, numberOf, unrankOf, rankOf}
+use Rattle.history.specs.Refusals.{historyRows}
+use Rattle.sampling.specs.Unheard.{heardOf, leftOf, ambiguous}
+use Rattle.sampling.specs.Answers.{drawn, remainingTo, drawTo}
+use Rattle.sampling.proofs.Premises.{length-within, prepared-pass}
+use Rattle.sampling.proofs.Examples.{doubled, doubled-fits}
+use Rattle.pumpfennel.specs.Former.{formerCount, beside, FormerAnswers}
+
+-- the answer by the lines 1 to 9, then 10, then further lines
+former-answer : (g : List ℕ) (n : ℕ) (later : List Row) (figures before after : List ℕ)
+    → answer (openRows g n ++ ((formerTooLarge g n, 10) ∷ later)) figures before after .refusal ≢ 10
+    → answer (openRows g n ++ ((tooLarge g n, 10) ∷ later)) figures before after ≡ answer (openRows g n ++ ((formerTooLarge g n, 10) ∷ later)) figures before after
+former-answer g n later figures before after no-ten =
+    let former = firstThatApplies (openRows g n ++ ((formerTooLarge g n, 10) ∷ later)) in
+    ap (λ (k : ℕ). answerOf k figures before after) (former-first g n later (λ e. no-ten (answer-number former figures before after ∙ e)))
+
+-- ---- F beside F with 16 words
+
+beside-accepted : Accepted beside
+unfolding firstThatApplies tooShort outOfRange wrongSize fits badRule badLink metTwice onNoChain someAlike repeated metFrom someBelow
+beside-accepted = refl
+
+words-two : OneLength (chain beside) 1 1 2
+unfolding metFrom rest
+words-two = words-alone (chain beside) 1 refl
+
+words-sixteen : OneLength (chain beside) 3 1 16
+unfolding metFrom rest
+words-sixteen = words-alone (chain beside) 3 refl
+
+T-two : T (chain beside) 0 16 ≡ power 2 14
+unfolding metFrom rest
+T-two = doubled (chain beside) refl refl words-two 14
+
+T-sixteen : T (chain beside) 2 16 ≡ power 16 14
+unfolding metFrom rest
+T-sixteen = T-power (chain beside) 2 3 16 refl refl words-sixteen 14
+
+-- the start uses nonterminals 0 and 1 alone
+two-alone : (A : ℕ) (x : ℕ × ℕ) → A < 2 → x ∈ pairsOf (chain beside A) → (x .0 < 2) × (x .1 < 2)
+unfolding metFrom rest
+two-alone zero x h (List·Memᴰ·head e) = rw e (omega arith)
+two-alone zero x h (List·Memᴰ·tail (List·Memᴰ·head e)) = rw e (omega arith)
+two-alone (suc zero) x h i = absurd (List·Memᴰ·not-nil i)
+two-alone (suc (suc A)) x h i = absurd (omega arith)
+
+beside-fits : AllFit (chain beside) (λ p w. 1) 0 16
+unfolding metFrom rest
+beside-fits A m a =
+    doubled-fits (chain beside) refl refl words-two A m (needed-inside 2 (omega arith) two-alone a) (needed-some (omega arith) a) (needed-short a)
+
+answers-now : countOf beside 16 ≡ given (65536 ∷ []) []
+unfolding countOf
+answers-now =
+    answer-accepted (T (chain beside) 0 16 ∷ []) [] [] (prepared-pass beside 16 beside-accepted (omega arith) (omega arith) beside-fits) ∙ rw T-two
+
+-- nonterminal 2 has 16^16 derivations of 16 words
+was-too-large : formerTooLarge beside 16 ≡ true
+unfolding formerTooLarge
+was-too-large =
+    to-some (λ m. someBelow (λ A. ltb most (T (chain beside) A m)) 4) 16 16 (omega arith) (omega arith)
+    (below-some (λ A. ltb most (T (chain beside) A 16)) 4 2 (omega arith) (lt-ltb most (T (chain beside) 2 16) (omega (arith, T-sixteen))))
+
+was-refused : formerCount beside 16 ≡ refused 10 1 []
+was-refused =
+    let e : firstThatApplies (openRows beside 16 ++ ((formerTooLarge beside 16, 10) ∷ [])) ≡ 10
+    = rows-pass (grammarRows beside) ((badLength 16, 9) ∷ (formerTooLarge beside 16, 10) ∷ []) refl beside-accepted
+    ∙ row-passed 9 ((formerTooLarge beside 16, 10) ∷ []) (length-within 16 .1 (omega arith, omega arith))
+    ∙ row-applies 10 [] was-too-large in
+    rw e (answer-refused 10 (totalOf beside 16 ∷ []) [] [] (omega arith))
+
+pub former-answers : FormerAnswers
+unfolding countOf unrankOf rankOf remainingTo drawTo
+former-answers = record {
+  count = λ g n. former-answer g n [] (totalOf g n ∷ []) [] [];
+  give = λ g n d out. former-answer g n ((leb (totalOf g n) d, 16) ∷ (ltb (length out) n, 20) ∷ []) (totalOf g n ∷ []) out (entryOf g n d ++ drop n out);
+  number = λ g s.
+      former-answer g (length s) ((eqb (readingsOf g s) 0, 17) ∷ (leb 2 (readingsOf g s), 18) ∷ []) (numberOf g s ∷ totalOf g (length s) ∷ []) [] [];
+  left = λ g h a.
+      former-answer g (a .length) (historyRows h ++ ((ambiguous g h a, 15) ∷ [])) (totalOf g (a .length) ∷ heardOf g h a ∷ leftOf g h a ∷ []) [] [];
+  draw = λ g h a q out.
+      former-answer g (a .length) (historyRows h ++ ((ambiguous g h a, 15) ∷ (leb (leftOf g h a) q, 16) ∷ (ltb (length out) (a .length), 20) ∷ []))
+      (leftOf g h a ∷ drawn g h a q .number ∷ []) out (sentence (drawn g h a q .tree) ++ drop (a .length) out);
+  wider = (was-refused, answers-now);
+}
