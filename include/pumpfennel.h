@@ -26,8 +26,10 @@
 
 /* version: from VERSION, by tools/generate */
 /* The version, as text and as one number: major * 10,000 + minor * 100 + patch. */
-#define PUMPFENNEL_VERSION "0.2.0"
-#define PUMPFENNEL_VERSION_NUMBER 200
+#define PUMPFENNEL_VERSION "0.3.0"
+#define PUMPFENNEL_VERSION_NUMBER 300
+/* A name that the archive has for this interface alone: it changes with major and minor. */
+#define PUMPFENNEL_INTERFACE pumpfennel_interface_0_3
 /* end of version */
 
 /* The most words of a sentence, and the most bytes of a grammar: 32 nonterminals and 255 rules. */
@@ -85,7 +87,7 @@ enum pumpfennel_refusal {
     PUMPFENNEL_NUMBER_BEYOND = 16,
     /* The sentence has no derivation. */
     PUMPFENNEL_SENTENCE_UNDERIVABLE = 17,
-    /* The sentence has two or more derivations. */
+    /* No longer returned: the sentence has two or more derivations. */
     PUMPFENNEL_SENTENCE_AMBIGUOUS = 18,
     /* The history has 1,000 records or no room for one more. */
     PUMPFENNEL_HISTORY_FULL = 19,
@@ -147,6 +149,24 @@ static inline const char *pumpfennel_refusal_text(uint8_t refusal) {
 /* The archive's version as one number, to be held against the header's PUMPFENNEL_VERSION_NUMBER. */
 uint64_t pumpfennel_version(void);
 
+/*
+ * The same again. With gcc and clang every object that includes this header names it, so that with the archive of another
+ * interface, whose calls may take other parameters, it doesn't link. Where a compiler has no `retain` (gcc before 11),
+ * a linker that drops unreferenced data drops the name too; pumpfennel_version tells the version in any case.
+ */
+uint64_t PUMPFENNEL_INTERFACE(void);
+#ifdef __has_attribute
+#if __has_attribute(retain)
+#define PUMPFENNEL_KEPT __attribute__((used, retain))
+#endif
+#endif
+#if defined(__GNUC__) && !defined(PUMPFENNEL_KEPT)
+#define PUMPFENNEL_KEPT __attribute__((used))
+#endif
+#ifdef PUMPFENNEL_KEPT
+PUMPFENNEL_KEPT static uint64_t (*const pumpfennel_interface)(void) = PUMPFENNEL_INTERFACE;
+#endif
+
 /* Check bank: gives how many nonterminals and words the grammar has. Refusals 1 to 8. */
 uint8_t pumpfennel_check_grammar(const uint8_t *grammar, size_t grammar_len, uint64_t *nonterminals, uint64_t *words);
 
@@ -169,9 +189,12 @@ uint8_t pumpfennel_count(const uint8_t *grammar, size_t grammar_len, uint64_t le
 uint8_t pumpfennel_unrank(const uint8_t *grammar, size_t grammar_len, uint64_t length, uint64_t number,
                           uint8_t *sentence, size_t sentence_len, uint64_t *total);
 
-/* Number: gives the sentence's derivation number, and the total of its length. Refusals 1 to 10, 17, 18. */
+/*
+ * Number: gives the lowest derivation number among the sentence's derivations, the total of its length, and how many
+ * derivations the sentence has. Refusals 1 to 10, 17.
+ */
 uint8_t pumpfennel_rank(const uint8_t *grammar, size_t grammar_len, const uint8_t *sentence, size_t sentence_len,
-                        uint64_t *number, uint64_t *total);
+                        uint64_t *number, uint64_t *total, uint64_t *derivations);
 
 /*
  * Left: gives the total, how many different sentences of that length with one derivation were heard, and how many

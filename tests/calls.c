@@ -51,7 +51,7 @@ static void *make_call(void *unused) {
     case 1: figure_count = 1, answer = pumpfennel_check_history(a.at, a.size, f); break;
     case 2: figure_count = 1, answer = pumpfennel_count(a.at, a.size, m, f); break;
     case 3: figure_count = 1, answer = pumpfennel_unrank(a.at, a.size, m, n, b.at, b.size, f); break;
-    case 4: figure_count = 2, answer = pumpfennel_rank(a.at, a.size, b.at, b.size, f, g); break;
+    case 4: figure_count = 3, answer = pumpfennel_rank(a.at, a.size, b.at, b.size, f, g, h); break;
     case 5: figure_count = 3, answer = pumpfennel_remaining(a.at, a.size, b.at, b.size, m, f, g, h); break;
     case 6: figure_count = 2, answer = pumpfennel_draw(a.at, a.size, b.at, b.size, m, n, c.at, c.size, f, g); break;
     case 7: figure_count = 1, answer = pumpfennel_append(a.at, a.size, b.at, b.size, f); break;

@@ -161,6 +161,41 @@ def reaching():
     }
 
 
+def ambiguous():
+    """Grammars with sentences of two or more derivations, by name, each with sentences and what Number gives of them: the lowest number, T
+    and how many derivations (document 02, U6). The figures are worked out by hand."""
+    s, a, b, c, none = range(5)
+    return {
+        # T is 2, 4, 16, 80 for one to four words. 1 1 1: left 1 of 2 and right 3 of 4 give 7, left 3 of 4 and right 1 of 2 give 8 + 7.
+        # 1 0 1 1: left 1 of 2, right 0 1 1, which has 3 and 9 of 16, gives 19
+        'every tree': (grammar(2, s, [[pair(s, s), word(0), word(1)]]), {
+            bytes([1]): (1, 2, 1), bytes([1, 1]): (3, 4, 1), bytes(3): (0, 16, 2), bytes([1, 1, 1]): (7, 16, 2), bytes([1, 0, 1, 1]): (19, 80, 5),
+            bytes(16): (0, 9694845 * 2**16, 9694845)}),
+        # an ambiguous run of 0 between two words: 2 * (2 * 2) derivations of five words
+        'a part inside': (grammar(3, s, [[pair(a, b)], [word(1), word(2)], [pair(c, a)], [pair(c, c), word(0)]]), {
+            bytes([1, 0, 0, 0, 1]): (0, 8, 2), bytes([1, 0, 0, 0, 2]): (1, 8, 2), bytes([2, 0, 0, 0, 1]): (4, 8, 2), bytes([2, 0, 0, 0, 2]): (5, 8, 2),
+            bytes([2, 0, 0, 0, 0, 1]): (10, 20, 5), bytes([2, 0, 1]): (2, 4, 1)}),
+        # the chain has (a b) before (b b), the rules' numbers the other way round: 0 0 is 1 of the first two, and of the last one 2
+        'by the chain': (grammar(2, s, [[pair(a, b), pair(b, b)], [word(1), word(0)], [word(0)]], [5, 1, 3, 2, 4]), {
+            bytes([0, 0]): (1, 3, 2), bytes([1, 0]): (0, 3, 1)}),
+        # the left half has one word or two, the right half two or one: 1 of the first two, and 2
+        'by the left length': (grammar(2, s, [[pair(a, b)], [word(1), word(0), pair(c, c)], [word(0), pair(c, c)], [word(0)]]), {
+            bytes(3): (1, 3, 2), bytes([1, 0, 0]): (0, 3, 1)}),
+        # a half has 6 derivations, three of them of 0 0 (0, 1 and 5), and 1 1 is 4
+        'both halves': (grammar(2, s, [[pair(a, a)], [pair(b, b), pair(c, c), pair(b, none)], [word(0)], [word(0), word(1)], [word(0)]]), {
+            bytes(4): (0, 36, 9), bytes([1, 1, 0, 0]): (24, 36, 3), bytes([0, 0, 1, 1]): (4, 36, 3), bytes([1, 1, 1, 1]): (28, 36, 1)}),
+        # (a none) derives nothing; 0 0 is 0 by (a a) and 1 + 3 by (b b)
+        'beside nothing': (grammar(2, s, [[pair(a, none), pair(a, a), pair(b, b)], [word(0)], [word(1), word(0)], [], []]), {
+            bytes([0, 0]): (0, 5, 2), bytes([1, 1]): (1, 5, 1)}),
+        # a sentence that the first rule doesn't derive, and the second and the third do: 4 + 0 and 4 + 2 * 1
+        'from the second rule on': (grammar(3, s, [[pair(a, a), pair(b, c), pair(c, b)], [word(0), word(1)], [word(2), word(0)], [word(2)]]), {
+            bytes([2, 2]): (4, 8, 2), bytes([0, 0]): (0, 8, 1), bytes([0, 2]): (5, 8, 1), bytes([2, 0]): (7, 8, 1)}),
+        # one sentence of each length has all derivations: 6^(m - 1) times as many as there are trees, with 16 words a quarter of 2^64
+        'one word': (grammar(1, s, 3 * [[pair(s, a), pair(a, s), pair(b, a), pair(s, b), pair(b, b), pair(a, b), word(0)]]), {
+            bytes(1): (0, 1, 1), bytes(2): (0, 6, 6), bytes(3): (0, 72, 72), bytes(16): (0, 6**15 * 9694845, 6**15 * 9694845)}),
+    }
+
+
 def random_heavy(rng):
     """An accepted grammar with few nonterminals, one of them with very many words, so that its counts soon pass 2^64 - 1."""
     n, w = 2 + rng.below(6), rng.choice([16, 40, 200])

@@ -1,5 +1,5 @@
 #!/usr/bin/env python3
-"""Brute-force answers to every call of document 01, with the requests of document 02 that have landed (U2), for the tests.
+"""Brute-force answers to every call of document 01, with the requests of document 02 that have landed (U2, U6), for the tests.
 
 Written from the documents alone: the headings below are sections of document 01, and each definition cites its
 sentence. Derivations are enumerated one by one as trees, in the document's order. Where that list
@@ -13,7 +13,7 @@ Log. Every call returns (refusal, figures.., buffer after), where refusal 0 mean
   oracle.py check_history HISTORY             K
   oracle.py count GRAMMAR LENGTH              T
   oracle.py unrank GRAMMAR LENGTH NUMBER      T, then the buffer
-  oracle.py rank GRAMMAR WORD..               number T
+  oracle.py rank GRAMMAR WORD..               number T derivations
   oracle.py remaining GRAMMAR HISTORY LENGTH  T heard left
   oracle.py draw GRAMMAR HISTORY LENGTH Q     left number, then the buffer
   oracle.py append HISTORY WORD..             K, then the buffer
@@ -235,9 +235,8 @@ class Listed:
         return len(self.places.get(sentence, []))
 
     def number(self, sentence):
-        """The derivation number of a sentence with one derivation."""
-        [d] = self.places[sentence]
-        return d
+        """Document 02, U6: "the lowest derivation number among them"."""
+        return min(self.places[sentence])
 
     @memo
     def unheard(self, heard):
@@ -289,12 +288,13 @@ class Counted:
                    for _, b, c, k in self.grammar.splits(a, len(words)))
 
     def rank(self, a, words):
+        """The lowest number: the first split that has derivations, then of each half the lowest."""
         if len(words) == 1:
             return [word for _, word in self.grammar.words(a)].index(words[0])
         before = 0
         for _, b, c, k in self.grammar.splits(a, len(words)):
             rights = self.grammar.total(c, len(words) - k)
-            if self.count_from(b, words[:k]) * self.count_from(c, words[k:]) == 1:
+            if self.count_from(b, words[:k]) and self.count_from(c, words[k:]):
                 return before + self.rank(b, words[:k]) * rights + self.rank(c, words[k:])
             before += self.grammar.total(b, k) * rights
         raise ValueError(words)
@@ -409,9 +409,8 @@ def unrank_lines(grammar, length, number, buffer):
 
 
 def rank_lines(grammar, sentence):
-    count = full_list(grammar, len(sentence)).count(sentence)
-    yield 17, count == 0
-    yield 18, count >= 2
+    """Document 02, U6: "Refusal 18 never occurs"."""
+    yield 17, full_list(grammar, len(sentence)).count(sentence) == 0
 
 
 def draw_lines(grammar, history, length, q, buffer):
@@ -459,12 +458,13 @@ def unrank(grammar, length, number, buffer):
 
 
 def rank(grammar, sentence):
-    """Number: the sentence's derivation number and T."""
+    """Document 02, U6: "Beside T, Number now gives how many derivations the sentence has and the lowest derivation
+    number among them"."""
     refusal = first_that_applies(count_lines(grammar, len(sentence)), rank_lines(grammar, sentence))
     if refusal:
-        return refusal, 0, 0
+        return refusal, 0, 0, 0
     full = full_list(grammar, len(sentence))
-    return 0, full.number(sentence), full.total
+    return 0, full.number(sentence), full.total, full.count(sentence)
 
 
 def remaining(grammar, history, length):

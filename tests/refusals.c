@@ -71,8 +71,9 @@ int main(void) {
         {PUMPFENNEL_HEARD_AMBIGUOUS, pumpfennel_remaining(TREES, RECORD(1, 0, 3), 3, &f, &g, &h), "heard sentence"},
         /* there is derivation 0, and no derivation 1 */
         {PUMPFENNEL_NUMBER_BEYOND, pumpfennel_unrank(ONE, 1, 1, sentence, 1, &f), "to choose from"},
-        {PUMPFENNEL_SENTENCE_UNDERIVABLE, pumpfennel_rank(ONE, BYTES(1), &f, &g), "no derivation"},
-        {PUMPFENNEL_SENTENCE_AMBIGUOUS, pumpfennel_rank(TREES, BYTES(0, 0, 0), &f, &g), "the sentence has two"},
+        {PUMPFENNEL_SENTENCE_UNDERIVABLE, pumpfennel_rank(ONE, BYTES(1), &f, &g, &h), "no derivation"},
+        /* no longer returned: the sentence is accepted */
+        {PUMPFENNEL_SENTENCE_AMBIGUOUS, pumpfennel_rank(TREES, BYTES(0, 0, 0), &f, &g, &h), "the sentence has two"},
         /* no record, and no room for one */
         {PUMPFENNEL_HISTORY_FULL, pumpfennel_append(history, 4, BYTES(0), &f), "no room"},
         /* one word, and room for none */
@@ -82,8 +83,9 @@ int main(void) {
     int wrong = 0;
     for (int i = 0; i < count; i++) {
         printf("%d\n", rows[i].name);
-        if (rows[i].given != rows[i].name && ++wrong)
-            fprintf(stderr, "refusals: %d in place of %d\n", rows[i].given, rows[i].name);
+        int expected = rows[i].name == PUMPFENNEL_SENTENCE_AMBIGUOUS ? PUMPFENNEL_ACCEPTED : rows[i].name;
+        if (rows[i].given != expected && ++wrong)
+            fprintf(stderr, "refusals: %d in place of %d\n", rows[i].given, expected);
         for (int number = 0; number < 256; number++) {
             int found = strstr(pumpfennel_refusal_text((uint8_t)number), rows[i].words) != NULL;
             if (found != (number == rows[i].name) && ++wrong)

@@ -88,7 +88,7 @@ def ranking_lines(library, data):
             line = library.call('unrank', (*shared(grammar), ctypes.c_uint64(length), ctypes.c_uint64(rank), *buffer.arguments()), 1)
             yield line + shown(buffer)
         else:
-            yield library.call('rank', (*shared(grammar), *shared(rest)), 2)
+            yield library.call('rank', (*shared(grammar), *shared(rest)), 3)
 
 
 def history_lines(library, data):

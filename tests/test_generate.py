@@ -12,7 +12,7 @@ CARGO = ['bindings/rust/Cargo.toml', 'bindings/rust/Cargo.lock']
 CRATES = ['crates/answers/src/refusal.rt', 'crates/answers/specs/Inner/Refusals.antt',
           'crates/answers/proofs/refusal/number/Proof.antt', 'crates/answers/proofs/Numbers.antt',
           'crates/listing/src/meanings.rt']
-VERSIONED = ['crates/pumpfennel/src/version.rt']
+VERSIONED = ['crates/pumpfennel/src/version.rt', 'bindings/rust/src/ffi.rs']
 EVERY = MARKED + CARGO + CRATES + VERSIONED
 
 
@@ -21,7 +21,7 @@ class Generate(unittest.TestCase):
         holder = tempfile.TemporaryDirectory()
         self.addCleanup(holder.cleanup)
         self.folder = pathlib.Path(holder.name)
-        for name in ['tools/generate', 'refusals.txt', 'VERSION', *MARKED, *CARGO]:
+        for name in ['tools/generate', 'refusals.txt', 'VERSION', *MARKED, *CARGO, *VERSIONED]:
             (self.folder / name).parent.mkdir(parents=True, exist_ok=True)
             shutil.copy(ROOT / name, self.folder / name)
         self.assertEqual(self.run_tool()[0], 0)
@@ -78,20 +78,47 @@ class Generate(unittest.TestCase):
                 'crates/answers/specs/Inner/Refusals.antt': [
                     ', PatternBadWord}\n', '-- a letter is W or more\nrefusalNumber PatternBadWord = 21\n'],
                 'crates/answers/proofs/Numbers.antt': [', PatternBadWord}\n', 'number-some PatternBadWord = lit< tt\n'],
-                'crates/answers/proofs/refusal/number/Proof.antt': ['    (λ c. rw (c .enum-told21 .given .1)))\n'],
+                'crates/answers/proofs/refusal/number/Proof.antt': ['    (λ c. rw (c .enum-told20 .given .1)))\n'],
                 'crates/listing/src/meanings.rt': [
                     '        Refusal::PatternBadWord => say(b"listing: refused: a letter is W or more\\n"),\n    }']}.items():
             for line in lines:
                 self.assertIn(line, self.read(name), name)
 
+    def test_what_is_no_longer_returned_stays_for_callers_alone(self):
+        """Nothing of it is in the crates; the others keep their numbers."""
+        self.write('refusals.txt', self.read('refusals.txt').replace('7 GrammarRuleOnNoChain:', '7 GrammarRuleOnNoChain, no longer returned:'))
+        self.check_differ(MARKED + CRATES)
+        for name, lines in {
+                'include/pumpfennel.h': [
+                    '    /* No longer returned: a rule is on no chain. */\n    PUMPFENNEL_GRAMMAR_RULE_ON_NO_CHAIN = 7,\n',
+                    '    case PUMPFENNEL_GRAMMAR_RULE_ON_NO_CHAIN:\n        return "a rule is on no chain";\n'],
+                'bindings/rust/src/refusal.rs': [
+                    '    /// No longer returned: a rule is on no chain.\n    GrammarRuleOnNoChain = 7,\n', 'ALL: [Refusal; 20] = [\n'],
+                'README.md': ['| 7 | `GrammarRuleOnNoChain` | no longer returned: a rule is on no chain |\n'],
+                'crates/answers/src/refusal.rt': ['    GrammarRuleMetTwice,\n    GrammarEqualRules,\n', 'Refusal::GrammarEqualRules => 8,\n']}.items():
+            for line in lines:
+                self.assertIn(line, self.read(name), name)
+        for name in CRATES:
+            self.assertNotIn('OnNoChain', self.read(name), name)
+            self.assertNotIn('SentenceAmbiguous', self.read(name), name)
+
     def test_a_new_version_comes_to_every_language(self):
         self.write('VERSION', '1.20.3\n')
         self.check_differ(['include/pumpfennel.h', *CARGO, *VERSIONED])
         self.assertIn('VERSION "1.20.3"\n#define PUMPFENNEL_VERSION_NUMBER 12003\n', self.read('include/pumpfennel.h'))
+        self.assertIn('#define PUMPFENNEL_INTERFACE pumpfennel_interface_1_20\n', self.read('include/pumpfennel.h'))
         for name in CARGO:
             self.assertIn('name = "pumpfennel"\nversion = "1.20.3"\n', self.read(name))
-        self.assertIn('r ≡ 12003 ', self.read(VERSIONED[0]))
-        self.assertIn('    12003\n', self.read(VERSIONED[0]))
+        self.assertEqual(self.read(VERSIONED[0]).count('r ≡ 12003 '), 2)
+        self.assertEqual(self.read(VERSIONED[0]).count('    12003\n'), 2)
+        self.assertIn('fn pumpfennel_interface_1_20() -> u64\n', self.read(VERSIONED[0]))
+        self.assertIn('    #[link_name = "pumpfennel_interface_1_20"]\n', self.read(VERSIONED[1]))
+
+    def test_a_patch_keeps_the_interface(self):
+        major, minor, patch = self.read('VERSION').split('.')
+        self.write('VERSION', f'{major}.{minor}.{int(patch) + 1}\n')
+        self.check_differ(['include/pumpfennel.h', *CARGO, VERSIONED[0]])
+        self.assertIn(f'#define PUMPFENNEL_INTERFACE pumpfennel_interface_{major}_{minor}\n', self.read('include/pumpfennel.h'))
 
     def test_what_is_altered_by_hand_is_noticed(self):
         for name, old, new in [('include/pumpfennel.h', 'BAD_LINK = 5', 'BAD_LINK = 6'),
@@ -123,7 +150,7 @@ class Generate(unittest.TestCase):
     def test_wrong_lists(self):
         good = self.read('refusals.txt')
         for line in ['21', '21 Name', '21 Name words', '21 name: words', '21 Two Names: words', '21 Name: ',
-                     '21 Name: words.', '21 Name: a "word"', '21 Name: a | b', '21 Name: a */ b', '21 Name: a \\ b', '21 Name: naïve']:
+                     '21 Name, no longer: words', '21 Name: words.', '21 Name: a "word"', '21 Name: a | b', '21 Name: a */ b', '21 Name: a \\ b', '21 Name: naïve']:
             with self.subTest(line):
                 self.write('refusals.txt', good + line + '\n')
                 self.check_refused('is not a number, a name, a colon and plain words')
@@ -147,7 +174,7 @@ class Generate(unittest.TestCase):
                 self.write(name, text)
                 self.check_refused(f'{name}: the marks for refusals stand there {said}')
             self.write(name, good)
-        self.write(CARGO[0], '[package]\nversion = "0.2.0"\n')
+        self.write(CARGO[0], '[package]\nversion = "0.3.0"\n')
         self.check_refused(f'{CARGO[0]}: the crate\'s name')
 
     def test_wrong_commands(self):

@@ -1,4 +1,4 @@
-"""Tests of what C sees: the header, every call of the archive against the brute-force program, and the example session.
+"""Tests of what C sees: the header, every call of the archive against the brute-force program, and the two example programs.
 
 They need target/staticlib/libpumpfennel.a, which rt staticlib pumpfennel writes, and compilers for C and C++: cc and c++,
 or what CC and CXX name.
@@ -15,7 +15,7 @@ import unittest
 import listings
 import oracle
 import vectors
-from generate import Rng, brimful, damaged, grammar, history, pair, random_damage, reaching, word
+from generate import Rng, ambiguous, brimful, damaged, grammar, history, pair, random_damage, reaching, word
 from oracle import F, G
 
 ROOT = pathlib.Path(__file__).resolve().parent.parent
@@ -106,6 +106,22 @@ class Header(unittest.TestCase):
         cargo = (ROOT / 'bindings' / 'rust' / 'Cargo.toml').read_text()
         self.assertEqual(re.findall('^version = "(.*)"$', cargo, re.M), [version])
 
+    def test_an_object_of_another_interface_does_not_link(self):
+        """The linker says which name is missing, although every call that is made is there; also where it drops unreferenced data."""
+        text = HEADER.read_text()
+        name = re.search(r'^#define PUMPFENNEL_INTERFACE (\w+)$', text, re.M)[1]
+        self.assertEqual(name, 'pumpfennel_interface_' + '_'.join((ROOT / 'VERSION').read_text().split('.')[:2]))
+        with tempfile.TemporaryDirectory() as folder:
+            source, program = pathlib.Path(folder, 'caller.c'), pathlib.Path(folder, 'caller')
+            source.write_text('#include "pumpfennel.h"\nint main(void) {\n    uint64_t total;\n'
+                              '    return pumpfennel_count(NULL, 0, 1, &total) != PUMPFENNEL_GRAMMAR_TOO_SHORT;\n}\n')
+            for header, missing in [(text, False), (text.replace(name, 'pumpfennel_interface_0_2'), True)]:
+                pathlib.Path(folder, 'pumpfennel.h').write_text(header)
+                for dropping in ([], ['-ffunction-sections', '-fdata-sections', '-Wl,--gc-sections']):
+                    ran = run(*compiler('CC', 'cc'), '-O2', *STRICT, *dropping, source, ARCHIVE, '-o', program)
+                    self.assertEqual((ran.returncode != 0, b'pumpfennel_interface_0_2' in ran.stderr), (missing, missing), dropping)
+                    self.assertTrue(missing or run(program).returncode == 0)
+
     def test_the_limits(self):
         """They are the largest that the brute-force program accepts; Calls holds the archive to the same."""
         self.assertEqual([oracle.count(F, limit('LONGEST_SENTENCE') + more)[0] for more in (0, 1)], [0, 9])
@@ -118,8 +134,9 @@ class Header(unittest.TestCase):
     def test_the_calls_are_the_archives(self):
         declared = re.findall(r'^uint\d+_t (pumpfennel_\w+)\(', HEADER.read_text(), re.M)
         self.assertEqual(declared, ['pumpfennel_' + call for call in ['version', *CALLS]])
+        interface = re.search(r'^#define PUMPFENNEL_INTERFACE (\w+)$', HEADER.read_text(), re.M)[1]
         names = run('nm', '--extern-only', '--defined-only', ARCHIVE).stdout.decode()
-        self.assertEqual(sorted(re.findall(r' [A-Z] (\S+)$', names, re.M)), sorted(declared))
+        self.assertEqual(sorted(re.findall(r' [A-Z] (\S+)$', names, re.M)), sorted([*declared, interface]))
 
     def test_the_archive_keeps_nothing(self):
         """It has no memory of its own that can be written, and takes nothing from the C library but functions on bytes."""
@@ -215,6 +232,10 @@ def all_cases():
     for bank in deep_banks():
         for length in (5, 6, 15, 16):
             yield from cases_of(length, bank, history([bytes(length), b'\1' * length]))
+    for bank, sentences in ambiguous().values():
+        for sentence in sentences:
+            yield from cases_of(len(sentence), bank, history([sentence]))
+            yield 'rank', bank, sentence
     for bank, _ in reaching().values():
         for length in (3, 8, 9, 10):
             yield from cases_of(length, bank, history([bytes(length)]))
@@ -263,7 +284,7 @@ class Calls(unittest.TestCase):
         bank, diary = set(range(9)), {0, 11, 12, 13, 14}
         self.assertEqual(met, {
             'check_grammar': bank, 'check_history': diary, 'count': bank | {9, 10}, 'unrank': bank | {9, 10, 16, 20},
-            'rank': bank | {9, 10, 17, 18}, 'remaining': bank | diary | {9, 10, 15},
+            'rank': bank | {9, 10, 17}, 'remaining': bank | diary | {9, 10, 15},
             'draw': bank | diary | {9, 10, 15, 16, 20}, 'append': diary | {9, 19}})
 
     def test_null_with_length_0(self):
@@ -282,6 +303,46 @@ class Calls(unittest.TestCase):
         for most, taken in [(limit('LARGE_STACK'), large), (limit('SMALL_STACK'), used)]:
             self.assertLess(max(taken.values()), most, taken)
             self.assertGreater(max(taken.values()), most // 2, taken)
+
+
+# ---- The readings
+
+class Readings(unittest.TestCase):
+    """examples/readings.c lists the sentences that have two or more derivations."""
+
+    @classmethod
+    def setUpClass(cls):
+        cls.program = linked(cls, ROOT / 'examples' / 'readings.c', 'c99')
+
+    def readings(self, bank, *args):
+        ran = run(self.program, *args, given=bank)
+        return ran.returncode, ran.stdout.decode(), ran.stderr.decode()
+
+    def test_every_such_sentence(self):
+        met = set()
+        for bank in [F, G, oracle.matrix(), *(bank for bank, _ in ambiguous().values())]:
+            for length in range(1, 6):
+                full = oracle.full_list(bank, length)
+                several = [s for s in sorted(full.places, key=full.number) if full.count(s) >= 2]
+                lines = [f'{full.number(s)} {full.count(s)}: {" ".join(map(str, s))}\n' for s in several]
+                self.assertEqual(self.readings(bank, str(length)), (1 if lines else 0, ''.join(lines), ''))
+                met.add(bool(lines))
+        self.assertEqual(met, {False, True})
+
+    def test_readme(self):
+        text = (ROOT / 'README.md').read_text()
+        shown = re.search(r'to-bytes trees\.txt \| \./readings (\d+)\n((?:    .*\n)+)', text)
+        bank = grammar(2, 0, [[pair(0, 0), word(0), word(1)]])
+        self.assertEqual(self.readings(bank, shown[1]), (1, shown[2].replace('    ', ''), ''))
+        self.assertIn('    words 2\n    start 0\n    0 -> (0 0) | 0 | 1\n', text)
+
+    def test_errors(self):
+        for bank, length, refusal in [(F, '17', 9), (F, 'words', None), (F[:-1], '2', 3), (b'', '2', 1), (bytes(2000), '2', 2)]:
+            status, output, errors = self.readings(bank, length)
+            said = r'readings: refused %d: .+\n' % refusal if refusal else r'usage: .+\n'
+            self.assertEqual((status, output), (2, ''))
+            self.assertRegex(errors, f'^{said}$')
+        self.assertEqual(self.readings(F)[0], 2)
 
 
 # ---- The session
@@ -328,7 +389,7 @@ class Session(unittest.TestCase):
             _, total, _, left = oracle.remaining(bank, before, length)
             q = below(left, source)
             self.assertEqual(oracle.draw(bank, before, length, q, bytes(length)), (0, left, number, sentence))
-            self.assertEqual(oracle.rank(bank, sentence), (0, number, total))
+            self.assertEqual(oracle.rank(bank, sentence), (0, number, total, 1))
             self.assertNotIn(sentence, oracle.sentences_of(before))
             records = oracle.two_bytes(before, 0)
             refusal, now, after = oracle.append(before[:4 + 20 * records] + bytes(20), sentence)

@@ -30,7 +30,7 @@ class Examples(unittest.TestCase):
         self.assertEqual(oracle.unrank(F, 3, 8, b'\7\7\7\7'), (16, 0, b'\7\7\7\7'))
 
     def test_p6_rank(self):
-        self.assertEqual(oracle.rank(F, bytes([1, 0, 1])), (0, 5, 8))
+        self.assertEqual(oracle.rank(F, bytes([1, 0, 1])), (0, 5, 8, 1))
 
     def test_p7_listing(self):
         self.assertEqual(HEARD_01, bytes([1, 0, 1, 0, 0, 0, 2, 0, 0, 1] + [0] * 14))
@@ -42,7 +42,7 @@ class Examples(unittest.TestCase):
     def test_p9_p10_ambiguous_grammar(self):
         self.assertEqual(oracle.count(G, 3), (0, 2))
         self.assertEqual(oracle.count(G, 4), (0, 5))
-        self.assertEqual(oracle.rank(G, bytes(3)), (18, 0, 0))
+        self.assertEqual(oracle.rank(G, bytes(3)), (0, 0, 2, 2))
 
     def test_f_with_15_and_16_words(self):
         self.assertEqual(oracle.f_words(2), F)
@@ -53,7 +53,7 @@ class Examples(unittest.TestCase):
     def test_long_sentences_by_counts(self):
         grammar, last = oracle.f_words(15), 15**16 - 1
         self.assertEqual(oracle.unrank(grammar, 16, last, bytes(16)), (0, last + 1, bytes([14] * 16)))
-        self.assertEqual(oracle.rank(grammar, bytes(15) + b'\1'), (0, 1, last + 1))
+        self.assertEqual(oracle.rank(grammar, bytes(15) + b'\1'), (0, 1, last + 1, 1))
         heard = history([bytes(16), bytes([14] * 16)])
         self.assertEqual(oracle.draw(grammar, heard, 16, last - 2, bytes(16)), (0, last - 1, last - 1, bytes([14] * 15 + [13])))
 
@@ -63,7 +63,7 @@ class Examples(unittest.TestCase):
         self.assertEqual(oracle.check_grammar(matrix), (0, 9, 50))
         self.assertEqual([oracle.count(matrix, m)[1] for m in range(1, 17)], [0] * 4 + [100000] + [0] * 11)
         self.assertEqual(oracle.unrank(matrix, 5, 31415, bytes(5)), (0, 100000, bytes([3, 11, 24, 31, 45])))
-        self.assertEqual(oracle.rank(matrix, bytes([3, 11, 24, 31, 45])), (0, 31415, 100000))
+        self.assertEqual(oracle.rank(matrix, bytes([3, 11, 24, 31, 45])), (0, 31415, 100000, 1))
 
     def test_head_without_record_and_record_without_head(self):
         self.assertEqual(oracle.check_history(bytes([0, 0, 1, 0])), (13, 0))
@@ -91,7 +91,7 @@ class Examples(unittest.TestCase):
         chains = [[pair(1, 3), pair(3, 1)], [pair(2, 2), pair(1, 2)], [word(i) for i in range(15)], []]
         grammar = generate.grammar(15, 0, chains)
         self.assertEqual(oracle.count(grammar, 16), (0, 0))
-        self.assertEqual(oracle.rank(grammar, bytes(16)), (17, 0, 0))
+        self.assertEqual(oracle.rank(grammar, bytes(16)), (17, 0, 0, 0))
 
 
 class Refusals(unittest.TestCase):
@@ -102,7 +102,7 @@ class Refusals(unittest.TestCase):
             self.assertEqual(oracle.check_grammar(bad), (refusal, 0, 0))
             self.assertEqual(oracle.count(bad, 0), (refusal, 0))
             self.assertEqual(oracle.unrank(bad, 17, 0, b''), (refusal, 0, b''))
-            self.assertEqual(oracle.rank(bad, b''), (refusal, 0, 0))
+            self.assertEqual(oracle.rank(bad, b''), (refusal, 0, 0, 0))
             self.assertEqual(oracle.remaining(bad, b'', 0), (refusal, 0, 0, 0))
             self.assertEqual(oracle.draw(bad, b'', 0, 0, b'\7'), (refusal, 0, 0, b'\7'))
 
@@ -112,15 +112,15 @@ class Refusals(unittest.TestCase):
             self.assertEqual(oracle.unrank(F, length, PAST, b''), (9, 0, b''))
             self.assertEqual(oracle.remaining(F, b'', length), (9, 0, 0, 0))
             self.assertEqual(oracle.draw(F, b'', length, PAST, b''), (9, 0, 0, b''))
-        self.assertEqual(oracle.rank(F, b''), (9, 0, 0))
-        self.assertEqual(oracle.rank(F, bytes(17)), (9, 0, 0))
+        self.assertEqual(oracle.rank(F, b''), (9, 0, 0, 0))
+        self.assertEqual(oracle.rank(F, bytes(17)), (9, 0, 0, 0))
 
     def test_totals_up_to_64_bits(self):
         full = generate.brimful()
         self.assertEqual(oracle.count(full, 16), (0, PAST))
         self.assertEqual(oracle.unrank(full, 16, PAST, bytes(16)), (16, 0, bytes(16)))
         refusal, total, last = oracle.unrank(full, 16, PAST - 1, bytes(16))
-        self.assertEqual((refusal, total, oracle.rank(full, last)), (0, PAST, (0, PAST - 1, PAST)))
+        self.assertEqual((refusal, total, oracle.rank(full, last)), (0, PAST, (0, PAST - 1, PAST, 1)))
         self.assertEqual(oracle.count(generate.brimful(1), 16), (10, 0))
         self.assertEqual(oracle.count(generate.brimful(1), 15), (0, 0))
 
@@ -139,7 +139,7 @@ class Refusals(unittest.TestCase):
         grammar, _ = generate.reaching()['the start']
         self.assertEqual(oracle.count(grammar, 9), (0, 1))
         self.assertEqual(oracle.unrank(grammar, 9, 0, bytes(9)), (0, 1, bytes(9)))
-        self.assertEqual(oracle.rank(grammar, bytes(9)), (0, 0, 1))
+        self.assertEqual(oracle.rank(grammar, bytes(9)), (0, 0, 1, 1))
         self.assertEqual(oracle.remaining(grammar, history([bytes(9)]), 9), (0, 1, 1, 0))
         self.assertEqual(oracle.draw(grammar, EMPTY, 9, 0, bytes(9)), (0, 1, 0, bytes(9)))
 
@@ -160,9 +160,31 @@ class Refusals(unittest.TestCase):
         self.assertEqual(oracle.draw(F, HEARD_01, 2, 2, b'\7'), (20, 0, 0, b'\7'))
 
     def test_words_outside_the_grammar(self):
-        self.assertEqual(oracle.rank(F, bytes([0, 2])), (17, 0, 0))
-        self.assertEqual(oracle.rank(F, bytes([255, 0])), (17, 0, 0))
+        self.assertEqual(oracle.rank(F, bytes([0, 2])), (17, 0, 0, 0))
+        self.assertEqual(oracle.rank(F, bytes([255, 0])), (17, 0, 0, 0))
         self.assertEqual(oracle.remaining(F, history([bytes([255, 0]), bytes([0, 2])]), 2), (0, 4, 0, 4))
+
+
+class Readings(unittest.TestCase):
+    """Document 02, U6: "how many derivations the sentence has and the lowest derivation number among them"."""
+
+    def test_figures_worked_out_by_hand(self):
+        for name, (grammar, sentences) in generate.ambiguous().items():
+            for sentence, (number, total, count) in sentences.items():
+                with self.subTest(name, sentence=sentence):
+                    self.assertEqual(oracle.rank(grammar, sentence), (0, number, total, count))
+                    self.assertEqual(oracle.unrank(grammar, len(sentence), number, bytes(16)), (0, total, sentence + bytes(16 - len(sentence))))
+                    heard = oracle.remaining(grammar, history([sentence]), len(sentence))
+                    self.assertEqual(heard, (0, total, 1, total - 1) if count == 1 else (15, 0, 0, 0))
+
+    def test_the_last_word_all_over(self):
+        """Every tree over five words: T(m) is Catalan's number times 5^m, and the lowest number of 4 4 .. 4 is 4 T(15) + .. + 4 T(1) + 4."""
+        trees = [1]
+        for m in range(2, 17):
+            trees.append(sum(trees[k - 1] * trees[m - k - 1] for k in range(1, m)))
+        grammar = generate.grammar(5, 0, [[pair(0, 0)] + [word(i) for i in range(5)]])
+        totals = [count * 5**m for m, count in enumerate(trees, 1)]
+        self.assertEqual(oracle.rank(grammar, bytes([4] * 16)), (0, 4 * sum(totals[:15]) + 4, totals[15], trees[15]))
 
 
 class Histories(unittest.TestCase):
@@ -361,8 +383,21 @@ class SmallGrammars(unittest.TestCase):
             sentences = [oracle.sentence_of(tree) for tree in trees]
             for d, sentence in enumerate(sentences):
                 self.assertEqual(oracle.unrank(grammar, length, d, bytes(length)), (0, len(trees), sentence))
-                expected = (0, d, len(trees)) if sentences.count(sentence) == 1 else (18, 0, 0)
+                expected = (0, sentences.index(sentence), len(trees), sentences.count(sentence))
                 self.assertEqual(oracle.rank(grammar, sentence), expected)
+
+    def test_the_lowest_number_is_that_of_the_derivation_that_stands_before_the_others(self):
+        several = 0
+        for grammar, length in self.lists(60):
+            trees = oracle.read(grammar).derivations(grammar[3], length)
+            for sentence in {oracle.sentence_of(tree) for tree in trees}:
+                own = [tree for tree in trees if oracle.sentence_of(tree) == sentence]
+                refusal, number, _, count = oracle.rank(grammar, sentence)
+                self.assertEqual((refusal, count), (0, len(own)))
+                self.assertIn(trees[number], own)
+                self.assertTrue(all(tree == trees[number] or stands_before(grammar, grammar[3], trees[number], tree) for tree in own))
+                several += count >= 2
+        self.assertGreater(several, 100)
 
     def test_counts_give_what_the_list_gives(self):
         rng = Rng(4)
@@ -372,8 +407,7 @@ class SmallGrammars(unittest.TestCase):
             for d, sentence in enumerate(listed.entries):
                 self.assertEqual(counted.sentence(d), sentence)
                 self.assertEqual(counted.count(sentence), listed.count(sentence))
-                if listed.count(sentence) == 1:
-                    self.assertEqual(counted.number(sentence), d)
+                self.assertEqual(counted.number(sentence), listed.entries.index(sentence))
             foreign = bytes(rng.below(grammar[1] + 1) for _ in range(length))
             self.assertEqual(counted.count(foreign), listed.count(foreign))
             once = [sentence for sentence in listed.places if listed.count(sentence) == 1]

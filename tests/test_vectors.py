@@ -1,5 +1,6 @@
 """Tests of the stored vectors: every refusal is among them, and they come out the same each time."""
 import collections
+import itertools
 import pathlib
 import tempfile
 import unittest
@@ -71,8 +72,9 @@ class RankingVectors(unittest.TestCase):
             'matrix: Count 5': '0 100000',
             'matrix: Count 4': '0 0',
             'matrix: Give 5 31415 into 7 bytes': '0 100000: 3 11 24 31 45 7 7',
-            'matrix: Number [3, 11, 24, 31, 45]': '0 31415 100000',
-            'G: Number [0, 0, 0]': 'refused 18',
+            'matrix: Number [3, 11, 24, 31, 45]': '0 31415 100000 1',
+            'G: Number [0, 0, 0]': '0 0 2 2',
+            'both halves: Number [1, 1, 0, 0]': '0 24 36 3',
             'brimful: Count 16': f'0 {2**64 - 1}',
             'one too many: Count 16': 'refused 10',
         }.items():
@@ -81,11 +83,18 @@ class RankingVectors(unittest.TestCase):
 
     def test_every_refusal_is_there_several_times(self):
         refusals = collections.Counter(line.split(':')[0] for line in self.lines.values())
-        for refusal in [1, 3, 8, 9, 10, 16, 17, 18, 20]:
+        for refusal in [1, 3, 8, 9, 10, 16, 17, 20]:
             self.assertGreaterEqual(refusals[f'refused {refusal}'], 3)
+        self.assertEqual(refusals['refused 18'], 0)
+
+    def test_ambiguous_sentences_are_there_in_plenty(self):
+        """Of two derivations and of more, with the lowest number 0 and with another."""
+        figures = [line.split()[1:] for name, line in self.lines.items() if ': Number' in name and not line.startswith('refused')]
+        kinds = collections.Counter((min(int(count), 3), int(number) > 0) for number, _, count in figures)
+        self.assertGreater(min(kinds[kind] for kind in itertools.product((1, 2, 3), (False, True))), 40, kinds)
 
     def test_size(self):
-        self.assertIn(len(self.cases), range(5000, 7001))
+        self.assertIn(len(self.cases), range(5000, 9001))
         self.assertLess(len(vectors.files(self.cases)['stdin']), 262_144)
 
     def test_the_frames_hold_the_cases(self):

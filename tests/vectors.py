@@ -33,8 +33,8 @@ import sys
 from typing import NamedTuple
 
 import oracle
-from generate import (Rng, brimful, damaged, grammar, history, low_high, pair, random_damage, random_grammar, random_heavy,
-                      reaching, word)
+from generate import (Rng, ambiguous, brimful, damaged, grammar, history, low_high, pair, random_damage, random_grammar,
+                      random_heavy, reaching, word)
 from oracle import F, G
 
 
@@ -451,6 +451,20 @@ def small_grammars(rng, count):
             yield data
 
 
+def ambiguous_grammars(rng, count):
+    """Random grammars with few derivations of three to five words, at least a third of them those of sentences that have two or more, and some
+    of such a sentence whose lowest number isn't 0."""
+    while count:
+        data = random_grammar(rng, 4, 3, 9)
+        totals = [oracle.count(data, length)[1] for length in range(3, 6)]
+        if 10 <= sum(totals) <= 90:
+            lists = [oracle.full_list(data, length) for length in range(3, 6)]
+            several = [(full.number(s), full.count(s)) for full in lists for s in full.places if full.count(s) >= 2]
+            if 3 * sum(many for _, many in several) >= sum(totals) and any(number for number, _ in several):
+                count -= 1
+                yield data
+
+
 def formerly_refused(rng, count):
     """Random grammars with a length that isn't refused, although some count up to it is above 2^64 - 1: of a pair that isn't needed. With
     each the last such length, the one before it and the one after it."""
@@ -515,6 +529,18 @@ def ranking_cases():
         for length in lengths:
             some_numbers(calls, rng, length, 3)
             calls.number(bytes(length))
+        made.append(calls)
+    for name, (data, sentences) in ambiguous().items():
+        calls = Calls(name, data)
+        every_number(calls, [length for length in range(1, 5) if oracle.count(data, length)[1] <= 80])
+        every_sentence(calls, data[1], range(1, 5))
+        some_numbers(calls, rng, 16, 3)
+        for sentence in sentences:
+            calls.number(sentence)
+        made.append(calls)
+    for i, data in enumerate(ambiguous_grammars(rng, 12)):
+        calls = Calls(f'ambiguous {i}', data)
+        every_number(calls, range(3, 6))
         made.append(calls)
     return [case for calls in [*banks.values(), *made] for case in calls.framed_cases()]
 

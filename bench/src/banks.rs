@@ -171,6 +171,12 @@ pub fn dense(seed: u64) -> Vec<u8> {
     shuffled(CLASSES as u8, 0, &mut chains, &mut rng)
 }
 
+/// S is two S, or one of five words: every sentence of m words has every tree with m leaves.
+pub fn every_tree() -> Vec<u8> {
+    let chain = [Rule::Pair(0, 0)].into_iter().chain((0..5).map(Rule::Word)).collect();
+    encode(5, 0, &[chain], &[0, 1, 2, 3, 4, 5])
+}
+
 /// A history of these sentences, chained in an order of its own.
 pub fn history(sentences: &[Vec<u8>], rng: &mut Rng) -> Vec<u8> {
     let k = sentences.len();

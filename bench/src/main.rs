@@ -333,9 +333,21 @@ fn table_inputs(alike: &mut Alike, cases: &[Case]) {
         alike.grammar(&banks::right_linear(rules, 0));
         alike.count(&banks::right_linear(rules, 0), 16);
     }
+    for n in AMBIGUOUS {
+        for s in ambiguous_sentences(n) {
+            alike.rank(&banks::every_tree(), &s);
+        }
+    }
 }
 
 const RULES: [usize; 4] = [32, 64, 128, 255];
+const AMBIGUOUS: [usize; 4] = [3, 5, 8, 16];
+
+/// Sentences of so many words, each with every tree.
+fn ambiguous_sentences(n: usize) -> Vec<Vec<u8>> {
+    let mut rng = Rng::new(4);
+    (0..MANY).map(|_| (0..n).map(|_| rng.below(5) as u8).collect()).collect()
+}
 
 // ---- Tables
 
@@ -402,6 +414,13 @@ fn growth_tables(report: &mut Report, cases: &[Case]) {
         let made: Vec<Vec<u8>> = (0..16).map(|s| banks::right_linear(rules, s)).collect();
         let row = measure(16, |i| ours::count(&made[i], 16), |i| plain::count(&made[i], 16));
         report.row(&rules.to_string(), row);
+    }
+    report.table("*rank* on the bank with every tree over five words, by length".to_string(), "length");
+    let g = banks::every_tree();
+    for n in AMBIGUOUS {
+        let s = ambiguous_sentences(n);
+        let row = measure(MANY, |i| ours::rank(&g, &s[i]), |i| plain::rank(&g, &s[i]));
+        report.row(&n.to_string(), row);
     }
     for c in cases {
         report.table(format!("*remaining* on the {} bank, by records", c.name), "records");
@@ -486,8 +505,8 @@ fn main() {
     table_inputs(&mut alike, &cases);
     println!("Both gave the same answers and buffers in {} calls. Answers by refusal, 0 first:", alike.calls);
     println!("{:?}", alike.refusals);
-    if alike.refusals.contains(&0) {
-        eprintln!("some refusal was never given");
+    if (0..21).any(|refusal| (alike.refusals[refusal] == 0) != (refusal == 18)) {
+        eprintln!("some refusal was never given, or 18 was, which is returned no more");
         std::process::exit(1);
     }
     let mut report = Report::default();

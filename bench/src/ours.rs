@@ -7,7 +7,15 @@ extern "C" {
     fn pumpfennel_check_history(h: *const u8, h_len: usize, records: *mut u64) -> c_uchar;
     fn pumpfennel_count(g: *const u8, g_len: usize, length: u64, total: *mut u64) -> c_uchar;
     fn pumpfennel_unrank(g: *const u8, g_len: usize, length: u64, number: u64, out: *mut u8, out_len: usize, total: *mut u64) -> c_uchar;
-    fn pumpfennel_rank(g: *const u8, g_len: usize, s: *const u8, s_len: usize, number: *mut u64, total: *mut u64) -> c_uchar;
+    fn pumpfennel_rank(
+        g: *const u8,
+        g_len: usize,
+        s: *const u8,
+        s_len: usize,
+        number: *mut u64,
+        total: *mut u64,
+        derivations: *mut u64,
+    ) -> c_uchar;
     fn pumpfennel_remaining(
         g: *const u8,
         g_len: usize,
@@ -68,10 +76,10 @@ pub fn unrank(g: &[u8], length: u64, number: u64, out: &mut [u8]) -> Result<u64,
     answer(r, &[t], t)
 }
 
-pub fn rank(g: &[u8], s: &[u8]) -> Result<(u64, u64), u8> {
-    let (mut d, mut t) = (BEFORE, BEFORE);
-    let r = unsafe { pumpfennel_rank(g.as_ptr(), g.len(), s.as_ptr(), s.len(), &mut d, &mut t) };
-    answer(r, &[d, t], (d, t))
+pub fn rank(g: &[u8], s: &[u8]) -> Result<(u64, u64, u64), u8> {
+    let (mut d, mut t, mut k) = (BEFORE, BEFORE, BEFORE);
+    let r = unsafe { pumpfennel_rank(g.as_ptr(), g.len(), s.as_ptr(), s.len(), &mut d, &mut t, &mut k) };
+    answer(r, &[d, t, k], (d, t, k))
 }
 
 pub fn remaining(g: &[u8], h: &[u8], length: u64) -> Result<(u64, u64, u64), u8> {

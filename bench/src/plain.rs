@@ -282,7 +282,36 @@ impl<'a> Parser<'a> {
         }
     }
 
-    /// The place of the one derivation of a over m words from p on.
+    /// How many derivations a sentence has: a second pass, with counts, for those that have several. Only counts that nothing needs may wrap.
+    fn derivations(&self, s: &[u8]) -> u64 {
+        let n = s.len();
+        let at = |p: usize, m: usize| (m - 1) * n + p;
+        let mut counts = vec![[0u64; 32]; n * n];
+        for p in 0..n {
+            for a in Bits(self.some[p][1]) {
+                counts[at(p, 1)][a] = 1;
+            }
+        }
+        for m in 2..=n {
+            for p in 0..=n - m {
+                let mut row = [0u64; 32];
+                for k in 1..m {
+                    for b in Bits(self.some[p][k] & self.lefts) {
+                        for c in Bits(self.some[p + k][m - k] & self.rights) {
+                            let both = counts[at(p, k)][b].wrapping_mul(counts[at(p + k, m - k)][c]);
+                            for a in Bits(self.of_pair[b][c]) {
+                                row[a] = row[a].wrapping_add(both);
+                            }
+                        }
+                    }
+                }
+                counts[at(p, m)] = row;
+            }
+        }
+        counts[at(0, n)][self.g.start]
+    }
+
+    /// The place of the first derivation of a over m words from p on.
     fn place(&self, s: &[u8], a: usize, p: usize, m: usize) -> u64 {
         if m == 1 {
             return self.g.words(a).iter().position(|&w| w == s[p]).unwrap() as u64;
@@ -482,13 +511,14 @@ pub fn unrank(grammar: &[u8], length: u64, number: u64, out: &mut [u8]) -> Resul
 }
 
 #[inline(never)]
-pub fn rank(grammar: &[u8], sentence: &[u8]) -> Result<(u64, u64), u8> {
+pub fn rank(grammar: &[u8], sentence: &[u8]) -> Result<(u64, u64, u64), u8> {
     let mut t = NO_TOTALS;
     let (g, n) = prepare(grammar, sentence.len() as u64, &mut t)?;
-    match Parser::new(&g, &t).find(sentence) {
+    let mut parser = Parser::new(&g, &t);
+    match parser.find(sentence) {
         Found::None => Err(17),
-        Found::Many => Err(18),
-        Found::One(d) => Ok((d, t[g.start][n])),
+        Found::Many => Ok((parser.place(sentence, g.start, 0, n), t[g.start][n], parser.derivations(sentence))),
+        Found::One(d) => Ok((d, t[g.start][n], 1)),
     }
 }
 

@@ -11,6 +11,11 @@
 unsafe extern "C" {
     pub safe fn pumpfennel_version() -> u64;
 
+    // version: from VERSION, by tools/generate
+    #[link_name = "pumpfennel_interface_0_3"]
+    // end of version
+    pub safe fn pumpfennel_interface() -> u64;
+
     pub fn pumpfennel_check_grammar(
         grammar: *const u8,
         grammar_len: usize,
@@ -39,6 +44,7 @@ unsafe extern "C" {
         sentence_len: usize,
         number: *mut u64,
         total: *mut u64,
+        derivations: *mut u64,
     ) -> u8;
 
     pub fn pumpfennel_remaining(

@@ -74,10 +74,15 @@ pub const fn history_size(records: usize) -> usize {
 }
 
 /// The archive's version as one number: major * 10,000 + minor * 100 + patch. It is this crate's version, unless an
-/// older or newer archive was linked.
+/// archive was linked that differs in the patch alone.
 pub fn version() -> u64 {
     ffi::pumpfennel_version()
 }
+
+/// Asks the linker for an archive of this crate's interface: with another one, whose calls may take other parameters,
+/// nothing links.
+#[used]
+static INTERFACE: extern "C" fn() -> u64 = ffi::pumpfennel_interface;
 
 /// How many derivations stand before one, among those of the start and its length.
 #[derive(Clone, Copy, Debug, PartialEq, Eq, PartialOrd, Ord, Hash)]
@@ -99,10 +104,12 @@ pub struct GrammarCounts {
 /// What [`rank`] gives.
 #[derive(Clone, Copy, Debug, PartialEq, Eq)]
 pub struct Ranked {
-    /// The sentence's derivation number.
+    /// The lowest derivation number among the sentence's derivations.
     pub number: DerivationNumber,
     /// How many derivations there are of the sentence's length.
     pub total: u64,
+    /// How many of them have the sentence: 1 or more.
+    pub derivations: u64,
 }
 
 /// What [`remaining`] gives.
@@ -229,23 +236,28 @@ pub fn unrank(grammar: &[u8], length: u64, number: DerivationNumber, sentence: &
     accepted(refusal, total)
 }
 
-/// Numbers a sentence that has one derivation.
+/// Numbers a sentence and counts its derivations.
 ///
 /// ```
 /// use pumpfennel::{DerivationNumber, Ranked, Refusal};
 ///
 /// let grammar = [2, 2, 4, 0, 1, 3, 1, 1, 1, 2, 1, 0, 1, 0, 0, 0, 0, 4, 0, 1, 0, 0];
-/// let ranked = Ranked { number: DerivationNumber(5), total: 8 };
+/// let ranked = Ranked { number: DerivationNumber(5), total: 8, derivations: 1 };
 /// assert_eq!(pumpfennel::rank(&grammar, &[1, 0, 1]), Ok(ranked));
 /// assert_eq!(pumpfennel::rank(&grammar, &[1, 0, 2]), Err(Refusal::SentenceUnderivable));
+///
+/// // S is two S, or word 0: three words have two derivations.
+/// let trees = [1, 1, 2, 0, 1, 1, 0, 0, 2, 0, 0, 0, 0];
+/// let ranked = Ranked { number: DerivationNumber(0), total: 2, derivations: 2 };
+/// assert_eq!(pumpfennel::rank(&trees, &[0, 0, 0]), Ok(ranked));
 /// ```
 ///
 /// # Errors
 ///
-/// Refusals 1 to 10, 17 and 18.
+/// Refusals 1 to 10 and 17.
 pub fn rank(grammar: &[u8], sentence: &[u8]) -> Result<Ranked, Refusal> {
-    let (mut number, mut total) = (0, 0);
-    // SAFETY: two slices, and two figures of this function.
+    let (mut number, mut total, mut derivations) = (0, 0, 0);
+    // SAFETY: two slices, and three figures of this function.
     let refusal = unsafe {
         ffi::pumpfennel_rank(
             grammar.as_ptr(),
@@ -254,9 +266,10 @@ pub fn rank(grammar: &[u8], sentence: &[u8]) -> Result<Ranked, Refusal> {
             sentence.len(),
             &mut number,
             &mut total,
+            &mut derivations,
         )
     };
-    accepted(refusal, Ranked { number: DerivationNumber(number), total })
+    accepted(refusal, Ranked { number: DerivationNumber(number), total, derivations })
 }
 
 /// Counts what is outside the history.

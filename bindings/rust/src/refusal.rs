@@ -41,7 +41,7 @@ pub enum Refusal {
     NumberBeyond = 16,
     /// The sentence has no derivation.
     SentenceUnderivable = 17,
-    /// The sentence has two or more derivations.
+    /// No longer returned: the sentence has two or more derivations.
     SentenceAmbiguous = 18,
     /// The history has 1,000 records or no room for one more.
     HistoryFull = 19,

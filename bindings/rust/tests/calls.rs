@@ -3,7 +3,7 @@ mod support;
 
 use pumpfennel::{DerivationNumber, DrawNumber, Refusal};
 use std::collections::{BTreeMap, BTreeSet};
-use support::case::{self, CALLS, Call, Case};
+use support::case::{self, Answer, CALLS, Call, Case};
 use support::generate::{self, Rng};
 use support::{agreed, reference};
 
@@ -11,22 +11,26 @@ const SEED: u64 = 20261115;
 
 // ---- Generated inputs
 
-/// Holds the library to the reference on generated cases of a call, among which every refusal of the call is.
-fn agree(call: Call, count: u64) {
+/// Holds the library to the reference on generated cases of a call, among which every refusal of the call is. Gives
+/// the answers of the cases that were accepted.
+fn agree(call: Call, count: u64) -> Vec<Answer> {
     let seed = SEED + call as u64;
     println!("{}: {count} cases from seed {seed}", call.name());
     let mut seen: BTreeMap<u8, u64> = BTreeMap::new();
+    let mut accepted = vec![];
     for i in 0..count {
         let case = generate::case(&mut Rng::of_case(seed, i), call);
-        match agreed(&case) {
-            Ok(answer) => *seen.entry(answer.refusal).or_default() += 1,
-            Err(fault) => panic!("seed {seed}, case {i}: {fault}"),
+        let answer = agreed(&case).unwrap_or_else(|fault| panic!("seed {seed}, case {i}: {fault}"));
+        *seen.entry(answer.refusal).or_default() += 1;
+        if answer.refusal == 0 {
+            accepted.push(answer);
         }
     }
     println!("how many with each refusal: {seen:?}");
     let reached: Vec<u8> = seen.into_keys().collect();
     let allowed: Vec<u8> = [0].into_iter().chain(call.refusals()).collect();
     assert_eq!(reached, allowed, "the refusals of {}", call.name());
+    accepted
 }
 
 #[test]
@@ -49,9 +53,16 @@ fn generated_unrank() {
     agree(Call::Unrank, 200_000);
 }
 
+/// Among them sentences of two derivations and of more, with the lowest number 0 and with another, in plenty.
 #[test]
 fn generated_rank() {
-    agree(Call::Rank, 200_000);
+    let mut kinds: BTreeMap<(u64, bool), u64> = BTreeMap::new();
+    for answer in agree(Call::Rank, 200_000) {
+        *kinds.entry((answer.figures[2].min(3), answer.figures[0] > 0)).or_default() += 1;
+    }
+    println!("by derivations and whether the lowest number is above 0: {kinds:?}");
+    assert_eq!(kinds.len(), 6);
+    assert!(kinds.values().all(|&many| many > 1_000), "{kinds:?}");
 }
 
 #[test]
@@ -175,10 +186,6 @@ fn fault(case: &mut Case, refusal: u8) {
         }
         16 => case.number = u64::MAX,
         17 => case.sentence[1] = 255,
-        18 => {
-            case.grammar = generate::g_words(1).bytes();
-            case.sentence = vec![0; 3];
-        }
         19 => case.history.truncate(24),
         20 => case.sentence.truncate(1),
         _ => unreachable!("{refusal}"),
@@ -212,7 +219,7 @@ fn first_that_applies() {
         .collect();
     assert_eq!(reached, allowed);
     println!("{} pairs of a call and a refusal", reached.len() - CALLS.len());
-    assert_eq!(reached.len() - CALLS.len(), 84);
+    assert_eq!(reached.len() - CALLS.len(), 83);
 }
 
 // ---- The draws as one list

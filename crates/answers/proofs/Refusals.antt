@@ -1,14 +1,16 @@
 -- Which line of a list of refusals applies, where the list is one list after another; and what is answered then.
 -- Assumes nothing.
 use mathlib.Core.Path.{_≡_, refl, _∙_}
+use mathlib.Core.Logic.{_≢_}
 use mathlib.Core.Bool.{Bool, true, false, _&&_}
 use mathlib.Core.List.{List, [], _∷_, _++_}
 use Prim.Native.Nat.{ℕ, zero, suc, _<_}
 use native.Mathlib.Omega.{arith}
 use lib.ListN.{length}
-use borrow.Author.Tests.{ltb-true}
-use lib.Dec.{ltb}
-use Rattle.lists.proofs.Tests.{and-left, and-right}
+use borrow.Author.Tests.{ltb-true, eqb-false}
+use lib.Dec.{ltb, eqb}
+use Rattle.lists.specs.Searched.{someOf}
+use Rattle.lists.proofs.Tests.{and-left, and-right, or-left, or-right}
 use Rattle.answers.specs.Answer.{Row, firstThatApplies, given, refused, answerOf}
 
 -- ---- line by line
@@ -64,6 +66,19 @@ rows-clear ((t, n) ∷ a) b h e =
     let q = row-clear n (a ++ b) t (ltb-true 0 n (and-left (ltb 0 n) (numbered a) h)) e in
     let r = rows-clear a b (and-right (ltb 0 n) (numbered a) h) (q .1) in
     (row-passed n a (q .0) ∙ r .0, r .1)
+
+-- a number above 0 that no line has isn't returned
+pub rows-lack : (k : ℕ) (rows : List Row) → 0 < k → someOf (λ (row : Row). eqb (row .1) k) rows ≡ false → firstThatApplies rows ≢ k
+unfolding firstThatApplies
+rows-lack k [] h e = λ z. omega arith
+rows-lack k ((t, n) ∷ rows) h e =
+    let here = eqb-false n k (or-left (eqb n k) (someOf (λ (row : Row). eqb (row .1) k) rows) e) in
+    let later = rows-lack k rows h (or-right (eqb n k) (someOf (λ (row : Row). eqb (row .1) k) rows) e) in
+    go t here later
+  where
+    go : (t : Bool) → n ≢ k → firstThatApplies rows ≢ k → firstThatApplies ((t, n) ∷ rows) ≢ k
+    go true here later = here
+    go false here later = later
 
 -- ---- what is answered
 

@@ -20,7 +20,6 @@ pub enum Refusal {
     HeardAmbiguous,
     NumberBeyond,
     SentenceUnderivable,
-    SentenceAmbiguous,
     HistoryFull,
     BufferTooShort,
 }
@@ -47,7 +46,6 @@ pub fn number(r: Refusal) -> u8
         Refusal::HeardAmbiguous => 15,
         Refusal::NumberBeyond => 16,
         Refusal::SentenceUnderivable => 17,
-        Refusal::SentenceAmbiguous => 18,
         Refusal::HistoryFull => 19,
         Refusal::BufferTooShort => 20,
     }

@@ -48,9 +48,6 @@ pub fn explain(r: Refusal) {
             b"listing: refused: the number is not below how many there are to choose from\n",
         ),
         Refusal::SentenceUnderivable => say(b"listing: refused: the sentence has no derivation\n"),
-        Refusal::SentenceAmbiguous => say(
-            b"listing: refused: the sentence has two or more derivations\n",
-        ),
         Refusal::HistoryFull => say(
             b"listing: refused: the history has 1,000 records or no room for one more\n",
         ),

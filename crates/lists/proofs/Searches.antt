@@ -15,7 +15,7 @@ use Rattle.lists.specs.Joined.{_∈_, sumOver, concatMap, upFrom}
 use Rattle.lists.specs.Ordered.{Distinct, none, more}
 use Rattle.lists.specs.Inner.Tickets.{ahead, owner, place, Owns}
 use Rattle.lists.specs.Searched.{bit, howMany, firstPlace, times}
-use Rattle.lists.proofs.Sums.{sum-append, sum-map, sum-plus, sum-const, sum-one, sum-le, sum-single, length-upFrom}
+use Rattle.lists.proofs.Sums.{sum-append, sum-plus, sum-const, sum-one, sum-le, sum-single, length-upFrom}
 use Rattle.lists.proofs.Tests.{bit-le}
 use Rattle.lists.proofs.Owners.{owned, owns-place, place-inside, owns-only, owns-ext, owner-at}
 
@@ -58,6 +58,16 @@ module _ {X : Type 0} (P : X → Bool) where
       ap (λ (n : ℕ). P (getD l n z)) (sym (place-first l))
       ∙ ap P (sym (owner-at (λ x. bit (P x)) l 0 z))
       ∙ bit-true (P (owner (λ x. bit (P x)) l 0 z)) (omega (arith, r .own))
+
+  -- nothing before it does
+  pub place-least : (l : List X) (i : ℕ) (z : X) → i < length l → P (getD l i z) ≡ true → firstPlace P l ≤ i
+  place-least [] i z h e = omega arith
+  place-least (x ∷ l) zero z h e = rw e (omega arith)
+  place-least (x ∷ l) (suc i) z h e = go (P x) (place-least l i z (omega arith) e)
+    where
+      go : (b : Bool) → firstPlace P l ≤ i → cond b 0 (suc (firstPlace P l)) ≤ suc i
+      go true k = omega arith
+      go false k = omega arith
 
   -- where just one element passes, that is its place
   pub place-only : (l : List X) (i : ℕ) (z : X) → howMany P l ≡ 1 → i < length l → P (getD l i z) ≡ true → i ≡ firstPlace P l

@@ -20,13 +20,13 @@ use Rattle.history.specs.Refusals as history
 use Rattle.history.specs.Refusals.{historyRows}
 use Rattle.history.specs.Writing.{appended}
 use Rattle.history.specs.Answers.{checkHistory, appendRows, appendOf}
-use Rattle.ranking.specs.Answers.{totalOf, entryOf, numberOf, unrankRows, unrankOf, rankRows, rankOf}
+use Rattle.ranking.specs.Answers.{totalOf, entryOf, readingsOf, numberOf, unrankRows, unrankOf, rankRows, rankOf}
 use Rattle.ranking.proofs.Demand2.{demand-2}
 use Rattle.sampling.specs.Question.{plainly}
 use Rattle.sampling.specs.Demand3.{Single, Premises}
 use Rattle.sampling.specs.Unheard.{heardOf, leftOf}
 use Rattle.sampling.specs.Answers.{drawn, remainingRows, remainingTo, drawRows, drawTo}
-use Rattle.sampling.proofs.Premises.{premises}
+use Rattle.sampling.proofs.Premises.{premises, fifteen}
 use Rattle.sampling.proofs.Demand3.{demand-3, once, alike}
 use Rattle.sampling.proofs.Examples.{examples, example-premises, logged-twice}
 use Rattle.matrix.specs.Table.{table}
@@ -34,7 +34,7 @@ use Rattle.matrix.proofs.Rules.{is-accepted}
 use Rattle.matrix.proofs.Counts.{sentences-of-five, no-others}
 use Rattle.matrix.proofs.Single.{no-two, counts-fit}
 use Rattle.pumpfennel.specs.Demands.{Refuses, Demand1, Demands}
-use Rattle.pumpfennel.proofs.Former.{former-answers}
+use Rattle.pumpfennel.proofs.Former.{former-numbers, former-answers}
 
 -- an answer by its list of refusals
 refuses : (rows : List Row) (figures before after : List ℕ) → Refuses rows (length figures) before (answer rows figures before after)
@@ -54,7 +54,7 @@ demand-1 = record {
   check-diary = λ h. refuses (historyRows h) (recordsOf h ∷ []) [] [];
   count = λ g n. refuses (preparedRows g n) (totalOf g n ∷ []) [] [];
   give = λ g n d out. refuses (unrankRows g n d out) (totalOf g n ∷ []) out (entryOf g n d ++ drop n out);
-  number = λ g s. refuses (rankRows g s) (numberOf g s ∷ totalOf g (length s) ∷ []) [] [];
+  number = λ g s. refuses (rankRows g s) (numberOf g s ∷ totalOf g (length s) ∷ readingsOf g s ∷ []) [] [];
   left = λ g h a. refuses (remainingRows g h a) (totalOf g (a .length) ∷ heardOf g h a ∷ leftOf g h a ∷ []) [] [];
   draw = λ g h a q out. refuses (drawRows g h a q out) (leftOf g h a ∷ drawn g h a q .number ∷ []) out (sentence (drawn g h a q .tree) ++ drop (a .length) out);
   log = λ h s. refuses (appendRows h s) (suc (recordsOf h) ∷ []) h (appended h s);
@@ -85,6 +85,8 @@ demands = record {
   premises = λ g h a. premises g h (a .length);
   ten = ten;
   former = former-answers;
+  numbers = former-numbers;
+  fifteen = λ g h a. fifteen g h (a .length);
   instance = example-premises;
   logged-twice = logged-twice;
   house = record { accepted = is-accepted; five = sentences-of-five; others = no-others; single = house-single };

@@ -18,11 +18,12 @@ use Rattle.history.specs.Answers.{checkHistory, appendRows, appendOf}
 use Rattle.ranking.specs.Answers.{totalOf, unrankRows, unrankOf, rankRows, rankOf}
 use Rattle.ranking.specs.Demand2.{Demand2}
 use Rattle.sampling.specs.Question.{Question, plainly}
+use Rattle.sampling.specs.Unheard.{Fifteen}
 use Rattle.sampling.specs.Answers.{remainingRows, remainingTo, drawRows, drawTo}
 use Rattle.sampling.specs.Demand3.{Single, Premises, Demand3, Once, SameBarred, Alike}
 use Rattle.sampling.specs.Examples.{Examples, F, heard01, heardTwice}
 use Rattle.matrix.specs.Table.{table}
-use Rattle.pumpfennel.specs.Former.{FormerAnswers}
+use Rattle.pumpfennel.specs.Former.{FormerNumbers, FormerAnswers}
 
 -- ---- demand 1: "The first fitting refusal of its list is returned, every figure zero, every lent buffer unchanged."
 
@@ -37,7 +38,7 @@ pub record Demand1 : Type 0 where
   pub check-diary : (h : List ℕ) → Refuses (historyRows h) 1 [] (checkHistory h)
   pub count : (g : List ℕ) (n : ℕ) → Refuses (preparedRows g n) 1 [] (countOf g n)
   pub give : (g : List ℕ) (n d : ℕ) (out : List ℕ) → Refuses (unrankRows g n d out) 1 out (unrankOf g n d out)
-  pub number : (g s : List ℕ) → Refuses (rankRows g s) 2 [] (rankOf g s)
+  pub number : (g s : List ℕ) → Refuses (rankRows g s) 3 [] (rankOf g s)
   pub left : (g h : List ℕ) (a : Question) → Refuses (remainingRows g h a) 3 [] (remainingTo g h a)
   pub draw : (g h : List ℕ) (a : Question) (q : ℕ) (out : List ℕ) → Refuses (drawRows g h a q out) 2 out (drawTo g h a q out)
   pub log : (h s : List ℕ) → Refuses (appendRows h s) 1 h (appendOf h s)
@@ -68,6 +69,9 @@ pub record Demands : Type 0 where
   -- "10 applies exactly if the count of a needed pair is above 2^64 - 1", and "Every call that did not return 10 has its former answer" (document 02, U2)
   pub ten : (g : List ℕ) (n : ℕ) → Ten g n
   pub former : FormerAnswers
+  -- "A sentence with one derivation has its former number", and "Refusal 15 is returned for the same diaries, by way of the new figure" (document 02, U6)
+  pub numbers : FormerNumbers
+  pub fifteen : (g h : List ℕ) (a : Question) → countOf g (a .length) .refusal ≡ 0 → history.Accepted h → Fifteen g h a
   -- there is such a grammar, history and length; there are two histories that bar the same; and the house bank is as document 01 says, so that
   -- with every accepted history each of its unheard sentences comes exactly once
   pub instance : Premises F heard01 (plainly 2)

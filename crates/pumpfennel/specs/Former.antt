@@ -1,20 +1,43 @@
--- What the calls answered before document 02's requests changed them: U2, "Every call that did not return 10 has its former answer."
+-- What the calls answered before document 02's requests changed them, where a request says that it stays.
 -- Assumes nothing: these are definitions.
 use mathlib.Core.Path.{_≡_}
 use mathlib.Core.Logic.{_≢_}
 use mathlib.Core.Bool.{cond}
 use mathlib.Core.List.{List, [], _∷_, _++_, map}
-use Prim.Native.Nat.{ℕ}
-use lib.Dec.{eqb}
+use Prim.Native.Nat.{ℕ, _≤_}
+use lib.Dec.{leb, eqb}
 use lib.ListN.{length, drop}
 use Rattle.answers.specs.Answer.{Row, Answer, given, refused, answer}
 use Rattle.grammar.specs.Trees.{sentence}
 use Rattle.counting.specs.Refusals.{preparedRows, formerTooLarge}
 use Rattle.counting.specs.Answers.{countOf}
-use Rattle.ranking.specs.Answers.{totalOf, entryOf, numberOf, unrankRows, unrankOf, rankRows, rankOf}
+use Rattle.ranking.specs.Answers.{totalOf, entryOf, readingsOf, numberOf, unrankRows, unrankOf, rankOf}
 use Rattle.sampling.specs.Question.{Question}
 use Rattle.sampling.specs.Unheard.{heardOf, leftOf}
 use Rattle.sampling.specs.Answers.{drawn, remainingRows, remainingTo, drawRows, drawTo}
+
+-- ---- U6: "A sentence with one derivation has its former number."
+
+-- "17. The sentence has no derivation from S (*Number*)." "18. The sentence has two or more derivations from S (*Number*)."
+abbrev pub formerNumberRows : (g s : List ℕ) → List Row
+formerNumberRows g s = preparedRows g (length s) ++ ((eqb (readingsOf g s) 0, 17) ∷ (leb 2 (readingsOf g s), 18) ∷ [])
+
+-- "*Number* (bank, sentence) gives its derivation number and T."
+abbrev pub formerNumber : (g s : List ℕ) → Answer
+formerNumber g s = answer (formerNumberRows g s) (numberOf g s ∷ totalOf g (length s) ∷ []) [] []
+
+pub record FormerNumbers : Type 0 where
+  -- a sentence that had a number has it, and one derivation
+  pub one : (g s : List ℕ) (d t : ℕ) → formerNumber g s ≡ given (d ∷ t ∷ []) [] → rankOf g s ≡ given (d ∷ t ∷ 1 ∷ []) []
+  -- one that was refused with 18 has two or more
+  pub several : (g s : List ℕ) → formerNumber g s .refusal ≡ 18
+      → (d k : ℕ) × (2 ≤ k) × (rankOf g s ≡ given (d ∷ totalOf g (length s) ∷ k ∷ []) [])
+  -- every other refusal stays
+  pub refusals : (g s : List ℕ) (k : ℕ) → formerNumber g s .refusal ≡ k → k ≢ 0 → k ≢ 18 → rankOf g s ≡ refused k 3 []
+  -- "Refusal 18 never occurs from then on."
+  pub never : (g s : List ℕ) → rankOf g s .refusal ≢ 18
+
+-- ---- U2: "Every call that did not return 10 has its former answer."
 
 -- the same lines, with 10 as it was
 abbrev pub formerly : (g : List ℕ) (n : ℕ) → List Row → List Row
@@ -28,7 +51,7 @@ abbrev pub formerUnrank : (g : List ℕ) (n d : ℕ) (out : List ℕ) → Answer
 formerUnrank g n d out = answer (formerly g n (unrankRows g n d out)) (totalOf g n ∷ []) out (entryOf g n d ++ drop n out)
 
 abbrev pub formerRank : (g s : List ℕ) → Answer
-formerRank g s = answer (formerly g (length s) (rankRows g s)) (numberOf g s ∷ totalOf g (length s) ∷ []) [] []
+formerRank g s = answer (formerly g (length s) (formerNumberRows g s)) (numberOf g s ∷ totalOf g (length s) ∷ []) [] []
 
 abbrev pub formerRemaining : (g h : List ℕ) (a : Question) → Answer
 formerRemaining g h a = answer (formerly g (a .length) (remainingRows g h a)) (totalOf g (a .length) ∷ heardOf g h a ∷ leftOf g h a ∷ []) [] []
@@ -57,7 +80,8 @@ beside =
 pub record FormerAnswers : Type 0 where
   pub count : (g : List ℕ) (n : ℕ) → formerCount g n .refusal ≢ 10 → countOf g n ≡ formerCount g n
   pub give : (g : List ℕ) (n d : ℕ) (out : List ℕ) → formerUnrank g n d out .refusal ≢ 10 → unrankOf g n d out ≡ formerUnrank g n d out
-  pub number : (g s : List ℕ) → formerRank g s .refusal ≢ 10 → rankOf g s ≡ formerRank g s
+  -- *Number* as U6 found it: `FormerNumbers` says what it answers now
+  pub number : (g s : List ℕ) → formerRank g s .refusal ≢ 10 → formerNumber g s ≡ formerRank g s
   pub left : (g h : List ℕ) (a : Question) → formerRemaining g h a .refusal ≢ 10 → remainingTo g h a ≡ formerRemaining g h a
   pub draw : (g h : List ℕ) (a : Question) (q : ℕ) (out : List ℕ) → formerDraw g h a q out .refusal ≢ 10 → drawTo g h a q out ≡ formerDraw g h a q out
   -- and there is a call that returned 10 and answers now

@@ -123,19 +123,26 @@ pub extern "C" fn pumpfennel_rank(
     sentence: &[u8],
     number: &mut u64,
     total: &mut u64,
+    derivations: &mut u64,
 ) -> u8
-    ensures { λ r. ⌜ gives r (now (number .exit) ∷ now (total .exit) ∷ []) [] ≡ rankOf (now (grammar .entry)) (now (sentence .entry)) ⌝ }
+    ensures { λ r. ⌜ gives r (now (number .exit) ∷ now (total .exit) ∷ now (derivations .exit) ∷ []) [] ≡ rankOf (now (grammar .entry)) (now (sentence .entry)) ⌝ }
 {
     let a = rank::rank(grammar, sentence);
     match a {
-        RankAnswer::Given(d, t) => {
+        RankAnswer::Given {
+            lowest: d,
+            total: t,
+            derivations: k,
+        } => {
             *number = d.0;
             *total = t;
+            *derivations = k;
             0
         }
         RankAnswer::Refused(r) => {
             *number = 0;
             *total = 0;
+            *derivations = 0;
             refusal::number(r)
         }
     }

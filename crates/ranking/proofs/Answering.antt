@@ -54,28 +54,18 @@ module _ (rules : List (List ℕ)) (n d : ℕ) (out : List ℕ) where
 -- ---- *Number*, by the table
 
 module _ (rules : List (List ℕ)) (s : List ℕ) where
-  rank-refused : (k : ℕ) → firstThatApplies ((eqb (readingsIn rules s) 0, 17) ∷ (leb 2 (readingsIn rules s), 18) ∷ []) ≡ k → 0 < k
-      → refused k 2 [] ≡ rankIn rules s
+  abbrev figures : List ℕ
+  figures = numberIn rules s ∷ totalIn rules (length s) ∷ readingsIn rules s ∷ []
+
+  pub rank-none : readingsIn rules s ≡ 0 → refused 17 3 [] ≡ rankIn rules s
   unfolding rankIn
-  rank-refused k e h = rw e (sym (answer-refused k (numberIn rules s ∷ totalIn rules (length s) ∷ []) [] [] h))
+  rank-none e = rw (row-applies 17 [] (eq-eqb (readingsIn rules s) 0 e)) (sym (answer-refused 17 figures [] [] (lit< tt)))
 
-  pub rank-none : readingsIn rules s ≡ 0 → refused 17 2 [] ≡ rankIn rules s
-  rank-none e = rank-refused 17 (row-applies 17 _ (eq-eqb (readingsIn rules s) 0 e)) (lit< tt)
-
-  pub rank-several : 2 ≤ readingsIn rules s → refused 18 2 [] ≡ rankIn rules s
-  rank-several h =
-      rank-refused 18
-      (row-passed 17 _ (ne-eqb (readingsIn rules s) 0 (λ e. omega arith)) ∙ row-applies 18 _ (le-leb 2 (readingsIn rules s) h))
-      (lit< tt)
-
-  pub rank-found : readingsIn rules s ≡ 1 → (d total : ℕ) → d ≡ numberIn rules s → total ≡ totalIn rules (length s)
-      → given (d ∷ total ∷ []) [] ≡ rankIn rules s
+  pub rank-found : {d total k : ℕ} → 1 ≤ k → k ≡ readingsIn rules s → d ≡ numberIn rules s → total ≡ totalIn rules (length s)
+      → given (d ∷ total ∷ k ∷ []) [] ≡ rankIn rules s
   unfolding rankIn firstThatApplies
-  rank-found one d total e f =
-      rw (e, f)
-      (sym (answer-accepted (numberIn rules s ∷ totalIn rules (length s) ∷ []) [] []
-      (row-passed 17 ((leb 2 (readingsIn rules s), 18) ∷ []) (ne-eqb (readingsIn rules s) 0 (λ z. omega arith))
-      ∙ row-passed 18 [] (lt-leb 2 (readingsIn rules s) (omega arith)))))
+  rank-found some i e f =
+      rw (e, f, i) (sym (answer-accepted figures [] [] (row-passed 17 [] (ne-eqb (readingsIn rules s) 0 (λ z. omega arith)))))
 
 -- ---- for the grammar
 
@@ -118,11 +108,12 @@ module _ (g : List ℕ) (n d : ℕ) (out : List ℕ) where
 
 module _ (g s : List ℕ) where
   pub rank-unprepared : (r : Refusal) → refusalNumber r ≡ firstThatApplies (preparedRows g (length s))
-      → refused (refusalNumber r) 2 [] ≡ rankOf g s
+      → refused (refusalNumber r) 3 [] ≡ rankOf g s
   unfolding rankOf
-  rank-unprepared r e = rw (refused-of g (length s) r _ e) (sym (answer-refused (refusalNumber r) (numberOf g s ∷ totalOf g (length s) ∷ []) [] [] (number-some r)))
+  rank-unprepared r e =
+      rw (refused-of g (length s) r _ e) (sym (answer-refused (refusalNumber r) (numberOf g s ∷ totalOf g (length s) ∷ readingsOf g s ∷ []) [] [] (number-some r)))
 
   pub rank-tabled : {rules : List (List ℕ)} → firstThatApplies (preparedRows g (length s)) ≡ 0 → Holds g rules → rankIn rules s ≡ rankOf g s
   unfolding rankOf rankIn
   rank-tabled none h =
-      rw (left-of g (length s) ((eqb (readingsOf g s) 0, 17) ∷ (leb 2 (readingsOf g s), 18) ∷ []) none, total-is h (length s), readings-are h s, number-is h s)
+      rw (left-of g (length s) ((eqb (readingsOf g s) 0, 17) ∷ []) none, total-is h (length s), readings-are h s, number-is h s)

@@ -177,7 +177,7 @@ module _ {rules plan map counts : List (List ℕ)} {s sets : List ℕ} {totals :
             ∙ mapped .right 0 (startIn rules) (length s) (start-asked counted) (whole counted) (f .ready .planned .cut .whole)
             ∙ readings-weigh rules (f .everywhere) (length s) short lettered s refl (p .letters) (p .small)
 
-        pub find-sought : 1 ≤ readingsIn rules s → Sought rules after lettered counts a 0 (length s) 0
+        pub find-sought : {ticket : ℕ} → ticket < readingsIn rules s → Sought rules after lettered counts a 0 (length s) ticket
         find-sought h =
             rw e
             (record {

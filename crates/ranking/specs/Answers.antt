@@ -46,14 +46,14 @@ derives s t = same (sentence t) s
 abbrev pub readingsOf : (g s : List ℕ) → ℕ
 readingsOf g s = howMany (derives s) (fullList g (length s))
 
--- how many derivations stand before the sentence's first one: the derivation number of its one derivation
+-- how many derivations stand before the sentence's first one: the lowest derivation number among its derivations
 abbrev pub numberOf : (g s : List ℕ) → ℕ
 numberOf g s = firstPlace (derives s) (fullList g (length s))
 
--- "17. The sentence has no derivation from S (*Number*)." "18. The sentence has two or more derivations from S (*Number*)."
+-- "17. The sentence has no derivation from S (*Number*)." 18 is no line any more (document 02, U6).
 abbrev pub rankRows : (g s : List ℕ) → List Row
-rankRows g s = preparedRows g (length s) ++ ((eqb (readingsOf g s) 0, 17) ∷ (leb 2 (readingsOf g s), 18) ∷ [])
+rankRows g s = preparedRows g (length s) ++ ((eqb (readingsOf g s) 0, 17) ∷ [])
 
--- "*Number* (bank, sentence) gives its derivation number and T."
+-- "Beside T, Number now gives how many derivations the sentence has and the lowest derivation number among them." (document 02, U6)
 unfoldable pub rankOf : (g s : List ℕ) → Answer
-rankOf g s = answer (rankRows g s) (numberOf g s ∷ totalOf g (length s) ∷ []) [] []
+rankOf g s = answer (rankRows g s) (numberOf g s ∷ totalOf g (length s) ∷ readingsOf g s ∷ []) [] []

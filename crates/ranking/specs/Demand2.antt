@@ -2,7 +2,7 @@
 -- sentences and their order are those of the grammar's specs/Trees.antt. T is a sum of products; `counted` says what it counts.
 -- Assumes nothing: these are definitions.
 use mathlib.Core.Path.{_≡_}
-use mathlib.Core.Logic.{_↔_}
+use mathlib.Core.Logic.{_↔_, _≢_}
 use mathlib.Core.List.{List, [], _∷_, _++_}
 use Prim.Native.Nat.{ℕ, _≤_}
 use lib.ListN.{length, take, drop}
@@ -33,6 +33,17 @@ pub record FullList (g : List ℕ) (n : ℕ) : Type 0 where
   pub ordered : Pairwise Before (fullList g n)
   pub number : (d : ℕ) (t : Tree) → At (fullList g n) d t → HasNumber g n t d
 
+-- t is a derivation of the sentence s
+abbrev pub Reading : (g s : List ℕ) → Tree → Type 0
+Reading g s t = Derivation g (length s) t × (sentence t ≡ s)
+
+-- "the lowest derivation number among them": d is that of t, the first of the sentence's derivations in document 01's order, and none has a lower one
+pub record Lowest (g s : List ℕ) (t : Tree) (d : ℕ) : Type 0 where
+  pub reading : Reading g s t
+  pub number : HasNumber g (length s) t d
+  pub first : (u : Tree) → Reading g s u → u ≢ t → Before t u
+  pub none-lower : (u : Tree) (e : ℕ) → Reading g s u → HasNumber g (length s) u e → d ≤ e
+
 -- t is a derivation of the sentence s, and there is no other
 pub record OneDerivation (g s : List ℕ) (t : Tree) : Type 0 where
   pub derivation : Derivation g (length s) t
@@ -51,16 +62,18 @@ pub record Demand2 (g : List ℕ) : Type 0 where
   -- *Give*, where it isn't refused, writes the sentence of the derivation that has the number d
   pub gives : (n d : ℕ) (out : List ℕ) → unrankOf g n d out .refusal ≡ 0
       → (t : Tree) × HasNumber g n t d × (unrankOf g n d out ≡ given (totalOf g n ∷ []) (sentence t ++ drop n out))
-  -- *Number*, where it isn't refused, gives the number of the sentence's one derivation
+  -- *Number*, where it isn't refused, "gives how many derivations the sentence has and the lowest derivation number among them" (document 02, U6)
   pub numbers : (s : List ℕ) → rankOf g s .refusal ≡ 0
-      → (t : Tree) × OneDerivation g s t × (d : ℕ) × HasNumber g (length s) t d × (rankOf g s ≡ given (d ∷ totalOf g (length s) ∷ []) [])
-  -- where T can be given, *Number* refuses with 17 a sentence without a derivation, with 18 one with two or more, and no other
+      → (k : ℕ) × Exactly k (Reading g s) × (t : Tree) × (d : ℕ) × Lowest g s t d × (rankOf g s ≡ given (d ∷ totalOf g (length s) ∷ k ∷ []) [])
+  -- where T can be given, *Number* refuses with 17 a sentence without a derivation, and no other
   pub readings : (s : List ℕ) → countOf g (length s) .refusal ≡ 0
-      → (k : ℕ) × Exactly k (λ t. Derivation g (length s) t × (sentence t ≡ s))
-      × (k ≡ 0 → rankOf g s .refusal ≡ 17) × (k ≡ 1 → rankOf g s .refusal ≡ 0) × (2 ≤ k → rankOf g s .refusal ≡ 18)
-  -- *Give* after *Number*: a sentence's number gives the sentence
-  pub there : (s out : List ℕ) (d : ℕ) → rankOf g s ≡ given (d ∷ totalOf g (length s) ∷ []) [] → length s ≤ length out
+      → (k : ℕ) × Exactly k (Reading g s) × (k ≡ 0 → rankOf g s .refusal ≡ 17) × (1 ≤ k → rankOf g s .refusal ≡ 0)
+  -- with one derivation it gives the number of that one
+  pub alone : (s : List ℕ) (t : Tree) → countOf g (length s) .refusal ≡ 0 → OneDerivation g s t
+      → (d : ℕ) × HasNumber g (length s) t d × (rankOf g s ≡ given (d ∷ totalOf g (length s) ∷ 1 ∷ []) [])
+  -- *Give* after *Number*: a sentence's number gives the sentence, however many derivations it has
+  pub there : (s out : List ℕ) (d k : ℕ) → rankOf g s ≡ given (d ∷ totalOf g (length s) ∷ k ∷ []) [] → length s ≤ length out
       → unrankOf g (length s) d out ≡ given (totalOf g (length s) ∷ []) (s ++ drop (length s) out)
-  -- *Number* after *Give*: a sentence that was given has the number that it was given by, unless it has a second derivation
-  pub back : (n d : ℕ) (out s : List ℕ) → unrankOf g n d out .refusal ≡ 0 → s ≡ take n (unrankOf g n d out .buffer) → rankOf g s .refusal ≡ 0
-      → rankOf g s ≡ given (d ∷ totalOf g n ∷ []) []
+  -- *Number* after *Give*: a sentence that was given has at most the number that it was given by, and just that one unless it has a second derivation
+  pub back : (n d : ℕ) (out s : List ℕ) → unrankOf g n d out .refusal ≡ 0 → s ≡ take n (unrankOf g n d out .buffer)
+      → (e k : ℕ) × (e ≤ d) × (k ≡ 1 → e ≡ d) × (rankOf g s ≡ given (e ∷ totalOf g n ∷ k ∷ []) [])

@@ -1,4 +1,4 @@
-// *Number*: the derivation number of a sentence.
+// *Number*: how many derivations a sentence has, and the lowest of their numbers.
 ghost use mathlib.Core.Path.{_≡_};
 ghost use lib.ListN.{length};
 ghost use Rattle.ranking.specs.Answers.{rankOf};
@@ -17,19 +17,25 @@ use grammar::rules;
 use walk::nodes;
 use walk::nodes::Node;
 
-// The derivations of a sentence: none, one, by its number, or more.
+// The derivations of a sentence: none, or how many and the lowest of their numbers.
 pub enum Found {
     None,
-    One(DerivationNumber),
-    Many,
+    Some {
+        derivations: u64,
+        lowest: DerivationNumber,
+    },
 }
 
 pub enum RankAnswer {
-    Given(DerivationNumber, u64),
+    Given {
+        lowest: DerivationNumber,
+        total: u64,
+        derivations: u64,
+    },
     Refused(Refusal),
 }
 
-// The derivations of a sentence of the plan's length: chosen by the sentence, measured by the counts.
+// The derivations of a sentence of the plan's length: chosen by the sentence, measured by the counts. Ticket 0 is the first's.
 pub fn find(
     rules: &[[u8; 256]],
     plan: &[[u32; 32]; 4],
@@ -50,16 +56,16 @@ pub fn find(
         p: 0,
         m: n,
     };
-    let count = nodes::total(totals, map, node);
-    if count == 0 {
+    let derivations = nodes::total(totals, map, node);
+    if derivations == 0 {
         return Found::None;
-    }
-    if 2 <= count {
-        return Found::Many;
     }
     let mut words = [0u8; 16];
     let f = walk::choose(rules, totals, map, counts, node, 0, &mut words[0..n]);
-    Found::One(DerivationNumber(f.place))
+    Found::Some {
+        derivations: derivations,
+        lowest: DerivationNumber(f.place),
+    }
 }
 
 // With the tables at hand.
@@ -78,8 +84,14 @@ fn number_by(rules: &mut [[u8; 256]], sentence: &[u8], totals: &mut [[u64; 32]])
     let f = find(rules, &plan, &mut map, &counts, sentence, &mut sets, totals);
     match f {
         Found::None => RankAnswer::Refused(Refusal::SentenceUnderivable),
-        Found::Many => RankAnswer::Refused(Refusal::SentenceAmbiguous),
-        Found::One(d) => RankAnswer::Given(d, unrank::total(rules, totals, n)),
+        Found::Some {
+            derivations: k,
+            lowest: d,
+        } => RankAnswer::Given {
+            lowest: d,
+            total: unrank::total(rules, totals, n),
+            derivations: k,
+        },
     }
 }
 

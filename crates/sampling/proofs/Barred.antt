@@ -80,10 +80,10 @@ module _ (g : List ℕ) (n : ℕ) where
   -- a sentence with one derivation: its number is a place of the full list, the sentence stands there, and nowhere else
   module _ (s : List ℕ) (e : length s ≡ n) (one : readingsOf g s ≡ 1) where
     pub number-listed : numberOf g s < length (fullList g n)
-    number-listed = omega (arith, number-inside g s one, listed-total g (length s), ap (λ (m : ℕ). length (fullList g m)) e)
+    number-listed = omega (arith, number-inside g s (omega arith), listed-total g (length s), ap (λ (m : ℕ). length (fullList g m)) e)
 
     pub number-entry : entryOf g n (numberOf g s) ≡ s
-    number-entry = ap (λ (m : ℕ). entryOf g m (numberOf g s)) (sym e) ∙ number-says g s one
+    number-entry = ap (λ (m : ℕ). entryOf g m (numberOf g s)) (sym e) ∙ number-says g s (omega arith)
 
     pub entry-only : (d : ℕ) → d < length (fullList g n) → entryOf g n d ≡ s → d ≡ numberOf g s
     entry-only d h f = number-only g s one d (rw e (omega (arith, listed-total g n))) (rw e f)

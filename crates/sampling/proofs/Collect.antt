@@ -4,7 +4,7 @@
 use mathlib.Core.Path.{_≡_, refl, sym, ap, _∙_}
 use mathlib.Core.Bool.{Bool, true, false, cond, _&&_, _||_}
 use mathlib.Core.List.{List, [], _∷_, _++_, map, append-nil, append-assoc}
-use Prim.Native.Nat.{ℕ, suc, _+_, _-_, _≤_, _<_}
+use Prim.Native.Nat.{ℕ, suc, _+_, _≤_, _<_}
 use native.Mathlib.Omega.{arith}
 use native.Mathlib.Numerals.{add-one}
 use borrow.Author.Tests.{eq-eqb, ne-eqb, le-leb, lt-leb}
@@ -17,7 +17,7 @@ use Rattle.charts.specs.Inner.Plan.{lengthIn}
 use Rattle.ranking.specs.Inner.Inside.{readingsIn, numberIn}
 use Rattle.ranking.specs.Inner.Ranking.{FindSought, Says, FoundAs}
 use Rattle.ranking.specs.declared.rank.Found.{Found}
-use Rattle.ranking.specs.declared.rank.Found.the-variants.{None, One, Many}
+use Rattle.ranking.specs.declared.rank.Found.the-variants.{None, Some}
 use Rattle.ranking.specs.declared.unrank.DerivationNumber.{DerivationNumber}
 use Rattle.history.specs.Layout.{recordsOf, headOf, recordWords}
 use Rattle.history.specs.Chain.{numbersFrom}
@@ -70,8 +70,10 @@ module _ {rules plan map counts : List (List ℕ)} {sets : List ℕ} {totals : L
       where
         adds : (f : Found) → Says rules s f → Adds rules (lengthIn plan) s f
         adds None z = read-none rules (lengthIn plan) s e z
-        adds (One d) z = rw (z .1) (read-one rules (lengthIn plan) s e (z .0))
-        adds Many z = read-many rules (lengthIn plan) s e z
+        adds (Some k d) z = (
+          λ many. read-many rules (lengthIn plan) s e (omega (arith, z .1)),
+          λ few. rw (z .2) (read-one rules (lengthIn plan) s e (omega (arith, z .0, z .1))),
+        )
 
 -- ---- the whole chain
 
@@ -150,8 +152,8 @@ module _ (plan : List (List ℕ)) {rules : List (List ℕ)} {h : List ℕ} {numb
     collect-room = omega (arith, w .room, fewer)
 
     module _ {map : List (List ℕ)} {sets : List ℕ} {totals : List (List ℕ)} {f : Found} (told : HeardFoundAs rules plan map s sets totals f) where
-      pub collect-many : f ≡ Many → {numbers′ : List ℕ} → CollectedAs rules plan h numbers′ Ambiguous
-      collect-many case = let q = rw case at told in record { holds = sym (w .many) ∙ rw (comes, q .adds) }
+      pub collect-many : {k : ℕ} {d : DerivationNumber} → f ≡ Some k d → 2 ≤ k → {numbers′ : List ℕ} → CollectedAs rules plan h numbers′ Ambiguous
+      collect-many case many = let q = rw case at told in record { holds = sym (w .many) ∙ rw (comes, q .adds .0 many) }
 
       -- the numbers that it adds stand behind those so far
       behind : (k : List ℕ) → manyIn rules (lengthIn plan) s ≡ false → numbersIn rules (lengthIn plan) s ≡ k → length k ≤ 1
@@ -178,11 +180,11 @@ module _ (plan : List (List ℕ)) {rules : List (List ℕ)} {h : List ℕ} {numb
           let q = rw case at told in
           behind [] (q .adds .0) (q .adds .1) (omega arith) e (omega arith) (sym (append-nil (take count numbers))) refl
 
-      pub collect-one : {d : DerivationNumber} → f ≡ One d → {next : ℕ} → next ≡ nextAt h at
+      pub collect-one : {k : ℕ} {d : DerivationNumber} → f ≡ Some k d → k < 2 → {next : ℕ} → next ≡ nextAt h at
           → Collecting rules h (lengthIn plan) (set numbers count (d .0)) next (count + 1)
-      collect-one {d} case e =
-          let q = rw case at told in
-          behind (d .0 ∷ []) (q .adds .0) (q .adds .1) (omega arith) e refl (rw (add-one, take-suc-set numbers count (d .0) (omega (arith, collect-room, w .long))) refl) (length-set numbers count (d .0))
+      collect-one {d = d} case few e =
+          let q = (rw case at told) .adds .1 few in
+          behind (d .0 ∷ []) (q .0) (q .1) (omega arith) e refl (rw (add-one, take-suc-set numbers count (d .0) (omega (arith, collect-room, w .long))) refl) (length-set numbers count (d .0))
 
 -- what is collected, once its case is known
 pub collect-case : {rules plan : List (List ℕ)} {h : List ℕ} {numbers : List ℕ} {c d : Collected} → CollectedAs rules plan h numbers c → c ≡ d

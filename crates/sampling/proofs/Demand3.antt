@@ -30,9 +30,9 @@ use Rattle.grammar.specs.Trees.{Tree, leaf, sentence, Before}
 use Rattle.grammar.proofs.Enumeration.{sound, complete}
 use Rattle.grammar.proofs.Order as order
 use Rattle.counting.specs.Refusals.{preparedRows}
-use Rattle.ranking.specs.Answers.{fullList, totalOf, readingsOf}
+use Rattle.ranking.specs.Answers.{fullList, totalOf}
 use Rattle.ranking.specs.Demand2.{HasNumber, OneDerivation}
-use Rattle.ranking.proofs.Demand2.{at-has, one-derivation, exactly-readings}
+use Rattle.ranking.proofs.Demand2.{at-has, one-derivation, one-read}
 use Rattle.history.specs.Refusals as history
 use Rattle.history.specs.Heard.{heard}
 use Rattle.sampling.specs.Question.{plainly}
@@ -149,21 +149,6 @@ module _ (g h : List ℕ) (n : ℕ) where
 
 -- ---- the heard sentences that have one derivation
 
--- a sentence has one derivation exactly if one is counted
-one-read : (g s : List ℕ) → (t : Tree) × OneDerivation g s t → readingsOf g s ≡ 1
-one-read g s (t, one) =
-    let e = exactly-readings g s in
-    exactly-unique e
-    (record {
-      listed = t ∷ [];
-      many = refl;
-      once = pairwise-one _≢_ t;
-      all = λ u. (
-        λ p. List·Memᴰ·head (one .alone u (p .0) (p .1)),
-        λ m. rw (List·Memᴰ·eq-of-singleton m) (one .derivation, one .says),
-      );
-    })
-
 module _ (g h : List ℕ) (n : ℕ) (diary : history.Accepted h) (clear : ambiguous g h (plainly n) ≡ false) where
   heard-read : Exactly (heardOf g h (plainly n)) (λ s. (length s ≡ n) × (heard h s ≡ true) × ((t : Tree) × OneDerivation g s t))
   heard-read =
@@ -173,7 +158,7 @@ module _ (g h : List ℕ) (n : ℕ) (diary : history.Accepted h) (clear : ambigu
         many = e .many;
         once = e .once;
         all = λ s. (
-          λ p. e .all s .0 (p .0, p .1, one-read g s (p .2)),
+          λ p. e .all s .0 (p .0, p .1, one-read g s (p .2 .0) (p .2 .1)),
           λ m. let q = e .all s .1 m in (q .0, q .1, (_, one-derivation g s (q .2))),
         );
       }
@@ -256,7 +241,7 @@ module _ (g h : List ℕ) (n : ℕ) (p : Premises g h (plainly n)) where
   module _ (single : (s : List ℕ) → length s ≡ n → Single g s) (out : ℕ → List ℕ) (long : (q : ℕ) → n ≤ length (out q)) where
     once-each : (s : List ℕ) → length s ≡ n → Derivable g s → heard h s ≡ false
         → Exactly 1 (λ q. (q < length (unheard g h (plainly n))) × (take n (drawOf g h n q (out q) .buffer) ≡ s))
-    once-each s e (t, d, says) u =
+    once-each s e (t, (d, says)) u =
         record {
           listed = place .0 ∷ [];
           many = refl;
@@ -296,7 +281,7 @@ module _ (g h : List ℕ) (n : ℕ) (p : Premises g h (plainly n)) where
           sentence t,
           draw-words q (out q) k (long q),
           l,
-          (t, rw l (sound (chain g) (start g) n t (entry-left g h n q k .0)), refl),
+          (t, (rw l (sound (chain g) (start g) n t (entry-left g h n q k .0)), refl)),
           not-true (heard h (sentence t)) (entry-left g h n q k .1),
         )
 
@@ -325,7 +310,7 @@ module _ (g h h′ : List ℕ) (n : ℕ) (bars : SameBarred g h h′ (plainly n)
   outside-same : (t : Tree) → t ∈ fullList g n → outside h t ≡ outside h′ t
   outside-same t m =
       let l = listed-length g n t m in
-      let d : Derivable g (sentence t) = (t, rw l (sound (chain g) (start g) n t m), refl) in
+      let d : Derivable g (sentence t) = (t, (rw l (sound (chain g) (start g) n t m), refl)) in
       ap not (both-ways (heard h (sentence t)) (heard h′ (sentence t)) (λ e. bars (sentence t) l .0 (e, d) .0) (λ e. bars (sentence t) l .1 (e, d) .0))
 
   barred-same : barred g h (plainly n) ≡ barred g h′ (plainly n)
@@ -339,7 +324,7 @@ module _ (g h h′ : List ℕ) (n : ℕ) (bars : SameBarred g h h′ (plainly n)
 
   -- what is heard in the second is single if what is heard in the first is: where it has no derivation there is nothing to show
   singles : ((s : List ℕ) → length s ≡ n → heard h s ≡ true → Single g s) → (s : List ℕ) → length s ≡ n → heard h′ s ≡ true → Single g s
-  singles f s l e t u dt du st su = f s l (bars s l .1 (e, (t, dt, st)) .0) t u dt du st su
+  singles f s l e t u dt du st su = f s l (bars s l .1 (e, (t, (dt, st))) .0) t u dt du st su
 
 module _ (g h h′ : List ℕ) (n : ℕ) (diary : history.Accepted h) (diary′ : history.Accepted h′) (bars : SameBarred g h h′ (plainly n)) where
   back : SameBarred g h′ h (plainly n)

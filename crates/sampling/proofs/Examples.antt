@@ -4,7 +4,7 @@
 use mathlib.Core.Path.{_≡_, refl, sym, ap, _∙_}
 use mathlib.Core.Bool.{Bool, true, false, _||_, or-false}
 use mathlib.Core.List.{List, [], _∷_, _++_, map}
-use Prim.Native.Nat.{ℕ, zero, suc, _+_, _-_, _*_, _≤_, _<_}
+use Prim.Native.Nat.{ℕ, zero, suc, _+_, _-_, _≤_, _<_}
 use native.Mathlib.Omega.{arith}
 use native.Mathlib.Decide.{ℕ-discrete}
 use lib.ListN.{length, getD, drop}
@@ -26,7 +26,7 @@ use Rattle.counting.specs.Answers.{countOf}
 use Rattle.counting.proofs.Totals.{T-one}
 use Rattle.counting.proofs.OneLength.{OneLength, words-alone, power, T-power}
 use Rattle.counting.proofs.Ten.{needed-within}
-use Rattle.ranking.specs.Answers.{entryOf, unrankRows, unrankOf, numberOf, rankRows, rankOf}
+use Rattle.ranking.specs.Answers.{entryOf, unrankRows, unrankOf, rankOf}
 use Rattle.history.specs.Layout.{twoAt, recordWords}
 use Rattle.history.specs.Chain.{numbersFrom}
 use Rattle.history.specs.Heard.{heard}
@@ -118,11 +118,11 @@ gives-no-eight out =
     ∙ row-applies 16 ((ltb (length out) 3, 20) ∷ []) (le-leb (T (chain F) 0 3) 8 (omega (arith, F-eight))) in
     rw e (answer-refused 16 (T (chain F) 0 3 ∷ []) out (entryOf F 3 8 ++ drop 3 out) (omega arith))
 
-ranks-101 : rankOf F (1 ∷ 0 ∷ 1 ∷ []) ≡ given (5 ∷ 8 ∷ []) []
+ranks-101 : rankOf F (1 ∷ 0 ∷ 1 ∷ []) ≡ given (5 ∷ 8 ∷ 1 ∷ []) []
 unfolding rankOf firstThatApplies trees treesTo metFrom rest
 ranks-101 =
-    answer-accepted (5 ∷ T (chain F) 0 3 ∷ []) [] []
-    (rows-pass (preparedRows F 3) ((false, 17) ∷ (false, 18) ∷ []) refl (F-prepared 3 (omega arith) (omega arith)))
+    answer-accepted (5 ∷ T (chain F) 0 3 ∷ 1 ∷ []) [] []
+    (rows-pass (preparedRows F 3) ((false, 17) ∷ []) refl (F-prepared 3 (omega arith) (omega arith)))
     ∙ rw F-eight
 
 -- ---- *Left* and *Draw*
@@ -224,12 +224,12 @@ G-count : (n t : ℕ) → 1 ≤ n → n ≤ 4 → T (chain G) 0 n ≡ t → coun
 unfolding countOf
 G-count n t l u e = answer-accepted (T (chain G) 0 n ∷ []) [] [] (G-prepared n l u) ∙ rw e
 
-two-readings : rankOf G (0 ∷ 0 ∷ 0 ∷ []) ≡ refused 18 2 []
+two-readings : rankOf G (0 ∷ 0 ∷ 0 ∷ []) ≡ given (0 ∷ 2 ∷ 2 ∷ []) []
 unfolding rankOf firstThatApplies trees treesTo metFrom rest
 two-readings =
-    let e : firstThatApplies (rankRows G (0 ∷ 0 ∷ 0 ∷ [])) ≡ 18
-    = rows-pass (preparedRows G 3) ((false, 17) ∷ (true, 18) ∷ []) refl (G-prepared 3 (omega arith) (omega arith)) in
-    rw e (answer-refused 18 (numberOf G (0 ∷ 0 ∷ 0 ∷ []) ∷ T (chain G) 0 3 ∷ []) [] [] (omega arith))
+    answer-accepted (0 ∷ T (chain G) 0 3 ∷ 2 ∷ []) [] []
+    (rows-pass (preparedRows G 3) ((false, 17) ∷ []) refl (G-prepared 3 (omega arith) (omega arith)))
+    ∙ rw (ap (λ (x : List ℕ). getD x 2 0) G-totals)
 
 -- ---- all of them
 

@@ -10,9 +10,9 @@ use Prim.Native.Nat.{ℕ, _≤_, _<_}
 use native.Mathlib.Omega.{arith}
 use lib.ListN.{length}
 use lib.Dec.{leb}
-use borrow.Author.Tests.{lt-leb}
+use borrow.Author.Tests.{leb-true, le-leb, lt-leb}
 use Rattle.lists.proofs.Orders.{few-same, same-few}
-use Rattle.lists.proofs.Tests.{within-facts, within-both, some-clear}
+use Rattle.lists.proofs.Tests.{within-facts, within-both, some-∈, ∈-some, some-clear}
 use Rattle.answers.specs.Answer.{firstThatApplies}
 use Rattle.answers.specs.Length.{badLength}
 use Rattle.answers.proofs.Refusals.{row-passed, row-clear, rows-pass, rows-clear, answer-number}
@@ -20,13 +20,14 @@ use Rattle.grammar.specs.Layout.{start}
 use Rattle.grammar.specs.Chains.{chain}
 use Rattle.grammar.specs.Refusals.{grammarRows, Accepted}
 use Rattle.counting.specs.Refusals.{AllFit, tooLarge, preparedRows}
+use Rattle.counting.specs.Answers.{countOf}
 use Rattle.counting.proofs.Ten.{counts-small}
 use Rattle.ranking.specs.Answers.{totalOf, readingsOf}
-use Rattle.ranking.proofs.Demand2.{exactly-readings}
+use Rattle.ranking.proofs.Demand2.{exactly-readings, figure-readings}
 use Rattle.history.specs.Refusals as history
 use Rattle.history.specs.Heard.{heard}
 use Rattle.sampling.specs.Question.{plainly}
-use Rattle.sampling.specs.Unheard.{ofLength, heardOf, leftOf, ambiguous}
+use Rattle.sampling.specs.Unheard.{ofLength, heardOf, leftOf, ambiguous, derivationsGiven, Fifteen}
 use Rattle.sampling.specs.Answers.{remainingRows, remainingOf, remainingTo}
 use Rattle.sampling.specs.Demand3.{Single, Premises}
 use Rattle.sampling.proofs.Barred.{length-∈, ∈-length, few-readings}
@@ -55,6 +56,20 @@ single-readings g s =
       λ single. rw (e .many) at (same-few (e .listed) (e .once)
           (λ t u m k. let p = e .all t .1 m in let q = e .all u .1 k in single t u (p .0) (q .0) (p .1) (q .1))),
       λ few t u dt du st su. few-same (e .listed) (rw (e .many) few) t u (e .all t .0 (dt, st)) (e .all u .0 (du, su)),
+    )
+
+-- 15, by what *Number* says of a heard sentence
+pub fifteen : (g h : List ℕ) (n : ℕ) → countOf g n .refusal ≡ 0 → history.Accepted h → Fifteen g h (plainly n)
+unfolding ambiguous
+fifteen g h n ok diary =
+    let given : (s : List ℕ) → length s ≡ n → derivationsGiven g s ≡ readingsOf g s = λ s l. figure-readings g s (rw l ok) in (
+      λ e.
+          let q = ∈-some (λ s. leb 2 (readingsOf g s)) (ofLength n h) e in
+          let r = length-∈ g h n diary (q .0) (q .1) in
+          (q .0, r .1, r .0, omega (arith, given (q .0) (r .1), leb-true 2 (readingsOf g (q .0)) (q .2))),
+      λ q.
+          some-∈ (λ s. leb 2 (readingsOf g s)) (q .0) (ofLength n h) (∈-length g h n diary (q .0) (q .2) (q .1))
+          (le-leb 2 (readingsOf g (q .0)) (omega (arith, given (q .0) (q .1), q .3))),
     )
 
 -- with an accepted history

@@ -17,7 +17,7 @@ use Rattle.grammar.specs.Refusals.{Accepted}
 use Rattle.grammar.specs.Trees.{Tree, sentence, Before}
 use Rattle.counting.specs.Refusals.{AllFit}
 use Rattle.ranking.specs.Answers.{totalOf}
-use Rattle.ranking.specs.Demand2.{Derivation, HasNumber, OneDerivation}
+use Rattle.ranking.specs.Demand2.{Derivation, HasNumber, Reading, OneDerivation}
 use Rattle.history.specs.Refusals as history
 use Rattle.history.specs.Heard.{heard}
 use Rattle.sampling.specs.Question.{Question}
@@ -80,7 +80,7 @@ pub record Demand3 (g h : List ℕ) (a : Question) : Type 0 where
 
 -- the sentence s has a derivation
 abbrev pub Derivable : (g s : List ℕ) → Type 0
-Derivable g s = (t : Tree) × Derivation g (length s) t × (sentence t ≡ s)
+Derivable g s = (t : Tree) × Reading g s t
 
 -- Where no sentence of length n has two derivations, each derivable sentence that is unheard is drawn by exactly one number below left,
 -- and nothing else is drawn.

@@ -49,10 +49,10 @@ pub record Examples : Type 0 where
   pub p1 : countOf F 1 ≡ given (0 ∷ []) []
   pub p2 : countOf F 2 ≡ given (4 ∷ []) []
   pub p3 : countOf F 16 ≡ given (65536 ∷ []) []
-  -- "P4: F, length 3, number 5: words 1 0 1. P5: number 8: refused 16. P6: sentence 1 0 1: number 5."
+  -- "P4: F, length 3, number 5: words 1 0 1. P5: number 8: refused 16. P6: sentence 1 0 1: number 5", of one derivation
   pub p4 : (out : List ℕ) → 3 ≤ length out → unrankOf F 3 5 out ≡ given (8 ∷ []) (1 ∷ 0 ∷ 1 ∷ drop 3 out)
   pub p5 : (out : List ℕ) → unrankOf F 3 8 out ≡ refused 16 1 out
-  pub p6 : rankOf F (1 ∷ 0 ∷ 1 ∷ []) ≡ given (5 ∷ 8 ∷ []) []
+  pub p6 : rankOf F (1 ∷ 0 ∷ 1 ∷ []) ≡ given (5 ∷ 8 ∷ 1 ∷ []) []
   -- P7, the first line's figures: T 4, heard 1, left 3; then those of the draws 0 to 2
   pub p7 : remainingOf F heard01 2 ≡ given (4 ∷ 1 ∷ 3 ∷ []) []
   pub p7-draws : (out : List ℕ) → 2 ≤ length out
@@ -60,7 +60,7 @@ pub record Examples : Type 0 where
       ≡ given (3 ∷ 0 ∷ []) (0 ∷ 0 ∷ drop 2 out) ∷ given (3 ∷ 2 ∷ []) (1 ∷ 0 ∷ drop 2 out) ∷ given (3 ∷ 3 ∷ []) (1 ∷ 1 ∷ drop 2 out) ∷ []
   -- "P8: same diary, draw 3: refused 16."
   pub p8 : (out : List ℕ) → drawOf F heard01 2 3 out ≡ refused 16 2 out
-  -- "P9: T at 3 is 2, at 4 is 5. P10: sentence 0 0 0: refused 18."
+  -- "P9: T at 3 is 2, at 4 is 5." P10, sentence 0 0 0: "P10 becomes 2 derivations, lowest number 0" (document 02, U6)
   pub p9 : countOf G 3 ≡ given (2 ∷ []) []
   pub p9-four : countOf G 4 ≡ given (5 ∷ []) []
-  pub p10 : rankOf G (0 ∷ 0 ∷ 0 ∷ []) ≡ refused 18 2 []
+  pub p10 : rankOf G (0 ∷ 0 ∷ 0 ∷ []) ≡ given (0 ∷ 2 ∷ 2 ∷ []) []

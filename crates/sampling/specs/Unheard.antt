@@ -1,14 +1,16 @@
 -- The full list with derivation numbers and the unheard list (document 01, section 'The draws as one list'), and the heard sentences
 -- that *Left* counts. They come from the bytes of grammar and history, not from T and not from any call's answer.
 -- Assumes nothing: these are definitions.
-use mathlib.Core.Bool.{Bool, cond, not}
+use mathlib.Core.Path.{_≡_}
+use mathlib.Core.Logic.{_↔_}
+use mathlib.Core.Bool.{Bool, true, cond, not}
 use mathlib.Core.List.{List, [], _∷_}
-use Prim.Native.Nat.{ℕ, suc, _-_}
-use lib.ListN.{length}
+use Prim.Native.Nat.{ℕ, suc, _-_, _≤_}
+use lib.ListN.{length, getD}
 use lib.Dec.{leb, eqb}
 use Rattle.lists.specs.Searched.{someOf, same, keep}
 use Rattle.grammar.specs.Trees.{Tree, sentence}
-use Rattle.ranking.specs.Answers.{fullList, totalOf, readingsOf}
+use Rattle.ranking.specs.Answers.{fullList, totalOf, readingsOf, rankOf}
 use Rattle.history.specs.Heard.{sentencesIn, heard}
 use Rattle.sampling.specs.Question.{Question}
 
@@ -53,3 +55,11 @@ leftOf g h a = totalOf g (a .length) - heardOf g h a
 -- "15. A diary sentence of the named length has two or more derivations from S (*Left*, *Draw*)."
 unfoldable pub ambiguous : (g h : List ℕ) (a : Question) → Bool
 ambiguous g h a = someOf (λ s. leb 2 (readingsOf g s)) (ofLength (a .length) h)
+
+-- how many derivations *Number* says that a sentence has: its third figure, 0 on a refusal
+abbrev pub derivationsGiven : (g s : List ℕ) → ℕ
+derivationsGiven g s = getD (rankOf g s .figures) 2 0
+
+-- "Refusal 15 is returned for the same diaries, by way of the new figure." (document 02, U6)
+abbrev pub Fifteen : (g h : List ℕ) (a : Question) → Type 0
+Fifteen g h a = (ambiguous g h a ≡ true) ↔ ((s : List ℕ) × (length s ≡ a .length) × (heard h s ≡ true) × (2 ≤ derivationsGiven g s))

@@ -55,10 +55,13 @@ pub fn collect(
         at = reader::after(h, at);
         match f {
             Found::None => {}
-            Found::Many => {
-                return Collected::Ambiguous;
-            }
-            Found::One(d) => {
+            Found::Some {
+                derivations: k,
+                lowest: d,
+            } => {
+                if 2 <= k {
+                    return Collected::Ambiguous;
+                }
                 numbers[count] = d.0;
                 count += 1;
             }

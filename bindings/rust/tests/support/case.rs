@@ -44,19 +44,20 @@ impl Call {
     pub fn figures(self) -> usize {
         match self {
             Call::CheckHistory | Call::Count | Call::Unrank | Call::Append => 1,
-            Call::CheckGrammar | Call::Rank | Call::Draw => 2,
-            Call::Remaining => 3,
+            Call::CheckGrammar | Call::Draw => 2,
+            Call::Rank | Call::Remaining => 3,
         }
     }
 
-    /// The refusals that document 01 allows it: a line concerns every call that takes what the line names.
+    /// The refusals that the documents allow it: a line concerns every call that takes what the line names, and 18 none
+    /// any more.
     pub fn refusals(self) -> Vec<u8> {
         match self {
             Call::CheckGrammar => (1..=8).collect(),
             Call::CheckHistory => (11..=14).collect(),
             Call::Count => (1..=10).collect(),
             Call::Unrank => (1..=10).chain([16, 20]).collect(),
-            Call::Rank => (1..=10).chain([17, 18]).collect(),
+            Call::Rank => (1..=10).chain([17]).collect(),
             Call::Remaining => (1..=15).collect(),
             Call::Draw => (1..=16).chain([20]).collect(),
             Call::Append => [9].into_iter().chain(11..=14).chain([19]).collect(),

@@ -1,6 +1,6 @@
 //! Cases from a seed: grammars of several families, histories, numbers, and damage of every kind.
 use super::case::{Call, Case};
-use super::reference::{Full, Grammar, Readings, next, read_grammar, totals};
+use super::reference::{Full, Grammar, next, read_grammar, totals};
 
 /// Numbers from a seed (splitmix64).
 pub struct Rng(u64);
@@ -209,7 +209,8 @@ fn beside(rng: &mut Rng) -> Draft {
     let many = if rng.once_in(2) { tower(rng) } else { f_words(15 + rng.below(200)) };
     let n = draft.chains.len();
     for chain in many.chains {
-        let moved = |body: Body| if body[0] == 1 { pair(n + usize::from(body[1]), n + usize::from(body[2])) } else { body };
+        let moved =
+            |body: Body| if body[0] == 1 { pair(n + usize::from(body[1]), n + usize::from(body[2])) } else { body };
         draft.chains.push(chain.into_iter().map(moved).collect());
     }
     draft.words = draft.words.max(many.words);
@@ -596,9 +597,8 @@ fn sentences(rng: &mut Rng, grammar: &Grammar, length: usize, count: usize) -> V
             (_, Some(full)) if total > 0 => full.sentence(rng.below_u64(total)),
             _ => random_sentence(rng, usize::from(grammar.words), length),
         };
-        let one = ambiguous_too
-            || next.len() != length
-            || full.as_ref().is_none_or(|full| full.readings(&next) != Readings::Many);
+        let one =
+            ambiguous_too || next.len() != length || full.as_ref().is_none_or(|full| full.readings(&next).count < 2);
         sentences.push(if one { next } else { rng.bytes(length) });
     }
     sentences

@@ -93,7 +93,7 @@ fn through_c(case: &Case) -> Result<Answer, String> {
                 let out = loan.sentence.slice_mut().as_mut_ptr();
                 ffi::pumpfennel_unrank(gp, gl, length, number, out, sl, first)
             }
-            Call::Rank => ffi::pumpfennel_rank(gp, gl, sp, sl, first, second),
+            Call::Rank => ffi::pumpfennel_rank(gp, gl, sp, sl, first, second, third),
             Call::Remaining => ffi::pumpfennel_remaining(gp, gl, hp, hl, length, first, second, third),
             Call::Draw => {
                 let out = loan.sentence.slice_mut().as_mut_ptr();
@@ -127,7 +127,7 @@ fn through_rust(case: &Case) -> Result<Answer, String> {
             let out = loan.sentence.slice_mut();
             pumpfennel::unrank(g, length, DerivationNumber(case.number), out).map(|total| vec![total])
         }
-        Call::Rank => pumpfennel::rank(g, loan.sentence.slice()).map(|r| vec![r.number.0, r.total]),
+        Call::Rank => pumpfennel::rank(g, loan.sentence.slice()).map(|r| vec![r.number.0, r.total, r.derivations]),
         Call::Remaining => pumpfennel::remaining(g, h, length).map(|r| vec![r.total, r.heard, r.remaining]),
         Call::Draw => {
             let out = loan.sentence.slice_mut();

@@ -116,12 +116,11 @@ pub fn next(grammar: &Grammar, t: &[Vec<u64>], a: usize) -> u128 {
     sum
 }
 
-/// How many derivations a sentence has, and the number of a single one.
+/// How many derivations a sentence has, and the lowest of their numbers, 0 where there are none.
 #[derive(Clone, Copy, Debug, PartialEq, Eq)]
-pub enum Readings {
-    None,
-    One(u64),
-    Many,
+pub struct Readings {
+    pub count: u64,
+    pub lowest: u64,
 }
 
 /// The full list of one length.
@@ -163,12 +162,8 @@ impl<'a> Full<'a> {
     pub fn readings(&self, sentence: &[u8]) -> Readings {
         match self {
             Full::Listed(list) => {
-                let mut places = (0..list.len()).filter(|&d| list[d] == sentence);
-                match (places.next(), places.next()) {
-                    (None, _) => Readings::None,
-                    (Some(d), None) => Readings::One(d as u64),
-                    _ => Readings::Many,
-                }
+                let places = || (0..).zip(list).filter(|(_, entry)| *entry == sentence).map(|(d, _)| d);
+                Readings { count: places().count() as u64, lowest: places().min().unwrap_or(0) }
             }
             Full::Counted(counted) => counted.readings(sentence),
         }
@@ -261,21 +256,22 @@ impl Counted<'_> {
         unreachable!("the number is below the total");
     }
 
-    /// How many derivations, none, one or 2 for more, of each run of the words: at `[m][p][A]`.
-    fn runs(&self, sentence: &[u8]) -> Vec<Vec<Vec<u8>>> {
+    /// How many derivations of each run of the words, at `[m][p][A]`; 2^64 - 1 where that isn't needed and there are more.
+    fn runs(&self, sentence: &[u8]) -> Vec<Vec<Vec<u64>>> {
         let chains = &self.grammar.chains;
-        let mut runs: Vec<Vec<Vec<u8>>> = vec![vec![]];
+        let mut runs: Vec<Vec<Vec<u64>>> = vec![vec![]];
         for m in 1..=sentence.len() {
             let mut row = vec![];
             for p in 0..=sentence.len() - m {
-                let mut cell = vec![0u8; chains.len()];
+                let mut cell = vec![0u64; chains.len()];
                 for (a, chain) in chains.iter().enumerate() {
                     for rule in chain {
                         match *rule {
-                            Rule::Word(word) => cell[a] += u8::from(m == 1 && word == sentence[p]),
+                            Rule::Word(word) => cell[a] += u64::from(m == 1 && word == sentence[p]),
                             Rule::Pair(b, c) => {
                                 for k in 1..m {
-                                    cell[a] = (cell[a] + runs[k][p][b] * runs[m - k][p + k][c]).min(2);
+                                    let both = runs[k][p][b].saturating_mul(runs[m - k][p + k][c]);
+                                    cell[a] = cell[a].saturating_add(both);
                                 }
                             }
                         }
@@ -290,15 +286,13 @@ impl Counted<'_> {
 
     fn readings(&self, sentence: &[u8]) -> Readings {
         let runs = self.runs(sentence);
-        match runs[sentence.len()][0][self.grammar.start] {
-            0 => Readings::None,
-            1 => Readings::One(self.place(&runs, sentence, self.grammar.start, 0, sentence.len())),
-            _ => Readings::Many,
-        }
+        let count = runs[sentence.len()][0][self.grammar.start];
+        let lowest = if count == 0 { 0 } else { self.place(&runs, sentence, self.grammar.start, 0, sentence.len()) };
+        Readings { count, lowest }
     }
 
-    /// How many derivations of A and length m stand before the one of the words from p on.
-    fn place(&self, runs: &[Vec<Vec<u8>>], sentence: &[u8], a: usize, p: usize, m: usize) -> u64 {
+    /// How many derivations of A and length m stand before the first one of the words from p on.
+    fn place(&self, runs: &[Vec<Vec<u64>>], sentence: &[u8], a: usize, p: usize, m: usize) -> u64 {
         let mut before = 0;
         for rule in &self.grammar.chains[a] {
             match *rule {
@@ -373,9 +367,9 @@ fn heard<'a>(sentences: &[&'a [u8]], length: usize, full: &Full) -> Result<(BTre
     let mut struck = BTreeSet::new();
     for sentence in &heard {
         match full.readings(sentence) {
-            Readings::None => {}
-            Readings::One(number) => assert!(struck.insert(number)),
-            Readings::Many => return Err(15),
+            Readings { count: 0, .. } => {}
+            Readings { count: 1, lowest } => assert!(struck.insert(lowest)),
+            _ => return Err(15),
         }
     }
     Ok((heard, struck))
@@ -411,11 +405,8 @@ fn attempt(case: &Case) -> Result<(Vec<u64>, Vec<u8>), u8> {
             let grammar = read_grammar(&case.grammar)?;
             let length = fitting(case.sentence.len() as u64)?;
             let full = Full::new(&grammar, length)?;
-            match full.readings(&case.sentence) {
-                Readings::None => Err(17),
-                Readings::One(number) => Ok((vec![number, full.total()], vec![])),
-                Readings::Many => Err(18),
-            }
+            let Readings { count, lowest } = full.readings(&case.sentence);
+            if count == 0 { Err(17) } else { Ok((vec![lowest, full.total(), count], vec![])) }
         }
         Call::Remaining => {
             let grammar = read_grammar(&case.grammar)?;

@@ -2,7 +2,7 @@
 -- Assumes nothing: these are definitions.
 use Prim.Native.Nat.{ℕ}
 use Rattle.answers.specs.declared.refusal.Refusal.{Refusal}
-use Rattle.answers.specs.declared.refusal.Refusal.the-variants.{GrammarTooShort, GrammarOutOfRange, GrammarWrongSize, GrammarBadRule, GrammarBadLink, GrammarRuleMetTwice, GrammarRuleOnNoChain, GrammarEqualRules, BadLength, TooManyDerivations, HistoryWrongSize, HistoryBadRecord, HistoryBadLink, HistoryBadChain, HeardAmbiguous, NumberBeyond, SentenceUnderivable, SentenceAmbiguous, HistoryFull, BufferTooShort}
+use Rattle.answers.specs.declared.refusal.Refusal.the-variants.{GrammarTooShort, GrammarOutOfRange, GrammarWrongSize, GrammarBadRule, GrammarBadLink, GrammarRuleMetTwice, GrammarRuleOnNoChain, GrammarEqualRules, BadLength, TooManyDerivations, HistoryWrongSize, HistoryBadRecord, HistoryBadLink, HistoryBadChain, HeardAmbiguous, NumberBeyond, SentenceUnderivable, HistoryFull, BufferTooShort}
 
 abbrev pub refusalNumber : Refusal → ℕ
 -- the grammar has fewer than 4 bytes
@@ -39,8 +39,6 @@ refusalNumber HeardAmbiguous = 15
 refusalNumber NumberBeyond = 16
 -- the sentence has no derivation
 refusalNumber SentenceUnderivable = 17
--- the sentence has two or more derivations
-refusalNumber SentenceAmbiguous = 18
 -- the history has 1,000 records or no room for one more
 refusalNumber HistoryFull = 19
 -- the sentence's buffer is shorter than the length

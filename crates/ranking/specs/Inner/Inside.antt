@@ -37,7 +37,7 @@ unrankIn rules n d out =
 
 unfoldable pub rankIn : (rules : List (List ℕ)) (s : List ℕ) → Answer
 rankIn rules s =
-    answer ((eqb (readingsIn rules s) 0, 17) ∷ (leb 2 (readingsIn rules s), 18) ∷ []) (numberIn rules s ∷ totalIn rules (length s) ∷ []) [] []
+    answer ((eqb (readingsIn rules s) 0, 17) ∷ []) (numberIn rules s ∷ totalIn rules (length s) ∷ readingsIn rules s ∷ []) [] []
 
 -- the counts, a derivation with the number d, and room for its sentence
 pub record WriteSought (rules totals : List (List ℕ)) (n d : ℕ) (out : List ℕ) : Type 0 where

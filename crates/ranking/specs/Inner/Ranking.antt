@@ -12,7 +12,7 @@ use Rattle.charts.specs.Inner.Chart.{Blank, Clean}
 use Rattle.charts.specs.Inner.Ready.{Ready}
 use Rattle.ranking.specs.Inner.Inside.{readingsIn, numberIn}
 use Rattle.ranking.specs.declared.rank.Found.{Found}
-use Rattle.ranking.specs.declared.rank.Found.the-variants.{None, One, Many}
+use Rattle.ranking.specs.declared.rank.Found.the-variants.{None, Some}
 
 -- what all sentences of the length share, the map of the counts, and the sets beside the rows of the chart
 pub record FindSought (rules plan map counts : List (List ℕ)) (s sets : List ℕ) (totals : List (List ℕ)) : Type 0 where
@@ -23,8 +23,7 @@ pub record FindSought (rules plan map counts : List (List ℕ)) (s sets : List �
 -- what each case says of the sentence s
 abbrev pub Says : (rules : List (List ℕ)) (s : List ℕ) → Found → Type 0
 Says rules s None = readingsIn rules s ≡ 0
-Says rules s (One d) = (readingsIn rules s ≡ 1) × (d .0 ≡ numberIn rules s)
-Says rules s Many = 2 ≤ readingsIn rules s
+Says rules s (Some derivations lowest) = (1 ≤ derivations) × (derivations ≡ readingsIn rules s) × (lowest .0 ≡ numberIn rules s)
 
 -- that, and the tables for the next sentence
 pub record FoundAs (rules plan map : List (List ℕ)) (s sets : List ℕ) (totals : List (List ℕ)) (f : Found) : Type 0 where

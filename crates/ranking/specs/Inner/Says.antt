@@ -16,5 +16,5 @@ unrankSays (unranks.Refused r) out = refused (refusalNumber r) 1 out
 
 -- the paper's number and figures of each case
 abbrev pub rankSays : RankAnswer → Answer
-rankSays (ranks.Given d t) = given (d .0 ∷ t ∷ []) []
-rankSays (ranks.Refused r) = refused (refusalNumber r) 2 []
+rankSays (ranks.Given lowest total derivations) = given (lowest .0 ∷ total ∷ derivations ∷ []) []
+rankSays (ranks.Refused r) = refused (refusalNumber r) 3 []

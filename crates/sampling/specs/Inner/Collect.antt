@@ -3,7 +3,7 @@
 use mathlib.Core.Path.{_≡_}
 use mathlib.Core.Bool.{Bool, true, false, cond, _&&_}
 use mathlib.Core.List.{List, [], _∷_}
-use Prim.Native.Nat.{ℕ, _≤_}
+use Prim.Native.Nat.{ℕ, _≤_, _<_}
 use lib.ListN.{length, take}
 use lib.Dec.{leb, eqb}
 use Rattle.lists.specs.Joined.{concatMap}
@@ -22,7 +22,7 @@ use Rattle.history.specs.Heard.{sentencesIn}
 use Rattle.sampling.specs.Question.{Question}
 use Rattle.sampling.specs.Unheard.{outside, ofLength}
 use Rattle.ranking.specs.declared.rank.Found.{Found}
-use Rattle.ranking.specs.declared.rank.Found.the-variants.{None, One, Many}
+use Rattle.ranking.specs.declared.rank.Found.the-variants.{None, Some}
 use Rattle.sampling.specs.declared.heard.Collected.{Collected}
 use Rattle.sampling.specs.declared.heard.Collected.the-variants.{Numbers, Ambiguous}
 
@@ -50,11 +50,11 @@ pub record HeardSought (rules plan map counts : List (List ℕ)) (sets : List �
   pub everywhere : Everywhere counts
   pub clean : Clean (lengthIn plan) sets totals
 
--- the numbers that the sentence s adds, or that it has two or more derivations
+-- the numbers that the sentence s adds, or, by how many derivations it has, that these are two or more
 abbrev pub Adds : (rules : List (List ℕ)) (n : ℕ) (s : List ℕ) → Found → Type 0
 Adds rules n s None = (manyIn rules n s ≡ false) × (numbersIn rules n s ≡ [])
-Adds rules n s (One d) = (manyIn rules n s ≡ false) × (numbersIn rules n s ≡ d .0 ∷ [])
-Adds rules n s Many = manyIn rules n s ≡ true
+Adds rules n s (Some derivations lowest) =
+    (2 ≤ derivations → manyIn rules n s ≡ true) × (derivations < 2 → (manyIn rules n s ≡ false) × (numbersIn rules n s ≡ lowest .0 ∷ []))
 
 pub record HeardFoundAs (rules plan map : List (List ℕ)) (s sets : List ℕ) (totals : List (List ℕ)) (f : Found) : Type 0 where
   pub adds : Adds rules (lengthIn plan) s f

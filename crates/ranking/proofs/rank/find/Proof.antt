@@ -1,9 +1,9 @@
--- `find` meets its contract: what the whole weighs by the sentence's letters is how many derivations it has, and where there is one the walk
--- finds its place by the counts.
+-- `find` meets its contract: what the whole weighs by the sentence's letters is how many derivations it has, and where there are some the walk
+-- finds the first one's place by the counts.
 -- Assumes nothing.
 use mathlib.Core.Path.{_≡_, sym, _∙_}
 use mathlib.Core.List.{List}
-use Prim.Native.Nat.{ℕ, zero, suc, _<_}
+use Prim.Native.Nat.{ℕ, zero, _≤_}
 use native.Mathlib.Omega.{arith}
 use borrow.Author.Needs.{needs}
 use denote.Ref.{now}
@@ -39,13 +39,9 @@ counted c =
     let p = lettered f in
     count-is (entry p .pre) (p .set-letters .ensures) (f .fill .ensures) _ (t .start .ensures .0) _ (c .total .ensures)
 
--- past both tests there is one derivation
-one-left : (c : tie.Else2) → let a = c .before .before in readingsIn (rules a) (words a) ≡ 1
-one-left c = one _ (counted (c .before .before)) (c .before .if1 .left) (c .if2 .left)
-  where
-    one : (n : ℕ) {x : ℕ} → x ≡ n → (x ≡ 0 → ⊥) → x < 2 → n ≡ 1
-    one zero e h l = absurd (h e)
-    one (suc n) e h l = omega arith
+-- past the test there are some
+some : (c : tie.Else1) → 1 ≤ c .before .total .result
+some c = omega (arith, c .if1 .left)
 
 set-letters-requires : tie.Need-set-letters-requires
 set-letters-requires c κs = let p = c .before .before .before .pre .ready in (p .blank .counted .short, p .long, p .wide)
@@ -70,37 +66,30 @@ returns c =
     let p = lettered f in
     found-as (entry p .pre) (p .set-letters .ensures) (f .fill .ensures) (sym (counted a) ∙ c .if1 .taken)
 
-returns-2 : tie.Need-returns-2
-returns-2 c =
-    let a = c .before .before in
-    let f = filled (started a) in
-    let p = lettered f in
-    found-as (entry p .pre) (p .set-letters .ensures) (f .fill .ensures) (omega (arith, counted a, c .if2 .taken))
-
 part-words-end : tie.Need-part-words-end
-part-words-end c = let a = c .before .before .before .before in entry (lettered (filled (started a))) .pre .ready .blank .counted .short
+part-words-end c = let a = c .before .before .before in entry (lettered (filled (started a))) .pre .ready .blank .counted .short
 
 choose-requires : tie.Need-choose-requires
 choose-requires c κs =
     let e = c .before .before .before in
-    let a = e .before .before in
+    let a = e .before in
     let t = started a in
     let f = filled t in
     let p = lettered f in (
-      find-sought (entry p .pre) (p .set-letters .ensures) (f .fill .ensures) _ (t .start .ensures .0) (omega (arith, one-left e)),
+      find-sought (entry p .pre) (p .set-letters .ensures) (f .fill .ensures) _ (t .start .ensures .0) (omega (arith, some e, counted a)),
       left-length (length (words a)) (replicate 16 zero) (entry p .pre .ready .blank .counted .short),
     )
 
-returns-3 : tie.Need-returns-3
-returns-3 c =
+returns-2 : tie.Need-returns-2
+returns-2 c =
     let k = c .before in
     let e = k .before .before .before .before in
-    let a = e .before .before in
+    let a = e .before in
     let t = started a in
     let f = filled t in
     let p = lettered f in
     found-as (entry p .pre) (p .set-letters .ensures) (f .fill .ensures)
-    (one-left e, found-number (entry p .pre) (p .set-letters .ensures) (f .fill .ensures) _ (t .start .ensures .0) (k .choose .ensures))
+    (omega (arith, some e), counted a, found-number (entry p .pre) (p .set-letters .ensures) (f .fill .ensures) _ (t .start .ensures .0) (k .choose .ensures))
 
 pub find-spec : {M : Type 1} → statement M
 find-spec =
@@ -115,11 +104,8 @@ find-spec =
     returns
     (λ c. search needs)
     (λ c. search needs)
-    returns-2
-    (λ c. search needs)
-    (λ c. search needs)
     part-words-end
     choose-requires
     (λ c. search needs)
     (λ c. search needs)
-    returns-3)
+    returns-2)

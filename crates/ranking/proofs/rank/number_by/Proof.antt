@@ -5,7 +5,7 @@ use borrow.Author.Needs.{needs}
 use Rattle.lists.proofs.Tables.{wide-made}
 use Rattle.charts.proofs.Mapping.{counts-map, clean-start}
 use Rattle.charts.proofs.Placing.{room-low}
-use Rattle.ranking.proofs.Answering.{rank-none, rank-several, rank-found}
+use Rattle.ranking.proofs.Answering.{rank-none, rank-found}
 use Rattle.ranking.proofs.Finding.{rank-kept, found-case}
 use Rattle.ranking.proofs.rank.number_by.Statement.{statement}
 use Rattle.ranking.proofs.rank.number_by.Tie as tie
@@ -47,17 +47,11 @@ returns c =
 
 returns-2 : tie.Need-returns-2
 returns-2 c =
-    let f = searched (c .before .before) in
-    let r = readied f in
-    rank-several _ _ (found-case (f .find .ensures) (c .enum-told2 .given .1)) ∙ rank-kept _ _ _ (r .ready .ensures .kept)
-
-returns-3 : tie.Need-returns-3
-returns-3 c =
     let k = c .before .before .before .before in
     let f = searched (k .before .before) in
     let r = readied f in
     let found = found-case (f .find .ensures) (k .f .given .1) in
-    rank-found _ _ (found .0) _ _ (found .1) (c .total .ensures) ∙ rank-kept _ _ _ (r .ready .ensures .kept)
+    rank-found _ _ (found .0) (found .1) (found .2) (c .total .ensures) ∙ rank-kept _ _ _ (r .ready .ensures .kept)
 
 pub number-by-spec : {M : Type 1} → statement M
 number-by-spec =
@@ -68,14 +62,10 @@ number-by-spec =
     find-requires
     (λ c. search needs)
     (λ c. search needs)
-    (λ c. search needs)
     total-requires
     (λ c. search needs)
     (λ c. search needs)
     returns
     (λ c. search needs)
     (λ c. search needs)
-    returns-2
-    (λ c. search needs)
-    (λ c. search needs)
-    returns-3)
+    returns-2)

@@ -44,6 +44,10 @@ heard c = c .before .before .before .before
 abbrev told : tie.After-after Inv-loop μ-loop → tie.After-find-heard Inv-loop μ-loop
 told c = c .before .before .before
 
+-- it has derivations
+abbrev some : tie.After-f Inv-loop μ-loop → tie.After-after Inv-loop μ-loop
+some c = c .before .before
+
 -- a sentence was read, and it is not the end
 read : (c : tie.Else1 Inv-loop μ-loop) → Read (now (start (at-loop c) .args .h)) (at-loop c .loop .at) (now (c .before .sentence .result))
 read c = record { diary = start (at-loop c) .pre .diary; same = c .before .sentence .ensures; more = c .if1 .left }
@@ -120,36 +124,38 @@ loop-again c =
     )
 
 same-length-3 : tie.Need-same-length-3 Inv-loop μ-loop
-same-length-3 c = rows (told (c .before .before))
+same-length-3 c = rows (told (some (c .before .before)))
 
 same-length-4 : tie.Need-same-length-4 Inv-loop μ-loop
-same-length-4 c = at-loop (heard (told (c .before .before))) .loop .inv .5
+same-length-4 c = at-loop (heard (told (some (c .before .before)))) .loop .inv .5
 
 returns-2 : tie.Need-returns-2 Inv-loop μ-loop
 returns-2 c =
-    let t = told (c .before .before) in
+    let f = c .before .before in
+    let t = told (some f) in
     let e = heard t in
-    collect-many (plan e) (at-loop e .loop .inv .0) (read e) (t .find-heard .ensures) (c .enum-told2 .given .1)
+    collect-many (plan e) (at-loop e .loop .inv .0) (read e) (t .find-heard .ensures) (f .f .given .1) (omega (arith, c .if2 .taken))
 
 mul-numbers : tie.Need-mul-numbers Inv-loop μ-loop
-mul-numbers c = omega (arith, room (heard (told (c .before .before .before))) .0)
+mul-numbers c = omega (arith, room (heard (told (some (c .before .before)))) .0)
 
 slice-write-numbers : tie.Need-slice-write-numbers Inv-loop μ-loop
-slice-write-numbers c = omega (arith, room (heard (told (c .before .before .before))) .1)
+slice-write-numbers c = omega (arith, room (heard (told (some (c .before .before)))) .1)
 
 add-count : tie.Need-add-count Inv-loop μ-loop
-add-count c = omega (arith, room (heard (told (c .before .before .before))) .0)
+add-count c = omega (arith, room (heard (told (some (c .before .before)))) .0)
 
 loop-less-2 : tie.Need-loop-less-2 Inv-loop μ-loop
-loop-less-2 c = less (c .before .before .before)
+loop-less-2 c = less (some (c .before .before))
 
 loop-again-2 : tie.Need-loop-again-2 Inv-loop μ-loop
 loop-again-2 c =
-    let a = c .before .before .before in
+    let f = c .before .before in
+    let a = some f in
     let t = told a in
     let e = heard t in
     let l = at-loop e .loop in (
-      collect-one (plan e) (l .inv .0) (read e) (t .find-heard .ensures) (c .before .f .given .1) (a .after .ensures),
+      collect-one (plan e) (l .inv .0) (read e) (t .find-heard .ensures) (f .f .given .1) (omega (arith, c .if2 .left)) (a .after .ensures),
       t .find-heard .ensures .ready,
       t .find-heard .ensures .clean,
       t .find-heard .kept .1 .1 .1 .1 .1 .0 ∙ l .inv .3,
@@ -179,7 +185,6 @@ collect-spec =
     same-length-3
     same-length-4
     returns-2
-    (λ c. search needs)
     mul-numbers
     slice-write-numbers
     add-count
