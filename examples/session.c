@@ -1,11 +1,12 @@
 /*
- * A session: draws sentences that the patient hasn't heard, and logs each in the diary.
+ * A session: draws sentences that the patient hasn't heard in the talker's voice, and logs each in the diary.
  *
- *   session BANK DIARY LENGTH COUNT [SOURCE]
+ *   session BANK DIARY LENGTH COUNT [VOICE [SOURCE]]
  *
- * BANK and DIARY are files in document 01's layout; where there is no file DIARY, a new diary begins. SOURCE is a file
- * of random bytes, /dev/urandom if none is named. Each sentence is a line: its derivation number, a colon, its words.
- * The diary is saved with a sentence before that is printed, so that nothing played is missing in it.
+ * BANK and DIARY are files in document 01's layout; where there is no file DIARY, a new diary begins. VOICE is 0 to 15, 0
+ * if none is named; SOURCE is a file of random bytes, /dev/urandom if none is named. Each sentence is a line: its
+ * derivation number, a colon, its words. The diary is saved with a sentence before that is printed, so that nothing
+ * played is missing in it.
  *
  * Exit status: 0 all drawn; 1 stopped early, since nothing is left or the diary is full; 2 an error.
  */
@@ -83,11 +84,11 @@ int main(int argc, char **argv) {
     static uint8_t diary[PUMPFENNEL_LARGEST_HISTORY];
     uint8_t sentence[PUMPFENNEL_LONGEST_SENTENCE];
     uint64_t nonterminals, words, records, total, heard, left, number;
-    if (argc != 5 && argc != 6) fail("usage", "session BANK DIARY LENGTH COUNT [SOURCE]");
+    if (argc < 5 || argc > 7) fail("usage", "session BANK DIARY LENGTH COUNT [VOICE [SOURCE]]");
     size_t bank_size = load(argv[1], bank, sizeof bank, 0);
     size_t diary_size = load(argv[2], diary, sizeof diary, PUMPFENNEL_HISTORY_SIZE(0));
-    uint64_t length = numeral(argv[3]), count = numeral(argv[4]);
-    const char *name = argc == 6 ? argv[5] : "/dev/urandom";
+    uint64_t length = numeral(argv[3]), count = numeral(argv[4]), voice = argc > 5 ? numeral(argv[5]) : 0;
+    const char *name = argc > 6 ? argv[6] : "/dev/urandom";
     FILE *source = fopen(name, "rb");
     if (source == NULL) fail(name, strerror(errno));
 
@@ -95,15 +96,16 @@ int main(int argc, char **argv) {
     accepted(argv[1], pumpfennel_check_grammar(bank, bank_size, &nonterminals, &words));
     accepted(argv[2], pumpfennel_check_history(diary, diary_size, &records));
     for (; count > 0; count--) {
-        accepted("left", pumpfennel_remaining(bank, bank_size, diary, sizeof diary, length, &total, &heard, &left));
+        accepted("left", pumpfennel_remaining(bank, bank_size, diary, sizeof diary, length, voice, &total, &heard, &left));
         if (left == 0) {
-            fprintf(stderr, "session: nothing is left: %" PRIu64 " of %" PRIu64 " were heard\n", heard, total);
+            fprintf(stderr, "session: nothing is left: %" PRIu64 " of %" PRIu64 " were heard in voice %" PRIu64 "\n", heard,
+                    total, voice);
             return 1;
         }
         uint64_t draw = below(left, source);
-        accepted("draw", pumpfennel_draw(bank, bank_size, diary, sizeof diary, length, draw, sentence, sizeof sentence,
-                                         &left, &number));
-        uint8_t refusal = pumpfennel_append(diary, sizeof diary, sentence, length, &records);
+        accepted("draw", pumpfennel_draw(bank, bank_size, diary, sizeof diary, length, voice, draw, sentence,
+                                         sizeof sentence, &left, &number));
+        uint8_t refusal = pumpfennel_append(diary, sizeof diary, sentence, length, voice, &records);
         if (refusal == PUMPFENNEL_HISTORY_FULL) {
             fprintf(stderr, "session: %s: %s\n", argv[2], pumpfennel_refusal_text(refusal));
             return 1;

@@ -2,9 +2,10 @@
  * Pumpfennel's calls for C (C99 and later) and C++. Link with libpumpfennel.a, which is for x86-64.
  *
  * A grammar (document 01: bank) and a history (document 01: diary) are runs of bytes in document 01's layout; a
- * sentence is one byte a word. Each call returns 0 where it is accepted, or else the number of the first refusal that
- * applies; then every figure is 0 and every buffer is as it was. Refusals have document 01's letters: a grammar has N
- * nonterminals, W words, R rules and the start S, a history K records.
+ * sentence is one byte a word, a voice a number from 0 to 15. Each call returns 0 where it is accepted, or else the
+ * number of the first refusal that applies; they are looked at in the order that is named with the call. Then every
+ * figure is 0 and every buffer is as it was. Refusals have document 01's letters: a grammar has N nonterminals, W words,
+ * R rules and the start S, a history K records.
  *
  * Every answer is proved, for any bytes and any numbers. What C can't check is left to the caller:
  * - A pointer is valid for the length given with it. Where that is 0 nothing is read or written through it, and it may
@@ -26,10 +27,10 @@
 
 /* version: from VERSION, by tools/generate */
 /* The version, as text and as one number: major * 10,000 + minor * 100 + patch. */
-#define PUMPFENNEL_VERSION "0.3.0"
-#define PUMPFENNEL_VERSION_NUMBER 300
+#define PUMPFENNEL_VERSION "0.4.0"
+#define PUMPFENNEL_VERSION_NUMBER 400
 /* A name that the archive has for this interface alone: it changes with major and minor. */
-#define PUMPFENNEL_INTERFACE pumpfennel_interface_0_3
+#define PUMPFENNEL_INTERFACE pumpfennel_interface_0_4
 /* end of version */
 
 /* The most words of a sentence, and the most bytes of a grammar: 32 nonterminals and 255 rules. */
@@ -50,7 +51,7 @@ extern "C" {
 #endif
 
 /* refusals: from refusals.txt, by tools/generate */
-/* What a call returns, with document 01's numbers and meanings. */
+/* What a call returns, with the documents' numbers and meanings. */
 enum pumpfennel_refusal {
     PUMPFENNEL_ACCEPTED = 0,
     /* The grammar has fewer than 4 bytes. */
@@ -75,13 +76,13 @@ enum pumpfennel_refusal {
     PUMPFENNEL_TOO_MANY_DERIVATIONS = 10,
     /* The history has fewer than 4 bytes, K is above 1,000, or it has fewer than 4 + 20K bytes. */
     PUMPFENNEL_HISTORY_WRONG_SIZE = 11,
-    /* Some record has a wrong length, a fourth byte that is not 0, or a non-zero byte beyond its words. */
+    /* Some record has a wrong length, a fourth byte whose low four bits are not 0, or a non-zero byte beyond its words. */
     PUMPFENNEL_HISTORY_BAD_RECORD = 12,
     /* The history's head or some next is above K. */
     PUMPFENNEL_HISTORY_BAD_LINK = 13,
     /* The history's chain meets a record twice or misses one. */
     PUMPFENNEL_HISTORY_BAD_CHAIN = 14,
-    /* A heard sentence of the length has two or more derivations. */
+    /* A sentence of the length, heard in the voice, has two or more derivations. */
     PUMPFENNEL_HEARD_AMBIGUOUS = 15,
     /* The number is not below how many there are to choose from. */
     PUMPFENNEL_NUMBER_BEYOND = 16,
@@ -92,7 +93,9 @@ enum pumpfennel_refusal {
     /* The history has 1,000 records or no room for one more. */
     PUMPFENNEL_HISTORY_FULL = 19,
     /* The sentence's buffer is shorter than the length. */
-    PUMPFENNEL_BUFFER_TOO_SHORT = 20
+    PUMPFENNEL_BUFFER_TOO_SHORT = 20,
+    /* The voice is above 15. */
+    PUMPFENNEL_BAD_VOICE = 22
 };
 
 /* What a call returned, in words: a sentence without its first capital and its full stop. */
@@ -123,13 +126,13 @@ static inline const char *pumpfennel_refusal_text(uint8_t refusal) {
     case PUMPFENNEL_HISTORY_WRONG_SIZE:
         return "the history has fewer than 4 bytes, K is above 1,000, or it has fewer than 4 + 20K bytes";
     case PUMPFENNEL_HISTORY_BAD_RECORD:
-        return "some record has a wrong length, a fourth byte that is not 0, or a non-zero byte beyond its words";
+        return "some record has a wrong length, a fourth byte whose low four bits are not 0, or a non-zero byte beyond its words";
     case PUMPFENNEL_HISTORY_BAD_LINK:
         return "the history's head or some next is above K";
     case PUMPFENNEL_HISTORY_BAD_CHAIN:
         return "the history's chain meets a record twice or misses one";
     case PUMPFENNEL_HEARD_AMBIGUOUS:
-        return "a heard sentence of the length has two or more derivations";
+        return "a sentence of the length, heard in the voice, has two or more derivations";
     case PUMPFENNEL_NUMBER_BEYOND:
         return "the number is not below how many there are to choose from";
     case PUMPFENNEL_SENTENCE_UNDERIVABLE:
@@ -140,6 +143,8 @@ static inline const char *pumpfennel_refusal_text(uint8_t refusal) {
         return "the history has 1,000 records or no room for one more";
     case PUMPFENNEL_BUFFER_TOO_SHORT:
         return "the sentence's buffer is shorter than the length";
+    case PUMPFENNEL_BAD_VOICE:
+        return "the voice is above 15";
     default:
         return "no such refusal";
     }
@@ -197,27 +202,28 @@ uint8_t pumpfennel_rank(const uint8_t *grammar, size_t grammar_len, const uint8_
                         uint64_t *number, uint64_t *total, uint64_t *derivations);
 
 /*
- * Left: gives the total, how many different sentences of that length with one derivation were heard, and how many
- * derivations remain. Refusals 1 to 15.
+ * Left: gives the total, how many different sentences of that length with one derivation were heard in that voice, and how
+ * many derivations remain. Refusals 1 to 9, 22, 10 to 15.
  */
 uint8_t pumpfennel_remaining(const uint8_t *grammar, size_t grammar_len, const uint8_t *history, size_t history_len,
-                             uint64_t length, uint64_t *total, uint64_t *heard, uint64_t *remaining);
+                             uint64_t length, uint64_t voice, uint64_t *total, uint64_t *heard, uint64_t *remaining);
 
 /*
- * Draw: takes the derivation with an unheard sentence that has exactly `draw` such ones before it, `draw` from 0 to
- * remaining - 1, and writes its sentence into the buffer's first bytes; the others keep their content. Gives what
- * remains, this one counted, and its derivation number. It logs nothing. Refusals 1 to 16, 20.
+ * Draw: takes the derivation with a sentence unheard in that voice that has exactly `draw` such ones before it, `draw`
+ * from 0 to remaining - 1, and writes its sentence into the buffer's first bytes; the others keep their content. Gives
+ * what remains, this one counted, and its derivation number. It logs nothing. Refusals 1 to 9, 22, 10 to 16, 20.
  */
 uint8_t pumpfennel_draw(const uint8_t *grammar, size_t grammar_len, const uint8_t *history, size_t history_len,
-                        uint64_t length, uint64_t draw, uint8_t *sentence, size_t sentence_len, uint64_t *remaining,
-                        uint64_t *number);
+                        uint64_t length, uint64_t voice, uint64_t draw, uint8_t *sentence, size_t sentence_len,
+                        uint64_t *remaining, uint64_t *number);
 
 /*
- * Log: writes the sentence as the history's newest record into the buffer, which has PUMPFENNEL_HISTORY_SIZE bytes for
- * the records and this one, and gives how many records there are now. Any bytes are words here. Refusals 9, 11 to 14, 19.
+ * Log: writes the sentence, heard in that voice, as the history's newest record into the buffer, which has
+ * PUMPFENNEL_HISTORY_SIZE bytes for the records and this one, and gives how many records there are now. Any bytes are
+ * words here. Refusals 9, 22, 11 to 14, 19.
  */
 uint8_t pumpfennel_append(uint8_t *history, size_t history_len, const uint8_t *sentence, size_t sentence_len,
-                          uint64_t *records);
+                          uint64_t voice, uint64_t *records);
 
 #ifdef __cplusplus
 }

@@ -3,9 +3,9 @@
  *
  *   check_grammar GRAMMAR             check_history HISTORY
  *   count GRAMMAR LENGTH              unrank GRAMMAR LENGTH NUMBER BUFFER
- *   rank GRAMMAR SENTENCE             remaining GRAMMAR HISTORY LENGTH
- *   draw GRAMMAR HISTORY LENGTH DRAW BUFFER
- *   append BUFFER SENTENCE
+ *   rank GRAMMAR SENTENCE             remaining GRAMMAR HISTORY LENGTH VOICE
+ *   draw GRAMMAR HISTORY LENGTH VOICE DRAW BUFFER
+ *   append BUFFER SENTENCE VOICE
  *
  * Bytes are in hex after an x, which stands alone where there are none; null is NULL with length 0. An answer is the
  * refusal and the figures; after a call with a buffer, the buffer too. Figures held other numbers before. What a call may
@@ -35,16 +35,16 @@ struct bytes {
 };
 
 static const char *const names[] = {"check_grammar", "check_history", "count", "unrank", "rank", "remaining", "draw", "append"};
-static const char *const kinds[] = {"r", "r", "rn", "rnnw", "rr", "rrn", "rrnnw", "wr"};
+static const char *const kinds[] = {"r", "r", "rn", "rnnw", "rr", "rrnn", "rrnnnw", "wrn"};
 static struct bytes data[3];
-static uint64_t numbers[2], figures[3];
+static uint64_t numbers[3], figures[3];
 static uint8_t answer;
 static int call, figure_count;
 static uintptr_t top;
 
 static void *make_call(void *unused) {
     struct bytes a = data[0], b = data[1], c = data[2];
-    uint64_t m = numbers[0], n = numbers[1], *f = figures, *g = figures + 1, *h = figures + 2;
+    uint64_t m = numbers[0], n = numbers[1], q = numbers[2], *f = figures, *g = figures + 1, *h = figures + 2;
     top = (uintptr_t)__builtin_frame_address(0);
     switch (call) {
     case 0: figure_count = 2, answer = pumpfennel_check_grammar(a.at, a.size, f, g); break;
@@ -52,9 +52,9 @@ static void *make_call(void *unused) {
     case 2: figure_count = 1, answer = pumpfennel_count(a.at, a.size, m, f); break;
     case 3: figure_count = 1, answer = pumpfennel_unrank(a.at, a.size, m, n, b.at, b.size, f); break;
     case 4: figure_count = 3, answer = pumpfennel_rank(a.at, a.size, b.at, b.size, f, g, h); break;
-    case 5: figure_count = 3, answer = pumpfennel_remaining(a.at, a.size, b.at, b.size, m, f, g, h); break;
-    case 6: figure_count = 2, answer = pumpfennel_draw(a.at, a.size, b.at, b.size, m, n, c.at, c.size, f, g); break;
-    case 7: figure_count = 1, answer = pumpfennel_append(a.at, a.size, b.at, b.size, f); break;
+    case 5: figure_count = 3, answer = pumpfennel_remaining(a.at, a.size, b.at, b.size, m, n, f, g, h); break;
+    case 6: figure_count = 2, answer = pumpfennel_draw(a.at, a.size, b.at, b.size, m, n, q, c.at, c.size, f, g); break;
+    case 7: figure_count = 1, answer = pumpfennel_append(a.at, a.size, b.at, b.size, m, f); break;
     }
     return unused;
 }

@@ -48,6 +48,9 @@ def examples():
     heard = history([bytes([0, 1])])
     yield 'P7', framed(2, F, heard)
     yield 'P7, then the end of a line', framed(2, F, heard) + b'\n'
+    for voice in (1, 8, 15):
+        yield f'P7 in voice {voice}', framed(2, F, history([bytes([0, 1])], voices=[voice]))
+        yield f'G in voice {voice}', framed(3, G, history([bytes(3)], voices=[voice]))
     for length in range(1, 13):
         yield f'F, length {length}', framed(length, F, heard)
     for length in range(1, 8):
@@ -115,7 +118,7 @@ def several_refusals():
         diaries = {
             0: diary,
             11: diary[:-1],
-            12: damaged(diary, [(7, 1)]),
+            12: damaged(diary, [(7, 49)]),
             13: damaged(diary, [(2, 4)]),
             14: damaged(diary, [(2, 2)]),
         }
@@ -241,13 +244,14 @@ def random_listings(rng, count):
         else:
             sentences = heard_sentences(rng, bank, length)
         slack = bytes(rng.below(256) for _ in range(rng.choice([0, 0, 1, 30])))
-        yield length, bank, history(sentences, rng.shuffled(range(1, len(sentences) + 1)), slack)
+        voices = [rng.choice([0, 0, 0, 0, 0, rng.below(16)]) for _ in sentences]
+        yield length, bank, history(sentences, rng.shuffled(range(1, len(sentences) + 1)), slack, voices)
         made += 1
 
 
 def random_inputs(rng):
     """Random listings as they are; the same damaged in the bank, in the diary, and anywhere."""
-    for i, (length, bank, diary) in enumerate(random_listings(rng, 400)):
+    for i, (length, bank, diary) in enumerate(random_listings(rng, 500)):
         yield f'random {i}', framed(length, bank, diary)
         for places in rng.shuffled(vectors.damages(rng, bank))[:1]:
             yield f'random {i}, bank damaged at {places}', framed(length, damaged(bank, places), diary)

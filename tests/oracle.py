@@ -1,5 +1,6 @@
 #!/usr/bin/env python3
-"""Brute-force answers to every call of document 01, with the requests of document 02 that have landed (U2, U6), for the tests.
+"""Brute-force answers to every call of document 01, with the requests of document 02 that have landed (U2, U4,
+U6), for the tests.
 
 Written from the documents alone: the headings below are sections of document 01, and each definition cites its
 sentence. Derivations are enumerated one by one as trees, in the document's order. Where that list
@@ -14,9 +15,9 @@ Log. Every call returns (refusal, figures.., buffer after), where refusal 0 mean
   oracle.py count GRAMMAR LENGTH              T
   oracle.py unrank GRAMMAR LENGTH NUMBER      T, then the buffer
   oracle.py rank GRAMMAR WORD..               number T derivations
-  oracle.py remaining GRAMMAR HISTORY LENGTH  T heard left
-  oracle.py draw GRAMMAR HISTORY LENGTH Q     left number, then the buffer
-  oracle.py append HISTORY WORD..             K, then the buffer
+  oracle.py remaining GRAMMAR HISTORY LENGTH VOICE   T heard left
+  oracle.py draw GRAMMAR HISTORY LENGTH VOICE Q      left number, then the buffer
+  oracle.py append HISTORY VOICE WORD..       K, then the buffer
   oracle.py listing INPUT                     what the listing program prints
 
 GRAMMAR, HISTORY and INPUT are files, - is standard input, numbers are decimal. A sentence's buffer
@@ -337,15 +338,21 @@ def two_bytes(data, at):
 
 def records_of(history):
     """The records by number: "Two bytes K (0 to 1,000 records), two bytes head, then records of 20 bytes
-    numbered from 1: two bytes next, one byte length (1 to 16), one byte 0, sixteen word bytes"."""
+    numbered from 1: two bytes next, one byte length (1 to 16), one byte .., sixteen word bytes"."""
     starts = range(4, 4 + 20 * two_bytes(history, 0), 20)
     return {number: Record(two_bytes(history, at), history[at + 2], history[at + 3], history[at + 4:at + 20])
             for number, at in enumerate(starts, 1)}
 
 
 def fits_record(record):
-    """Refusal 12, for one record: "one byte length (1 to 16), one byte 0, .. zero beyond the length"."""
-    return 1 <= record.length <= 16 and record.fourth == 0 and not any(record.words[record.length:])
+    """Refusal 12, for one record: "one byte length (1 to 16), one byte 0, .. zero beyond the length"; of the fourth
+    byte, document 02, U4: "Refusal 12 no longer minds the high four bits"."""
+    return 1 <= record.length <= 16 and record.fourth & 0b1111 == 0 and not any(record.words[record.length:])
+
+
+def voice_of(record):
+    """Document 02, U4: "The high four bits of a record's fourth byte hold it"."""
+    return record.fourth >> 4
 
 
 def history_chain(history):
@@ -368,15 +375,16 @@ def history_lines(history):
 
 @lru_cache(maxsize=4)
 def sentences_of(history):
-    """The sentences, "one after another along the chain"."""
-    records = records_of(history)
-    return [records[number].words[:records[number].length] for number in history_chain(history)]
+    """The sentences with their voices, "one after another along the chain"."""
+    records = [records_of(history)[number] for number in history_chain(history)]
+    return [(voice_of(record), record.words[:record.length]) for record in records]
 
 
 @lru_cache(maxsize=4)
-def heard_of(history, length):
-    """The heard sentences of the named length: "if a record has its length and words"."""
-    return frozenset(sentence for sentence in sentences_of(history) if len(sentence) == length)
+def heard_of(history, length, voice):
+    """The heard sentences of the named length: "if a record has its length and words", and "only if words and voice
+    both agree"."""
+    return frozenset(sentence for own, sentence in sentences_of(history) if own == voice and len(sentence) == length)
 
 
 # ---- Why a call says no: the other lines
@@ -385,22 +393,29 @@ def length_lines(length):
     yield 9, not 1 <= length <= 16
 
 
+def voice_lines(voice):
+    """Document 02, U4: "22, the voice is above 15, after 9"."""
+    yield 22, voice > 15
+
+
 def total_lines(grammar, length):
     """Document 02, U2: "10 applies exactly if the count of a needed pair is above 2^64 - 1"."""
     yield 10, any(total > MOST for total in read(grammar).totals(length))
 
 
-def ambiguous_lines(grammar, history, length):
+def ambiguous_lines(grammar, history, length, voice):
+    """Document 02, U4: "15 reads only records of the given voice"."""
     full = full_list(grammar, length)
-    yield 15, any(full.count(sentence) >= 2 for sentence in heard_of(history, length))
+    yield 15, any(full.count(sentence) >= 2 for sentence in heard_of(history, length, voice))
 
 
 def count_lines(grammar, length):
     return concat(grammar_lines(grammar), length_lines(length), total_lines(grammar, length))
 
 
-def remaining_lines(grammar, history, length):
-    return concat(count_lines(grammar, length), history_lines(history), ambiguous_lines(grammar, history, length))
+def remaining_lines(grammar, history, length, voice):
+    return concat(grammar_lines(grammar), length_lines(length), voice_lines(voice), total_lines(grammar, length),
+                  history_lines(history), ambiguous_lines(grammar, history, length, voice))
 
 
 def unrank_lines(grammar, length, number, buffer):
@@ -413,8 +428,8 @@ def rank_lines(grammar, sentence):
     yield 17, full_list(grammar, len(sentence)).count(sentence) == 0
 
 
-def draw_lines(grammar, history, length, q, buffer):
-    yield 16, q >= full_list(grammar, length).left(heard_of(history, length))
+def draw_lines(grammar, history, length, voice, q, buffer):
+    yield 16, q >= full_list(grammar, length).left(heard_of(history, length, voice))
     yield 20, len(buffer) < length
 
 
@@ -467,37 +482,37 @@ def rank(grammar, sentence):
     return 0, full.number(sentence), full.total, full.count(sentence)
 
 
-def remaining(grammar, history, length):
+def remaining(grammar, history, length, voice):
     """Left: T, "heard (distinct heard sentences of that length with one derivation) and left = T - heard"."""
-    refusal = first_that_applies(remaining_lines(grammar, history, length))
+    refusal = first_that_applies(remaining_lines(grammar, history, length, voice))
     if refusal:
         return refusal, 0, 0, 0
-    full, barred = full_list(grammar, length), heard_of(history, length)
+    full, barred = full_list(grammar, length), heard_of(history, length, voice)
     heard = sum(full.count(sentence) == 1 for sentence in barred)
     # The draws as one list: "Left .. is the length of the unheard list".
     assert full.total - heard == full.left(barred)
     return 0, full.total, heard, full.total - heard
 
 
-def draw(grammar, history, length, q, buffer):
+def draw(grammar, history, length, voice, q, buffer):
     """Draw: left, the derivation number and the buffer, which begins with its sentence."""
-    refusal = first_that_applies(remaining_lines(grammar, history, length),
-                                 draw_lines(grammar, history, length, q, buffer))
+    refusal = first_that_applies(remaining_lines(grammar, history, length, voice),
+                                 draw_lines(grammar, history, length, voice, q, buffer))
     if refusal:
         return refusal, 0, 0, buffer
-    full, barred = full_list(grammar, length), heard_of(history, length)
+    full, barred = full_list(grammar, length), heard_of(history, length, voice)
     number, sentence = full.draw(barred, q)
     return 0, full.left(barred), number, written(buffer, sentence)
 
 
-def append(buffer, sentence):
+def append(buffer, sentence, voice):
     """Log: the new K and the buffer: "writes record K + 1 in full with next = old head, sets head and K
-    to K + 1". "No other byte changes"."""
-    refusal = first_that_applies(length_lines(len(sentence)), history_lines(buffer), append_lines(buffer))
+    to K + 1". "No other byte changes". Document 02, U4: "The high four bits of a record's fourth byte hold it"."""
+    refusal = first_that_applies(length_lines(len(sentence)), voice_lines(voice), history_lines(buffer), append_lines(buffer))
     if refusal:
         return refusal, 0, buffer
     k = two_bytes(buffer, 0) + 1
-    record = buffer[2:4] + bytes([len(sentence), 0]) + sentence + bytes(16 - len(sentence))
+    record = buffer[2:4] + bytes([len(sentence), voice << 4]) + sentence + bytes(16 - len(sentence))
     low_high = bytes([k % 256, k // 256])
     at = 4 + 20 * (k - 1)
     return 0, k, low_high + low_high + buffer[4:at] + record + buffer[at + 20:]
@@ -517,12 +532,12 @@ def split_input(data):
 
 def listing(data):
     """What it prints: "length, T, heard, left; then a line for each draw from 0 to left - 1, none past
-    draw 999: q, derivation number, words"."""
+    draw 999: q, derivation number, words". Document 02, U4: it "uses voice 0"."""
     length, grammar, history = split_input(data)
-    refusal, total, heard, left = remaining(grammar, history, length)
+    refusal, total, heard, left = remaining(grammar, history, length, 0)
     if refusal:
         return b'refused %d\n' % refusal
-    full, barred = full_list(grammar, length), heard_of(history, length)
+    full, barred = full_list(grammar, length), heard_of(history, length, 0)
     lines = [[length, total, heard, left]]
     for q in range(min(left, 1000)):
         number, sentence = full.draw(barred, q)
@@ -532,14 +547,14 @@ def listing(data):
 
 # ---- Command line
 
-COMMANDS = {  # each call, how many files it takes, and how many numbers (None: the words of a sentence)
+COMMANDS = {  # each call, how many files it takes, and how many numbers (None: the words of a sentence, behind the voice)
     'check_grammar': (check_grammar, 1, 0),
     'check_history': (check_history, 1, 0),
     'count': (count, 1, 1),
     'unrank': (unrank, 1, 2),
     'rank': (rank, 1, None),
-    'remaining': (remaining, 2, 1),
-    'draw': (draw, 2, 2),
+    'remaining': (remaining, 2, 2),
+    'draw': (draw, 2, 3),
     'append': (append, 1, None),
     'listing': (listing, 1, 0),
 }
@@ -566,7 +581,11 @@ def main(name='', *args):
     numbers = [int(arg) for arg in args[files:]]
     if call is None or len(args) < files or expected not in (None, len(numbers)):
         sys.exit(__doc__)
-    values = [bytes(numbers)] if expected is None else numbers
+    values = numbers
+    if call is rank:
+        values = [bytes(numbers)]
+    elif call is append:
+        values = [bytes(numbers[1:]), *numbers[:1]]
     if call in (unrank, draw):
         values.append(bytes(16))
     result = call(*map(file_bytes, args[:files]), *values)

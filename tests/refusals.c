@@ -68,16 +68,18 @@ int main(void) {
         {PUMPFENNEL_HISTORY_BAD_LINK, check_history(RECORD(2, 0, 1)), "history's head"},
         /* record 1 comes after record 1 */
         {PUMPFENNEL_HISTORY_BAD_CHAIN, check_history(RECORD(1, 1, 1)), "history's chain"},
-        {PUMPFENNEL_HEARD_AMBIGUOUS, pumpfennel_remaining(TREES, RECORD(1, 0, 3), 3, &f, &g, &h), "heard sentence"},
+        {PUMPFENNEL_HEARD_AMBIGUOUS, pumpfennel_remaining(TREES, RECORD(1, 0, 3), 3, 0, &f, &g, &h), "heard in the voice"},
         /* there is derivation 0, and no derivation 1 */
         {PUMPFENNEL_NUMBER_BEYOND, pumpfennel_unrank(ONE, 1, 1, sentence, 1, &f), "to choose from"},
         {PUMPFENNEL_SENTENCE_UNDERIVABLE, pumpfennel_rank(ONE, BYTES(1), &f, &g, &h), "no derivation"},
         /* no longer returned: the sentence is accepted */
         {PUMPFENNEL_SENTENCE_AMBIGUOUS, pumpfennel_rank(TREES, BYTES(0, 0, 0), &f, &g, &h), "the sentence has two"},
         /* no record, and no room for one */
-        {PUMPFENNEL_HISTORY_FULL, pumpfennel_append(history, 4, BYTES(0), &f), "no room"},
+        {PUMPFENNEL_HISTORY_FULL, pumpfennel_append(history, 4, BYTES(0), 0, &f), "no room"},
         /* one word, and room for none */
         {PUMPFENNEL_BUFFER_TOO_SHORT, pumpfennel_unrank(ONE, 1, 0, sentence, 0, &f), "buffer"},
+        /* no record, no room for one, and the voice 16 */
+        {PUMPFENNEL_BAD_VOICE, pumpfennel_append(history, 4, BYTES(0), 16, &f), "the voice is above"},
     };
     const int count = sizeof rows / sizeof rows[0];
     int wrong = 0;

@@ -94,15 +94,15 @@ def ranking_lines(library, data):
 def history_lines(library, data):
     at, buffer = 0, Lent(b'')
     while at < len(data):
-        call, size = data[at], number(data[at + 1:at + 3])
-        rest = data[at + 3:at + 3 + size]
-        at += 3 + size
+        call, voice, size = data[at], number(data[at + 1:at + 9]), number(data[at + 9:at + 11])
+        rest = data[at + 11:at + 11 + size]
+        at += 11 + size
         if call == 0:
             buffer = Lent(rest)
         if call in (0, 3):
             yield library.call('check_history', shared(buffer.data()), 1)
         else:
-            line = library.call('append', (*buffer.arguments(), *shared(rest)), 1)
+            line = library.call('append', (*buffer.arguments(), *shared(rest), ctypes.c_uint64(voice)), 1)
             yield line + shown(buffer) if call == 1 else line
         buffer.data()
 

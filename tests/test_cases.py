@@ -7,7 +7,10 @@ import oracle
 
 FIGURES = {'check_grammar': 2, 'check_history': 1, 'count': 1, 'unrank': 1, 'rank': 2, 'remaining': 3, 'draw': 2, 'append': 1}
 LENT = {'unrank': 'sentence', 'draw': 'sentence', 'append': 'history'}  # the buffer that a call writes
-ORDER = ['grammar', 'history', 'length', 'number', 'sentence']  # the order of every call's arguments
+# the order of every call's arguments; a case of these calls without a voice has voice 0
+ORDER = {'remaining': ['grammar', 'history', 'length', 'voice'], 'draw': ['grammar', 'history', 'length', 'voice', 'number', 'sentence'],
+         'append': ['history', 'sentence', 'voice']}
+PLAIN = ['grammar', 'history', 'length', 'number', 'sentence']  # of the others
 
 
 def stored(text):
@@ -16,8 +19,8 @@ def stored(text):
     for line in text.splitlines():
         field, _, value = line.strip().partition(' ')
         if field == 'call':
-            cases.append({'call': value})
-        elif field in ('length', 'number'):
+            cases.append({'call': value, **({'voice': 0} if value in ORDER else {})})
+        elif field in ('length', 'number', 'voice'):
             cases[-1][field] = int(value)
         elif field == 'answer':
             cases[-1][field] = [int(figure) for figure in value.split()]
@@ -43,7 +46,7 @@ class StoredCases(unittest.TestCase):
         for file in files:
             for number, case in enumerate(stored(file.read_text()), 1):
                 with self.subTest(file=file.name, case=number):
-                    given = getattr(oracle, case['call'])(*(case[field] for field in ORDER if field in case))
+                    given = getattr(oracle, case['call'])(*(case[field] for field in ORDER.get(case['call'], PLAIN) if field in case))
                     if 'answer' in case:
                         self.assertEqual(given, expected(case))
 

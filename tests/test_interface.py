@@ -88,8 +88,8 @@ class Header(unittest.TestCase):
         """A call made by hand is refused with each name, and its text has the words that it should."""
         ran = run(linked(self, ROOT / 'tests' / 'refusals.c', 'c99'))
         self.assertEqual((ran.returncode, ran.stderr.decode()), (0, ''))
-        names = re.findall(r'^    PUMPFENNEL_\w+ = \d+,?$', HEADER.read_text(), re.M)
-        self.assertEqual(list(map(int, ran.stdout.split())), list(range(len(names))))
+        numbers = re.findall(r'^    PUMPFENNEL_\w+ = (\d+),?$', HEADER.read_text(), re.M)
+        self.assertEqual(ran.stdout.decode().split(), numbers)
 
     def test_one_version(self):
         """In the header, the archive and the binding."""
@@ -169,30 +169,34 @@ def in_64_bits(*numbers):
     return sorted({number for number in numbers if 0 <= number <= MOST})
 
 
-def cases_of(length, bank, diary):
-    """Every call on a bank and a diary, at the edges of what it accepts."""
+def cases_of(length, bank, diary, voice=0):
+    """Every call on a bank, a diary and a voice, at the edges of what it accepts."""
     old = b'\7' * 18
     for size in (16, length, max(length, 1) - 1, 0):
         yield 'unrank', bank, length, 0, old[:size]
-        yield 'draw', bank, diary, length, 0, old[:size]
+        yield 'draw', bank, diary, length, voice, 0, old[:size]
     yield 'check_grammar', bank
     yield 'check_history', diary
     yield 'count', bank, length
-    yield 'remaining', bank, diary, length
-    refusal, total, _, left = oracle.remaining(bank, diary, length)
+    yield 'remaining', bank, diary, length, voice
+    for other in (15 - voice, 15, 16, 256 + voice, MOST):
+        yield 'remaining', bank, diary, length, other
+        yield 'draw', bank, diary, length, other, 0, old
+        yield 'append', diary + b'\7' * 21, b'\1' * min(length, 17), other
+    refusal, total, _, left = oracle.remaining(bank, diary, length, voice)
     for number in in_64_bits(1, total // 2, total - 1, total, total + 1, MOST):
         yield 'unrank', bank, length, number, old
     for number in in_64_bits(1, left // 2, left - 1, left, left + 1, total, MOST):
-        yield 'draw', bank, diary, length, number, old
+        yield 'draw', bank, diary, length, voice, number, old
     size = min(length, 17)
     sentences = [b'', b'\0' * size, b'\377' * size, bytes(17)]
     if refusal == 0 and total:
         sentences += [oracle.unrank(bank, length, number, bytes(length))[2] for number in (0, total // 2, total - 1)]
     for sentence in sentences:
         yield 'rank', bank, sentence
-        yield 'append', diary + b'\7' * 21, sentence
+        yield 'append', diary + b'\7' * 21, sentence, voice
     for slack in (0, 19, 20):
-        yield 'append', diary + b'\7' * slack, b'\1' * 16
+        yield 'append', diary + b'\7' * slack, b'\1' * 16, voice
 
 
 def deep_banks():
@@ -219,9 +223,30 @@ def full_diaries():
         heard = [oracle.unrank(bank, 16, number, bytes(16))[2] for number in numbers]
         yield 'rank', bank, heard[-1]
         yield 'unrank', bank, 16, numbers[-1], bytes(16)
-        yield 'remaining', bank, history(heard), 16
-        yield 'draw', bank, history(heard), 16, 60000, bytes(16)
-        yield 'append', history(heard[1:], slack=bytes(20)), heard[0]
+        yield 'remaining', bank, history(heard), 16, 0
+        yield 'draw', bank, history(heard), 16, 0, 60000, bytes(16)
+        yield 'append', history(heard[1:], slack=bytes(20)), heard[0], 0
+
+
+def voiced_diaries():
+    """The same words in several voices and repeated, all sixteen voices in one diary, and what another voice alone has heard."""
+    said = [bytes([0, 1])] * 4 + [bytes([1, 1]), bytes([1, 0, 1]), bytes([2, 2])]
+    every = [bytes([i & 1, i >> 1 & 1]) for i in range(16)]
+    for voice in (0, 1, 7, 8, 15):
+        yield from cases_of(2, F, history(said, [3, 1, 7, 2, 5, 4, 6], voices=[voice, 0, voice, 15, voice, voice, voice]), voice)
+        yield from cases_of(2, F, history(every * 3, voices=list(range(16)) * 3), voice)
+        yield from cases_of(3, G, history([bytes(3), bytes(2)], voices=[voice, 15 - voice]), voice)
+        yield from cases_of(3, G, history([bytes(3), bytes(2)], voices=[15 - voice, voice]), voice)
+    for bank, sentences in ambiguous().values():
+        for sentence in sentences:
+            diary = history([sentence, sentence], voices=[3, 12])
+            yield from (('remaining', bank, diary, len(sentence), voice) for voice in (0, 3, 12))
+    rng = Rng(42)
+    matrix = [oracle.unrank(oracle.matrix(), 5, rng.below(300), bytes(5))[2] for _ in range(1000)]
+    diary = history(matrix, rng.shuffled(range(1, 1001)), voices=[rng.below(16) for _ in range(1000)])
+    for voice in range(16):
+        yield 'remaining', oracle.matrix(), diary, 5, voice
+        yield from (('draw', oracle.matrix(), diary, 5, voice, q, bytes(5)) for q in (0, 50, 99900))
 
 
 def all_cases():
@@ -243,6 +268,7 @@ def all_cases():
     for many in (0, 1, 999, 1000):
         yield from cases_of(5, oracle.matrix(), history(thousand[:many]))
     yield from full_diaries()
+    yield from voiced_diaries()
     for bank, diary in [(b'', b''), (F, b''), (b'', bytes(4)), (largest_bank(), full_diary(1000)), (F, full_diary(1001))]:
         yield from cases_of(1, bank, diary)
     for _, _, bank in vectors.TRAPS:
@@ -251,7 +277,7 @@ def all_cases():
         yield from cases_of(2, bank, history([bytes(2)]))
     for _, _, diary in vectors.HISTORY_TRAPS:
         yield 'check_history', diary
-        yield 'append', diary, b'\1\2'
+        yield 'append', diary, b'\1\2', 5
     rng = Rng(41)
     for length, bank, diary in listings.random_listings(rng, 40):
         yield from cases_of(length, bank, diary)
@@ -284,8 +310,8 @@ class Calls(unittest.TestCase):
         bank, diary = set(range(9)), {0, 11, 12, 13, 14}
         self.assertEqual(met, {
             'check_grammar': bank, 'check_history': diary, 'count': bank | {9, 10}, 'unrank': bank | {9, 10, 16, 20},
-            'rank': bank | {9, 10, 17}, 'remaining': bank | diary | {9, 10, 15},
-            'draw': bank | diary | {9, 10, 15, 16, 20}, 'append': diary | {9, 19}})
+            'rank': bank | {9, 10, 17}, 'remaining': bank | diary | {9, 10, 15, 22},
+            'draw': bank | diary | {9, 10, 15, 16, 20, 22}, 'append': diary | {9, 19, 22}})
 
     def test_null_with_length_0(self):
         """It stood for every pointer that has a length, and the answer was that for a run of no bytes."""
@@ -294,7 +320,7 @@ class Calls(unittest.TestCase):
             name, *args = call.split()
             met[name].update(place for place, arg in enumerate(args) if arg == 'null')
         self.assertEqual(met, {'check_grammar': {0}, 'check_history': {0}, 'count': {0}, 'unrank': {0, 3}, 'rank': {0, 1},
-                               'remaining': {0, 1}, 'draw': {0, 1, 4}, 'append': {0, 1}})
+                               'remaining': {0, 1}, 'draw': {0, 1, 5}, 'append': {0, 1}})
 
     def test_stack(self):
         """No call takes more than the header says, and one of its kind takes more than half of that."""
@@ -372,27 +398,27 @@ class Session(unittest.TestCase):
         self.folder = pathlib.Path(holder.name)
         self.diary = self.folder / 'diary'
 
-    def session(self, bank, length, count, source, diary=None):
+    def session(self, bank, length, count, source, diary=None, voice=0):
         (self.folder / 'bank').write_bytes(bank)
         (self.folder / 'source').write_bytes(source)
-        ran = run(self.program, self.folder / 'bank', diary or self.diary, str(length), str(count), self.folder / 'source')
+        ran = run(self.program, self.folder / 'bank', diary or self.diary, str(length), str(count), str(voice), self.folder / 'source')
         split = [line.split(':') for line in ran.stdout.decode().splitlines()]
         lines = [(int(number), bytes(map(int, words.split()))) for number, words in split]
         self.assertEqual({path.name for path in self.folder.iterdir()} - {'bank', 'source', 'diary'}, set())
         return ran.returncode, lines, ran.stderr.decode()
 
-    def check_drawn(self, bank, length, source, before, lines):
+    def check_drawn(self, bank, length, source, before, lines, voice=0):
         """Each line is the right draw of an unheard sentence, and the diary has its record."""
         source = iter(source)
         for number, sentence in lines:
             self.assertEqual(oracle.check_history(before)[0], 0)
-            _, total, _, left = oracle.remaining(bank, before, length)
+            _, total, _, left = oracle.remaining(bank, before, length, voice)
             q = below(left, source)
-            self.assertEqual(oracle.draw(bank, before, length, q, bytes(length)), (0, left, number, sentence))
+            self.assertEqual(oracle.draw(bank, before, length, voice, q, bytes(length)), (0, left, number, sentence))
             self.assertEqual(oracle.rank(bank, sentence), (0, number, total, 1))
-            self.assertNotIn(sentence, oracle.sentences_of(before))
+            self.assertNotIn((voice, sentence), oracle.sentences_of(before))
             records = oracle.two_bytes(before, 0)
-            refusal, now, after = oracle.append(before[:4 + 20 * records] + bytes(20), sentence)
+            refusal, now, after = oracle.append(before[:4 + 20 * records] + bytes(20), sentence, voice)
             self.assertEqual((refusal, now), (0, records + 1))
             before = after
         self.assertEqual(self.diary.read_bytes(), before)
@@ -420,6 +446,18 @@ class Session(unittest.TestCase):
             self.assertEqual(len(self.diary.read_bytes()), 4 + 20 * (k + 1))
             self.check_drawn(oracle.matrix(), 5, source, before, lines)
 
+    def test_each_voice_has_its_own(self):
+        """All of a small bank in one voice after the other, on one diary."""
+        before = bytes(4)
+        for voice in (0, 15, 3):
+            source = random_bytes(60 + voice, 40)
+            status, lines, errors = self.session(F, 2, 5, source, voice=voice)
+            self.assertEqual((status, len(lines)), (1, 4))
+            self.assertTrue(errors.endswith('session: nothing is left: 4 of 4 were heard in voice %d\n' % voice), errors)
+            self.check_drawn(F, 2, source, before, lines, voice)
+            before = self.diary.read_bytes()
+        self.assertEqual(oracle.check_history(before), (0, 12))
+
     def test_bytes_that_would_favour_a_draw_are_passed_over(self):
         """Of 15^16 sentences; the numbers from twice that on are passed over."""
         bank, total = oracle.f_words(15), 15**16
@@ -437,10 +475,10 @@ class Session(unittest.TestCase):
         source = random_bytes(54, 100)
         status, lines, errors = self.session(F, 2, 10, source)
         self.assertEqual((status, len(lines)), (1, 4))
-        self.assertIn('nothing is left: 4 of 4 were heard', errors)
+        self.assertIn('nothing is left: 4 of 4 were heard in voice 0', errors)
         self.check_drawn(F, 2, source, bytes(4), lines)
         before = self.diary.read_bytes()
-        self.assertEqual(self.session(F, 2, 10, source), (1, [], 'session: nothing is left: 4 of 4 were heard\n'))
+        self.assertEqual(self.session(F, 2, 10, source), (1, [], 'session: nothing is left: 4 of 4 were heard in voice 0\n'))
         self.assertEqual(self.diary.read_bytes(), before)
 
     def test_full_diary(self):
@@ -472,17 +510,17 @@ class Session(unittest.TestCase):
         cases = [(bank, empty, 2) for _, refusal, bank in vectors.TRAPS if refusal]
         cases += [(F, diary, 2) for _, refusal, diary in vectors.HISTORY_TRAPS if refusal]
         cases += [(F, empty, 0), (F, empty, 17), (oracle.f_words(16), empty, 16), (G, history([bytes(3)]), 3)]
-        for bank, diary, length in cases:
+        for bank, diary, length, voice in [*((*case, 0) for case in cases), (F, empty, 2, 16), (F, empty, 2, 256)]:
             self.diary.write_bytes(diary)
-            refusal = oracle.remaining(bank, diary, length)[0]
-            status, lines, errors = self.session(bank, length, 1, bytes(8))
+            refusal = oracle.remaining(bank, diary, length, voice)[0]
+            status, lines, errors = self.session(bank, length, 1, bytes(8), voice=voice)
             self.assertEqual((status, lines), (2, []))
             said, number, why = re.fullmatch(r'session: (.*): refused (\d+): (.*)\n', errors).groups()
             self.assertEqual(int(number), refusal)
             self.assertEqual(told.setdefault(refusal, why), why)
             self.assertEqual(self.diary.read_bytes(), diary)
-        self.assertEqual(set(told), set(range(1, 16)))
-        self.assertEqual(len(set(told.values())), 15)
+        self.assertEqual(set(told), {*range(1, 16), 22})
+        self.assertEqual(len(set(told.values())), 16)
 
     def test_a_source_that_ends(self):
         source = random_bytes(56, 23)
@@ -500,11 +538,12 @@ class Session(unittest.TestCase):
         (self.folder / 'bank').write_bytes(F)
         ran = run(self.program, self.folder / 'bank', self.diary, '4', '16')
         self.assertEqual((ran.returncode, len(ran.stdout.splitlines())), (0, 16))
-        self.assertEqual(oracle.remaining(F, self.diary.read_bytes(), 4), (0, 16, 16, 0))
+        self.assertEqual(oracle.remaining(F, self.diary.read_bytes(), 4, 0), (0, 16, 16, 0))
 
     def test_wrong_commands(self):
         (self.folder / 'bank').write_bytes(F)
-        for args in [(), ('bank', 'diary', '2'), ('bank', 'diary', '2', '1', 'none'), ('none', 'diary', '2', '1'),
+        for args in [(), ('bank', 'diary', '2'), ('bank', 'diary', '2', '1', 'none'), ('bank', 'diary', '2', '1', '0', 'none'),
+                     ('bank', 'diary', '2', '1', '0', 'bank', '0'), ('none', 'diary', '2', '1'),
                      ('bank', 'diary', '-2', '1'), ('bank', 'diary', '2', 'x'), ('bank', 'diary', '2', '9' * 20)]:
             ran = subprocess.run([self.program, *args], cwd=self.folder, capture_output=True)
             self.assertEqual((ran.returncode, ran.stdout), (2, b''))

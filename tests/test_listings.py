@@ -14,7 +14,7 @@ from listings import Input
 def figures(data):
     """Length, bank, diary, and what Left answers."""
     length, bank, diary = oracle.split_input(data)
-    return length, bank, diary, oracle.remaining(bank, diary, length)
+    return length, bank, diary, oracle.remaining(bank, diary, length, 0)
 
 
 class Inputs(unittest.TestCase):
@@ -53,19 +53,22 @@ class Inputs(unittest.TestCase):
         self.assertGreater(sum(heard > 500 for *_, heard, _ in self.accepted), 1)
 
     def test_diaries(self):
-        """Repeats, foreign words, 255, other lengths, slack, chains that are not in the order of the records."""
+        """Repeats, foreign words, 255, other lengths, slack, chains that are not in the order of the records, other voices, which
+        the listing passes over."""
         kinds = collections.Counter()
         for length, bank, diary, *_ in self.accepted:
-            sentences = oracle.sentences_of(diary)
+            said = oracle.sentences_of(diary)
+            sentences = [sentence for _, sentence in said]
             kinds.update({
-                'repeats': len(set(sentences)) < len(sentences),
+                'repeats': len(set(said)) < len(said),
+                'voices': any(oracle.remaining(bank, diary, length, voice)[2] > 0 for voice in range(1, 16)),
                 'foreign': any(bank[1] <= byte < 255 for sentence in sentences for byte in sentence),
                 '255': any(255 in sentence for sentence in sentences),
                 'other': any(len(sentence) != length for sentence in sentences),
                 'slack': len(diary) > 4 + 20 * len(sentences),
                 'mixed': oracle.history_chain(diary) != list(range(1, len(sentences) + 1)),
             })
-        self.assertEqual({kind for kind, count in kinds.items() if count >= 20}, {'repeats', 'foreign', '255', 'other', 'slack', 'mixed'})
+        self.assertEqual({kind for kind, count in kinds.items() if count >= 20}, {'repeats', 'voices', 'foreign', '255', 'other', 'slack', 'mixed'})
 
     def test_banks(self):
         """Empty chains, chains that are not in the order of the rules, nonterminals that derive nothing, ambiguous sentences."""

@@ -37,7 +37,7 @@ class Examples(unittest.TestCase):
         self.assertEqual(oracle.listing(listing_input(2, F, HEARD_01)), b'2 4 1 3\n0 0 0 0\n1 2 1 0\n2 3 1 1\n')
 
     def test_p8_draw_past_the_end(self):
-        self.assertEqual(oracle.draw(F, HEARD_01, 2, 3, b'\7\7'), (16, 0, 0, b'\7\7'))
+        self.assertEqual(oracle.draw(F, HEARD_01, 2, 0, 3, b'\7\7'), (16, 0, 0, b'\7\7'))
 
     def test_p9_p10_ambiguous_grammar(self):
         self.assertEqual(oracle.count(G, 3), (0, 2))
@@ -55,7 +55,7 @@ class Examples(unittest.TestCase):
         self.assertEqual(oracle.unrank(grammar, 16, last, bytes(16)), (0, last + 1, bytes([14] * 16)))
         self.assertEqual(oracle.rank(grammar, bytes(15) + b'\1'), (0, 1, last + 1, 1))
         heard = history([bytes(16), bytes([14] * 16)])
-        self.assertEqual(oracle.draw(grammar, heard, 16, last - 2, bytes(16)), (0, last - 1, last - 1, bytes([14] * 15 + [13])))
+        self.assertEqual(oracle.draw(grammar, heard, 16, 0, last - 2, bytes(16)), (0, last - 1, last - 1, bytes([14] * 15 + [13])))
 
     def test_matrix(self):
         matrix = oracle.matrix()
@@ -71,11 +71,11 @@ class Examples(unittest.TestCase):
 
     def test_wrong_turn_heard_numbers_added_once(self):
         heard = history([bytes([1, 0]), bytes([0, 1])])
-        self.assertEqual(oracle.draw(F, heard, 2, 1, bytes(2)), (0, 2, 3, bytes([1, 1])))
+        self.assertEqual(oracle.draw(F, heard, 2, 0, 1, bytes(2)), (0, 2, 3, bytes([1, 1])))
 
     def test_wrong_turn_repeat_subtracted_twice(self):
         heard = history([bytes([0, 1])] * 2)
-        self.assertEqual(oracle.remaining(F, heard, 2), (0, 4, 1, 3))
+        self.assertEqual(oracle.remaining(F, heard, 2, 0), (0, 4, 1, 3))
 
     def test_wrong_turn_rules_by_index(self):
         backward = generate.grammar(2, 0, [[pair(1, 1)], [word(0), word(1)]], [1, 3, 2])
@@ -103,15 +103,15 @@ class Refusals(unittest.TestCase):
             self.assertEqual(oracle.count(bad, 0), (refusal, 0))
             self.assertEqual(oracle.unrank(bad, 17, 0, b''), (refusal, 0, b''))
             self.assertEqual(oracle.rank(bad, b''), (refusal, 0, 0, 0))
-            self.assertEqual(oracle.remaining(bad, b'', 0), (refusal, 0, 0, 0))
-            self.assertEqual(oracle.draw(bad, b'', 0, 0, b'\7'), (refusal, 0, 0, b'\7'))
+            self.assertEqual(oracle.remaining(bad, b'', 0, 0), (refusal, 0, 0, 0))
+            self.assertEqual(oracle.draw(bad, b'', 0, 0, 0, b'\7'), (refusal, 0, 0, b'\7'))
 
     def test_length(self):
         for length in (0, 17, 255, 256, PAST):
             self.assertEqual(oracle.count(F, length), (9, 0))
             self.assertEqual(oracle.unrank(F, length, PAST, b''), (9, 0, b''))
-            self.assertEqual(oracle.remaining(F, b'', length), (9, 0, 0, 0))
-            self.assertEqual(oracle.draw(F, b'', length, PAST, b''), (9, 0, 0, b''))
+            self.assertEqual(oracle.remaining(F, b'', length, 0), (9, 0, 0, 0))
+            self.assertEqual(oracle.draw(F, b'', length, 0, PAST, b''), (9, 0, 0, b''))
         self.assertEqual(oracle.rank(F, b''), (9, 0, 0, 0))
         self.assertEqual(oracle.rank(F, bytes(17)), (9, 0, 0, 0))
 
@@ -132,37 +132,37 @@ class Refusals(unittest.TestCase):
                     self.assertEqual(oracle.count(grammar, length)[0] == 10, ten)
                     self.assertEqual(oracle.unrank(grammar, length, PAST, b'')[0], 10 if ten else 16)
                     self.assertEqual(oracle.rank(grammar, bytes([239]) * length)[0], 10 if ten else 17)
-                    self.assertEqual(oracle.remaining(grammar, b'', length)[0], 10 if ten else 11)
-                    self.assertEqual(oracle.draw(grammar, EMPTY, length, PAST, b'')[0], 10 if ten else 16)
+                    self.assertEqual(oracle.remaining(grammar, b'', length, 0)[0], 10 if ten else 11)
+                    self.assertEqual(oracle.draw(grammar, EMPTY, length, 0, PAST, b'')[0], 10 if ten else 16)
 
     def test_a_call_that_is_refused_no_more_answers_by_the_same_definitions(self):
         grammar, _ = generate.reaching()['the start']
         self.assertEqual(oracle.count(grammar, 9), (0, 1))
         self.assertEqual(oracle.unrank(grammar, 9, 0, bytes(9)), (0, 1, bytes(9)))
         self.assertEqual(oracle.rank(grammar, bytes(9)), (0, 0, 1, 1))
-        self.assertEqual(oracle.remaining(grammar, history([bytes(9)]), 9), (0, 1, 1, 0))
-        self.assertEqual(oracle.draw(grammar, EMPTY, 9, 0, bytes(9)), (0, 1, 0, bytes(9)))
+        self.assertEqual(oracle.remaining(grammar, history([bytes(9)]), 9, 0), (0, 1, 1, 0))
+        self.assertEqual(oracle.draw(grammar, EMPTY, 9, 0, 0, bytes(9)), (0, 1, 0, bytes(9)))
 
     def test_history_before_the_draw_number(self):
-        self.assertEqual(oracle.draw(F, b'', 2, PAST, b''), (11, 0, 0, b''))
-        self.assertEqual(oracle.remaining(F, bytes([0, 0, 1, 0]), 2), (13, 0, 0, 0))
+        self.assertEqual(oracle.draw(F, b'', 2, 0, PAST, b''), (11, 0, 0, b''))
+        self.assertEqual(oracle.remaining(F, bytes([0, 0, 1, 0]), 2, 0), (13, 0, 0, 0))
 
     def test_ambiguous_record(self):
         heard = history([bytes(3)])
-        self.assertEqual(oracle.remaining(G, heard, 3), (15, 0, 0, 0))
-        self.assertEqual(oracle.draw(G, heard, 3, PAST, b''), (15, 0, 0, b''))
-        self.assertEqual(oracle.remaining(G, heard, 4), (0, 5, 0, 5))
+        self.assertEqual(oracle.remaining(G, heard, 3, 0), (15, 0, 0, 0))
+        self.assertEqual(oracle.draw(G, heard, 3, 0, PAST, b''), (15, 0, 0, b''))
+        self.assertEqual(oracle.remaining(G, heard, 4, 0), (0, 5, 0, 5))
 
     def test_number_before_buffer(self):
         self.assertEqual(oracle.unrank(F, 2, 4, b''), (16, 0, b''))
         self.assertEqual(oracle.unrank(F, 2, 3, b'\7'), (20, 0, b'\7'))
-        self.assertEqual(oracle.draw(F, HEARD_01, 2, 3, b''), (16, 0, 0, b''))
-        self.assertEqual(oracle.draw(F, HEARD_01, 2, 2, b'\7'), (20, 0, 0, b'\7'))
+        self.assertEqual(oracle.draw(F, HEARD_01, 2, 0, 3, b''), (16, 0, 0, b''))
+        self.assertEqual(oracle.draw(F, HEARD_01, 2, 0, 2, b'\7'), (20, 0, 0, b'\7'))
 
     def test_words_outside_the_grammar(self):
         self.assertEqual(oracle.rank(F, bytes([0, 2])), (17, 0, 0, 0))
         self.assertEqual(oracle.rank(F, bytes([255, 0])), (17, 0, 0, 0))
-        self.assertEqual(oracle.remaining(F, history([bytes([255, 0]), bytes([0, 2])]), 2), (0, 4, 0, 4))
+        self.assertEqual(oracle.remaining(F, history([bytes([255, 0]), bytes([0, 2])]), 2, 0), (0, 4, 0, 4))
 
 
 class Readings(unittest.TestCase):
@@ -174,7 +174,7 @@ class Readings(unittest.TestCase):
                 with self.subTest(name, sentence=sentence):
                     self.assertEqual(oracle.rank(grammar, sentence), (0, number, total, count))
                     self.assertEqual(oracle.unrank(grammar, len(sentence), number, bytes(16)), (0, total, sentence + bytes(16 - len(sentence))))
-                    heard = oracle.remaining(grammar, history([sentence]), len(sentence))
+                    heard = oracle.remaining(grammar, history([sentence]), len(sentence), 0)
                     self.assertEqual(heard, (0, total, 1, total - 1) if count == 1 else (15, 0, 0, 0))
 
     def test_the_last_word_all_over(self):
@@ -199,7 +199,7 @@ class Histories(unittest.TestCase):
         numbers = Rng(1).shuffled(range(1, 1001))
         full = history([bytes([1])] * 1000, numbers)
         self.assertEqual(oracle.check_history(full), (0, 1000))
-        self.assertEqual(oracle.append(full + bytes(40), b'\1'), (19, 0, full + bytes(40)))
+        self.assertEqual(oracle.append(full + bytes(40), b'\1', 0), (19, 0, full + bytes(40)))
 
     def test_record_layout(self):
         for at, value in [(6, 0), (6, 17), (6, 1), (7, 1), (10, 1), (23, 255)]:
@@ -218,26 +218,80 @@ class Histories(unittest.TestCase):
     def test_append(self):
         room = b'\11' * 20
         after = bytes([2, 0, 2, 0]) + HEARD_01[4:] + bytes([1, 0, 2, 0, 3, 255]) + bytes(14) + b'\11'
-        self.assertEqual(oracle.append(HEARD_01 + room + b'\11', bytes([3, 255])), (0, 2, after))
-        self.assertEqual(oracle.sentences_of(after), [bytes([3, 255]), bytes([0, 1])])
+        self.assertEqual(oracle.append(HEARD_01 + room + b'\11', bytes([3, 255]), 0), (0, 2, after))
+        self.assertEqual(oracle.sentences_of(after), [(0, bytes([3, 255])), (0, bytes([0, 1]))])
 
     def test_append_room(self):
-        self.assertEqual(oracle.append(EMPTY + bytes(19), b'\1'), (19, 0, EMPTY + bytes(19)))
-        self.assertEqual(oracle.append(EMPTY + bytes(20), b'\1')[:2], (0, 1))
+        self.assertEqual(oracle.append(EMPTY + bytes(19), b'\1', 0), (19, 0, EMPTY + bytes(19)))
+        self.assertEqual(oracle.append(EMPTY + bytes(20), b'\1', 0)[:2], (0, 1))
 
     def test_append_refuses_the_length_first(self):
-        self.assertEqual(oracle.append(b'', b''), (9, 0, b''))
-        self.assertEqual(oracle.append(b'', bytes(17)), (9, 0, b''))
-        self.assertEqual(oracle.append(b'', b'\1'), (11, 0, b''))
+        self.assertEqual(oracle.append(b'', b'', 0), (9, 0, b''))
+        self.assertEqual(oracle.append(b'', bytes(17), 0), (9, 0, b''))
+        self.assertEqual(oracle.append(b'', b'\1', 0), (11, 0, b''))
 
     def test_appends_grow_the_history(self):
         buffer, said, rng = EMPTY + b'\125' * 205, [], Rng(2)
         for k in range(1, 11):
             sentence = bytes(rng.below(256) for _ in range(1 + rng.below(16)))
-            refusal, figure, buffer = oracle.append(buffer, sentence)
-            said.insert(0, sentence)
+            refusal, figure, buffer = oracle.append(buffer, sentence, k)
+            said.insert(0, (k, sentence))
             self.assertEqual((refusal, figure, oracle.sentences_of(buffer)), (0, k, said))
-        self.assertEqual(oracle.append(buffer, b'\1'), (19, 0, buffer))
+        self.assertEqual(oracle.append(buffer, b'\1', 0), (19, 0, buffer))
+
+
+class Voices(unittest.TestCase):
+    """Document 02, U4: "A sentence is heard only if words and voice both agree"."""
+
+    def test_the_byte_that_log_writes(self):
+        for voice in range(16):
+            refusal, k, buffer = oracle.append(EMPTY + b'\7' * 20, b'\5', voice)
+            self.assertEqual((refusal, k, buffer), (0, 1, bytes([1, 0, 1, 0, 0, 0, 1, 16 * voice, 5]) + bytes(15)))
+
+    def test_every_fourth_byte(self):
+        for value in range(256):
+            refusal = oracle.check_history(generate.damaged(HEARD_01, [(7, value)]))[0]
+            self.assertEqual(refusal, 0 if value in range(0, 256, 16) else 12)
+
+    def test_a_sentence_in_one_voice(self):
+        heard = history([bytes([0, 1])], voices=[9])
+        for voice in range(16):
+            self.assertEqual(oracle.remaining(F, heard, 2, voice), (0, 4, 1, 3) if voice == 9 else (0, 4, 0, 4))
+        self.assertEqual(oracle.draw(F, heard, 2, 9, 1, bytes(2)), (0, 3, 2, bytes([1, 0])))
+        self.assertEqual(oracle.draw(F, heard, 2, 8, 1, bytes(2)), (0, 4, 1, bytes([0, 1])))
+
+    def test_the_same_words_in_several_voices(self):
+        """Repeated, and beside others: each voice has its own."""
+        said = [(3, bytes([0, 1])), (0, bytes([0, 1])), (3, bytes([0, 1])), (15, bytes([1, 1])), (0, bytes([1, 0])), (3, bytes([2, 2]))]
+        heard = history([sentence for _, sentence in said], [4, 6, 1, 2, 5, 3], voices=[voice for voice, _ in said])
+        for voice, count in {0: 2, 3: 1, 15: 1, 1: 0, 14: 0}.items():
+            self.assertEqual(oracle.remaining(F, heard, 2, voice), (0, 4, count, 4 - count))
+
+    def test_an_ambiguous_sentence_in_another_voice(self):
+        heard = history([bytes(3)], voices=[4])
+        for voice in range(16):
+            self.assertEqual(oracle.remaining(G, heard, 3, voice)[0], 15 if voice == 4 else 0)
+            self.assertEqual(oracle.draw(G, heard, 3, voice, 0, bytes(3))[0], 15 if voice == 4 else 0)
+
+    def test_old_diaries_read_as_voice_0(self):
+        self.assertEqual(oracle.remaining(F, HEARD_01, 2, 0), (0, 4, 1, 3))
+        for voice in range(1, 16):
+            self.assertEqual(oracle.remaining(F, HEARD_01, 2, voice), (0, 4, 0, 4))
+        other = history([bytes([0, 1])], voices=[1])
+        self.assertEqual(oracle.listing(listing_input(2, F, other)), b'2 4 0 4\n0 0 0 0\n1 1 0 1\n2 2 1 0\n3 3 1 1\n')
+
+    def test_voices_above_15(self):
+        """After 9, and before 10 in Left and Draw and before 11 in Log."""
+        large = oracle.f_words(16)
+        for voice in (16, 17, 255, 256, 2**32, 2**63, PAST):
+            self.assertEqual(oracle.remaining(large, b'', 16, voice), (22, 0, 0, 0))
+            self.assertEqual(oracle.draw(large, b'', 16, voice, PAST, b'\7'), (22, 0, 0, b'\7'))
+            self.assertEqual(oracle.append(b'\7', b'\1', voice), (22, 0, b'\7'))
+            self.assertEqual(oracle.remaining(large, b'', 17, voice), (9, 0, 0, 0))
+            self.assertEqual(oracle.draw(F[:-1], b'', 2, voice, 0, b''), (3, 0, 0, b''))
+            self.assertEqual(oracle.append(b'\7', b'', voice), (9, 0, b'\7'))
+        self.assertEqual(oracle.remaining(large, b'', 16, 15), (10, 0, 0, 0))
+        self.assertEqual(oracle.append(b'\7', b'\1', 15), (11, 0, b'\7'))
 
 
 class Listings(unittest.TestCase):
@@ -268,7 +322,7 @@ class Listings(unittest.TestCase):
         heard = history([bytes([1, 0, 1]), bytes([0, 0, 0]), bytes([9, 9, 9])])
         lines = oracle.listing(listing_input(3, F, heard)).decode().splitlines()
         for q, line in enumerate(lines[1:]):
-            refusal, _, number, sentence = oracle.draw(F, heard, 3, q, bytes(3))
+            refusal, _, number, sentence = oracle.draw(F, heard, 3, 0, q, bytes(3))
             self.assertEqual((refusal, line), (0, ' '.join(map(str, [q, number, *sentence]))))
         self.assertEqual(len(lines), 7)
 
@@ -422,14 +476,17 @@ class SmallGrammars(unittest.TestCase):
             sentences = [oracle.sentence_of(tree) for tree in oracle.read(grammar).derivations(grammar[3], length)]
             once = [sentence for sentence in sentences if sentences.count(sentence) == 1]
             records = [rng.choice(once) for _ in range(rng.below(6)) if once] + [b'\377' * length, b'\0' * (length % 16 + 1)]
-            diary = history(records, rng.shuffled(range(1, len(records) + 1)))
-            unheard = [(d, sentence) for d, sentence in enumerate(sentences) if sentence not in records]
-            left = len(unheard)
-            self.assertEqual(oracle.remaining(grammar, diary, length), (0, len(sentences), len(sentences) - left, left))
-            draws = [oracle.draw(grammar, diary, length, q, b'\7' * 17) for q in range(left)]
-            self.assertEqual(draws, [(0, left, d, sentence + b'\7' * (17 - length)) for d, sentence in unheard])
-            for q in (left, left + 1, PAST):
-                self.assertEqual(oracle.draw(grammar, diary, length, q, b'\7' * 17), (16, 0, 0, b'\7' * 17))
+            voices = [rng.choice([0, 7, 15]) for _ in records]
+            diary = history(records, rng.shuffled(range(1, len(records) + 1)), voices=voices)
+            for voice in (0, 7, 8):
+                own = [sentence for sentence, said in zip(records, voices) if said == voice]
+                unheard = [(d, sentence) for d, sentence in enumerate(sentences) if sentence not in own]
+                left = len(unheard)
+                self.assertEqual(oracle.remaining(grammar, diary, length, voice), (0, len(sentences), len(sentences) - left, left))
+                draws = [oracle.draw(grammar, diary, length, voice, q, b'\7' * 17) for q in range(left)]
+                self.assertEqual(draws, [(0, left, d, sentence + b'\7' * (17 - length)) for d, sentence in unheard])
+                for q in (left, left + 1, PAST):
+                    self.assertEqual(oracle.draw(grammar, diary, length, voice, q, b'\7' * 17), (16, 0, 0, b'\7' * 17))
 
 
 if __name__ == '__main__':

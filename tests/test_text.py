@@ -41,17 +41,21 @@ def meaning(bank):
     return bank[0], bank[1], bank[3], [[rules[i][:3] for i in numbers] for numbers in chains]
 
 
-def logged(sentences, room):
+def logged(sentences, room, voices):
     """The history after logging these sentences in turn."""
     diary = bytes(4 + 20 * room)
-    for sentence in sentences:
-        refusal, _, diary = oracle.append(diary, sentence)
+    for sentence, voice in zip(sentences, voices, strict=True):
+        refusal, _, diary = oracle.append(diary, sentence, voice)
         assert refusal == 0
     return diary
 
 
 def random_sentences(rng):
     return [bytes(rng.below(256) for _ in range(1 + rng.below(16))) for _ in range(rng.below(12))]
+
+
+def random_voices(rng, sentences):
+    return [rng.choice([0, 0, rng.below(16)]) for _ in sentences]
 
 
 class Examples(unittest.TestCase):
@@ -64,8 +68,8 @@ class Examples(unittest.TestCase):
     def test_the_sample_diary(self):
         lines = (ROOT / 'examples' / 'diary.txt').read_text()
         diary = text.history_bytes(lines)
-        self.assertEqual(oracle.remaining(oracle.matrix(), diary, 5), (0, 100000, 4, 99996))
-        numbers = [oracle.rank(oracle.matrix(), sentence)[1] for sentence in oracle.sentences_of(diary)]
+        self.assertEqual(oracle.remaining(oracle.matrix(), diary, 5, 0), (0, 100000, 4, 99996))
+        numbers = [oracle.rank(oracle.matrix(), sentence)[1] for _, sentence in oracle.sentences_of(diary)]
         self.assertEqual(numbers, [5, 31415, 2, 0])
         self.assertEqual(len(diary), 4 + 20 * 40)
 
@@ -80,7 +84,7 @@ class Examples(unittest.TestCase):
                           for part in text.__doc__.split('A history has')]
         chains = [[(1, 1, 1), (1, 0, 1)], [(0, 0, 0), (0, 1, 0), (0, 2, 0)]]
         self.assertEqual(meaning(text.grammar_bytes(grammar)), (2, 3, 0, chains))
-        self.assertEqual(text.history_bytes(diary), logged([bytes([2, 2]), bytes([0, 1, 2])], 40))
+        self.assertEqual(text.history_bytes(diary), logged([bytes([2, 2]), bytes([0, 1, 2]), bytes([0, 1, 2])], 40, [0, 3, 0]))
 
 
 class Grammars(unittest.TestCase):
@@ -202,16 +206,26 @@ class Histories(unittest.TestCase):
         rng = Rng(33)
         for _ in range(50):
             sentences = random_sentences(rng)
+            voices = random_voices(rng, sentences)
             room = len(sentences) + rng.below(3)
-            lines = [' '.join(map(str, sentence)) for sentence in reversed(sentences)] + [f'room {room}']
-            self.assertEqual(text.history_bytes('\n'.join(lines)), logged(sentences, room))
+            lines = [' '.join(map(str, sentence)) + (f', voice {voice}' if voice else '') for sentence, voice in zip(sentences, voices)]
+            self.assertEqual(text.history_bytes('\n'.join([*reversed(lines), f'room {room}'])), logged(sentences, room, voices))
 
     def test_random_ones_come_back(self):
         rng = Rng(34)
         for _ in range(200):
             sentences = random_sentences(rng)
             slack = bytes(rng.below(256) for _ in range(rng.choice([0, 0, 1, 19, 20, 45])))
-            self.check(history(sentences, rng.shuffled(range(1, len(sentences) + 1)), slack))
+            self.check(history(sentences, rng.shuffled(range(1, len(sentences) + 1)), slack, random_voices(rng, sentences)))
+
+    def test_voices(self):
+        every = history([bytes([7, 8])] * 16, voices=range(16))
+        lines = ['7 8', *(f'7 8, voice {voice}' for voice in range(1, 16))]
+        self.assertEqual(text.history_text(every).splitlines(), lines)
+        self.assertEqual(oracle.sentences_of(text.history_bytes('\n'.join(lines))), oracle.sentences_of(every))
+        for line in ('5, voice 3', '5,voice 3', '5 ,  voice   3 # a talker', '5, voice 03'):
+            self.assertEqual(text.history_bytes(line), history([b'\5'], voices=[3]), line)
+        self.assertEqual(text.history_bytes('5, voice 0'), history([b'\5']))
 
     def test_a_thousand_and_more(self):
         for many in (999, 1000, 1001):
@@ -233,6 +247,16 @@ class Histories(unittest.TestCase):
             ('1 2\n\n1 two', "line 3: a word is not a number: 'two'"),
             ('1 256', 'line 1: a word is above 255: 256'),
             ('# none\n' + '1 ' * 17, 'line 2: the sentence has 17 words, and 16 is the most'),
+            ('1 2, voice 16', 'line 1: the voice is above 15: 16'),
+            ('1 2, voice x', "line 1: the voice is not a number: 'x'"),
+            ('1 2, voice -1', "line 1: the voice is not a number: '-1'"),
+            ('1 2, voice', "line 1: no voice behind the comma: 'voice'"),
+            ('1 2, voice 1 2', "line 1: no voice behind the comma: 'voice 1 2'"),
+            ('1 2, voice 1, voice 1', "line 1: no voice behind the comma: 'voice 1, voice 1'"),
+            ('1\n1, 2', "line 2: no voice behind the comma: '2'"),
+            ('1 2,', "line 1: no voice behind the comma: ''"),
+            (', voice 1', 'line 1: there is no word before the comma'),
+            ('1 2 voice 1', "line 1: a word is not a number: 'voice'"),
             ('room 3\nroom 3', 'line 2: "room" stands there already'),
             ('room 65536', 'line 1: room is above 65535: 65536'),
             ('room x', "line 1: room is not a number: 'x'"),

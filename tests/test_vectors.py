@@ -128,9 +128,9 @@ class HistoryVectors(unittest.TestCase):
         for name, refusal, data in vectors.HISTORY_TRAPS:
             with self.subTest(name):
                 self.assertEqual(oracle.check_history(data)[0], refusal)
-        for name, refusal, data, sentence in vectors.LOG_TRAPS + list(vectors.log_defects()):
+        for name, refusal, data, sentence, voice in vectors.LOG_TRAPS + list(vectors.log_defects()):
             with self.subTest(name):
-                self.assertEqual(oracle.append(data, sentence)[0], refusal)
+                self.assertEqual(oracle.append(data, sentence, voice)[0], refusal)
 
     def test_names_of_traps_differ(self):
         names = [name for name, *_ in vectors.HISTORY_TRAPS + vectors.LOG_TRAPS]
@@ -142,16 +142,19 @@ class HistoryVectors(unittest.TestCase):
             'head 0 with K = 1: set': 'refused 14',
             'one: set': '0 1',
             'K is 1,000, backward: set': '0 1000',
-            'K is 1,000, backward: Log [5, 6]': 'refused 19',
-            '999, exactly the room: Log [5]': '0 1000',
-            '999, one byte less than the room: Log [5]': 'refused 19',
-            'no record, exactly the room: Log [5]': '0 1: 1 0 1 0 0 0 1 0 5' + ' 0' * 15,
+            'K is 1,000, backward: Log [5, 6] in 0': 'refused 19',
+            '999, exactly the room: Log [5] in 0': '0 1000',
+            '999, one byte less than the room: Log [5] in 0': 'refused 19',
+            'no record, exactly the room: Log [5] in 0': '0 1: 1 0 1 0 0 0 1 0 5' + ' 0' * 15,
+            'sixteen voices: set': '0 16',
+            'voice 256: Log [5] in 256': 'refused 22: ' + ' '.join(map(str, vectors.FOUR + vectors.JUNK)),
+            'voice 16, no word: Log [] in 16': 'refused 9: ' + ' '.join(map(str, vectors.FOUR + vectors.JUNK)),
         }.items():
             with self.subTest(name):
                 self.assertEqual(self.lines[name], line)
 
     def test_every_refusal_is_there_several_times(self):
-        for call, refusals in {'set': [11, 12, 13, 14], 'Log': [9, 11, 12, 13, 14, 19]}.items():
+        for call, refusals in {'set': [11, 12, 13, 14], 'Log': [9, 11, 12, 13, 14, 19, 22]}.items():
             lines = [line for name, line in self.lines.items() if name.split(': ')[1].startswith(call)]
             for refusal in refusals:
                 self.assertGreaterEqual(sum(line.split(':')[0] == f'refused {refusal}' for line in lines), 20)
@@ -160,20 +163,25 @@ class HistoryVectors(unittest.TestCase):
     def test_logs_from_none_make_the_history_anew(self):
         sentences = [bytes(range(i)) for i in (1, 16, 2, 15, 3)]
         made = generate.history(sentences[::-1], range(5, 0, -1))
-        self.assertEqual(self.lines[f'from none to five: Log {list(sentences[-1])}'], '0 5:' + ''.join(f' {byte}' for byte in made))
+        self.assertEqual(self.lines[f'from none to five: Log {list(sentences[-1])} in 0'], '0 5:' + ''.join(f' {byte}' for byte in made))
+
+    def test_logs_in_every_voice(self):
+        made = generate.history([bytes([8, 0])] * 16, range(16, 0, -1), voices=range(15, -1, -1))
+        self.assertEqual(self.lines['in every voice: Log [8, 0] in 15'], '0 16:' + ''.join(f' {byte}' for byte in made))
 
     def test_size(self):
         self.assertIn(len(self.cases), range(2000, 3001))
         self.assertLess(len(vectors.files(self.cases)['stdin']), 262_144)
-        self.assertLess(sum(map(len, vectors.files(self.cases).values())), 400_000)
+        self.assertLess(sum(map(len, vectors.files(self.cases).values())), 500_000)
 
     def test_the_frames_hold_the_cases(self):
         stdin, at, buffer, lines = vectors.files(self.cases)['stdin'], 0, b'', []
         while at < len(stdin):
-            call, end = stdin[at], at + 3 + oracle.two_bytes(stdin, at + 1)
-            data, at = stdin[at + 3:end], end
+            call, voice = stdin[at], int.from_bytes(stdin[at + 1:at + 9], 'little')
+            end = at + 11 + oracle.two_bytes(stdin, at + 9)
+            data, at = stdin[at + 11:end], end
             if call in (vectors.LOG, vectors.LOG_UNSHOWN):
-                *answer, buffer = oracle.append(buffer, data)
+                *answer, buffer = oracle.append(buffer, data, voice)
                 shown = ':' + ''.join(f' {byte}' for byte in buffer) if call == vectors.LOG else ''
                 lines.append(vectors.line(*answer) + shown)
             else:

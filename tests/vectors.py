@@ -21,10 +21,11 @@ the grammar of the calls after it. 1 is Count; 2 is Give into a buffer of that m
 Number, its bytes the sentence. The line is "0" and the figures, or "refused K"; with Give a colon and the
 buffer's bytes after the call follow.
 
-Kind history (document 01: Check diary, Log): a case is one byte call, two bytes size, low byte first, and
-that many bytes. Call 0 is Check diary of them, and they are the buffer of the calls after it. 1 is Log, its
-bytes the sentence: a colon and all of the buffer's bytes after the call follow. 2 is Log without these. 3 is
-Check diary of the buffer as it stands. The line is "0 K", or "refused" and the number.
+Kind history (document 01: Check diary, Log): a case is one byte call, eight bytes voice, two bytes size, both
+with the low byte first, and that many bytes. Call 0 is Check diary of them, and they are the buffer of the
+calls after it. 1 is Log in that voice, its bytes the sentence: a colon and all of the buffer's bytes after the
+call follow. 2 is Log without these. 3 is Check diary of the buffer as it stands. The line is "0 K", or
+"refused" and the number.
 """
 import argparse
 import itertools
@@ -558,13 +559,14 @@ class Buffer:
         self.name, self.data, self.cases = name, data, []
         self.add('set', SET, data, line(*oracle.check_history(data)))
 
-    def add(self, name, call, data, line):
-        self.cases.append(Case(f'{self.name}: {name}', bytes([call]) + low_high(len(data)) + data, line))
+    def add(self, name, call, data, line, voice=0):
+        frame = bytes([call]) + voice.to_bytes(8, 'little') + low_high(len(data)) + data
+        self.cases.append(Case(f'{self.name}: {name}', frame, line))
 
-    def log(self, sentence, shown=True):
-        refusal, k, self.data = oracle.append(self.data, sentence)
+    def log(self, sentence, voice, shown=True):
+        refusal, k, self.data = oracle.append(self.data, sentence, voice)
         after = ':' + ''.join(f' {byte}' for byte in self.data) if shown else ''
-        self.add(f'Log {list(sentence)}', LOG if shown else LOG_UNSHOWN, sentence, line(refusal, k) + after)
+        self.add(f'Log {list(sentence)} in {voice}', LOG if shown else LOG_UNSHOWN, sentence, line(refusal, k) + after, voice)
 
     def check(self):
         self.add('Check', CHECK, b'', line(*oracle.check_history(self.data)))
@@ -644,8 +646,19 @@ HISTORY_TRAPS = [
     ('length one less, last word 0', 0, damaged(history([bytes([1, 0])]), [(RECORD[1] + LENGTH, 1)])),
     ('length one more', 0, four((RECORD[2] + LENGTH, 3))),
     ('fourth byte 1', 12, four((RECORD[1] + FOURTH, 1))),
-    ('fourth byte 16', 12, four((RECORD[2] + FOURTH, 16))),
+    ('fourth byte 8', 12, four((RECORD[2] + FOURTH, 8))),
+    ('fourth byte 15', 12, four((RECORD[3] + FOURTH, 15))),
+    ('fourth byte 17', 12, four((RECORD[1] + FOURTH, 17))),
+    ('fourth byte 241', 12, four((RECORD[2] + FOURTH, 241))),
     ('fourth byte 255', 12, four((RECORD[4] + FOURTH, 255))),
+    ('fourth byte 16', 0, four((RECORD[2] + FOURTH, 16))),
+    ('fourth byte 128', 0, four((RECORD[1] + FOURTH, 128))),
+    ('fourth byte 240', 0, four((RECORD[4] + FOURTH, 240))),
+    ('fourth byte 16, sixteen words', 0, damaged(history([bytes([255]) * 16]), [(RECORD[1] + FOURTH, 16)])),
+    ('sixteen voices', 0, history([bytes([7, 7])] * 16, voices=range(16))),
+    ('sixteen voices, low bits in the last', 12, damaged(history([bytes([7, 7])] * 16, voices=range(16)), [(304 + FOURTH, 242)])),
+    ('a voice and a byte beyond the words', 12, four((RECORD[2] + FOURTH, 16), (RECORD[2] + WORDS + 2, 1))),
+    ('a voice and a link', 13, four((RECORD[2] + FOURTH, 16), (RECORD[2] + LINK, 9))),
     ('fourth byte 1, sixteen words', 12, damaged(history([bytes([255]) * 16]), [(RECORD[1] + FOURTH, 1)])),
     ('non-zero byte beyond the words, first place', 12, four((RECORD[2] + WORDS + 2, 1))),
     ('non-zero byte beyond the words, last place', 12, four((RECORD[2] + WORDS + 15, 1))),
@@ -707,65 +720,83 @@ HISTORY_TRAPS = [
     ('a record on no chain linked into the chain', 14, four((RECORD[1] + LINK, 0), (RECORD[3] + LINK, 2))),
 ]
 
-# Each: name, the refusal of Log that document 01 gives (0: accepted), the buffer, the sentence.
+# Each: name, the refusal of Log that the documents give (0: accepted), the buffer, the sentence, the voice.
 LOG_TRAPS = [
     # 9: the sentence's length
-    ('no word', 9, FOUR + JUNK, b''),
-    ('one word', 0, FOUR + JUNK, bytes([5])),
-    ('sixteen words', 0, FOUR + JUNK, bytes(range(16))),
-    ('seventeen words', 9, FOUR + JUNK, bytes(range(17))),
-    ('40 words', 9, FOUR + JUNK, bytes(40)),
-    ('256 words', 9, FOUR + JUNK, bytes(256)),
-    ('257 words', 9, FOUR + JUNK, bytes(257)),
-    ('272 words', 9, FOUR + JUNK, bytes(272)),
-    ('the word 0', 0, FOUR + JUNK, bytes(1)),
-    ('the word 255', 0, FOUR + JUNK, bytes([255])),
-    ('the word 0 sixteen times', 0, FOUR + JUNK, bytes(16)),
-    ('the word 255 sixteen times', 0, FOUR + JUNK, bytes([255]) * 16),
-    ('a sentence that is there', 0, FOUR + JUNK, bytes([0, 1])),
+    ('no word', 9, FOUR + JUNK, b'', 0),
+    ('one word', 0, FOUR + JUNK, bytes([5]), 0),
+    ('sixteen words', 0, FOUR + JUNK, bytes(range(16)), 0),
+    ('seventeen words', 9, FOUR + JUNK, bytes(range(17)), 0),
+    ('40 words', 9, FOUR + JUNK, bytes(40), 0),
+    ('256 words', 9, FOUR + JUNK, bytes(256), 0),
+    ('257 words', 9, FOUR + JUNK, bytes(257), 0),
+    ('272 words', 9, FOUR + JUNK, bytes(272), 0),
+    ('the word 0', 0, FOUR + JUNK, bytes(1), 0),
+    ('the word 255', 0, FOUR + JUNK, bytes([255]), 0),
+    ('the word 0 sixteen times', 0, FOUR + JUNK, bytes(16), 0),
+    ('the word 255 sixteen times', 0, FOUR + JUNK, bytes([255]) * 16, 0),
+    ('a sentence that is there', 0, FOUR + JUNK, bytes([0, 1]), 0),
 
     # 9 before 11 to 14 and 19
-    ('no word, no byte', 9, b'', b''),
-    ('no word, one byte short', 9, FOUR[:-1], b''),
-    ('seventeen words, layout', 9, four((RECORD[1] + LENGTH, 0)), bytes(17)),
-    ('seventeen words, link', 9, four((2, 5)), bytes(17)),
-    ('no word, loop', 9, four((RECORD[2] + LINK, 2)), b''),
-    ('no word, no room', 9, FOUR, b''),
+    ('no word, no byte', 9, b'', b'', 0),
+    ('no word, one byte short', 9, FOUR[:-1], b'', 0),
+    ('seventeen words, layout', 9, four((RECORD[1] + LENGTH, 0)), bytes(17), 0),
+    ('seventeen words, link', 9, four((2, 5)), bytes(17), 0),
+    ('no word, loop', 9, four((RECORD[2] + LINK, 2)), b'', 0),
+    ('no word, no room', 9, FOUR, b'', 0),
+
+    # 22: the voice, after 9 and before 11
+    ('voice 15', 0, FOUR + JUNK, bytes([5]), 15),
+    ('voice 16', 22, FOUR + JUNK, bytes([5]), 16),
+    ('voice 17', 22, FOUR + JUNK, bytes([5]), 17),
+    ('voice 255', 22, FOUR + JUNK, bytes([5]), 255),
+    ('voice 256', 22, FOUR + JUNK, bytes([5]), 256),
+    ('voice 2^32', 22, FOUR + JUNK, bytes([5]), 2**32),
+    ('voice 2^63', 22, FOUR + JUNK, bytes([5]), 2**63),
+    ('voice 2^64 - 1', 22, FOUR + JUNK, bytes([5]), 2**64 - 1),
+    ('voice 16, no byte', 22, b'', bytes([5]), 16),
+    ('voice 16, layout', 22, four((RECORD[1] + LENGTH, 0)), bytes([5]), 16),
+    ('voice 16, no room', 22, FOUR, bytes([5]), 16),
+    ('voice 16, no word', 9, FOUR + JUNK, b'', 16),
+    ('voice 15, no byte', 11, b'', bytes([5]), 15),
 
     # 19: the room
-    ('no record, no room', 19, bytes(4), bytes([5])),
-    ('no record, one byte less than the room', 19, bytes(4) + JUNK[:19], bytes([5])),
-    ('no record, exactly the room', 0, bytes(4) + JUNK[:20], bytes([5])),
-    ('no slack', 19, FOUR, bytes([5])),
-    ('one byte less than the room', 19, FOUR + JUNK[:19], bytes([5])),
-    ('exactly the room', 0, FOUR + JUNK[:20], bytes([5])),
-    ('one byte more than the room', 0, FOUR + JUNK[:21], bytes([5])),
+    ('no record, no room', 19, bytes(4), bytes([5]), 0),
+    ('no record, one byte less than the room', 19, bytes(4) + JUNK[:19], bytes([5]), 0),
+    ('no record, exactly the room', 0, bytes(4) + JUNK[:20], bytes([5]), 0),
+    ('no slack', 19, FOUR, bytes([5]), 0),
+    ('one byte less than the room', 19, FOUR + JUNK[:19], bytes([5]), 0),
+    ('exactly the room', 0, FOUR + JUNK[:20], bytes([5]), 0),
+    ('one byte more than the room', 0, FOUR + JUNK[:21], bytes([5]), 0),
 
     # The record is written in full
-    ('slack of 255, one word', 0, FOUR + bytes([255]) * 25, bytes([9])),
-    ('slack of 255, three words', 0, FOUR + bytes([255]) * 25, bytes([9, 0, 9])),
-    ('slack of 255, fifteen words', 0, FOUR + bytes([255]) * 25, bytes([9]) * 15),
-    ('head is not K', 0, eight([3, 8, 1, 6, 7, 2, 5, 4]) + JUNK, bytes([9])),
+    ('slack of 255, one word', 0, FOUR + bytes([255]) * 25, bytes([9]), 0),
+    ('slack of 255, three words', 0, FOUR + bytes([255]) * 25, bytes([9, 0, 9]), 0),
+    ('slack of 255, fifteen words', 0, FOUR + bytes([255]) * 25, bytes([9]) * 15, 0),
+    ('slack of 255, voice 3', 0, FOUR + bytes([255]) * 25, bytes([9]), 3),
+    ('sixteen words in voice 15', 0, FOUR + bytes(20), bytes([255]) * 16, 15),
+    ('a sentence that is there, in another voice', 0, FOUR + JUNK, bytes([0, 1]), 1),
+    ('head is not K', 0, eight([3, 8, 1, 6, 7, 2, 5, 4]) + JUNK, bytes([9]), 0),
 ]
 
 
 def log_defects():
-    """Every subset of 9, 11 to 14 and 19 in one call: the smallest is the answer."""
+    """Every subset of 9, 22, 11 to 14 and 19 in one call: the first in this order is the answer."""
     base = history([bytes([i]) for i in range(5)])
     places = {12: (64 + FOURTH, 1), 13: (44 + LINK, 6), 14: (24 + LINK, 1)}
-    for subset in range(64):
-        chosen = [refusal for i, refusal in enumerate([9, 11, 12, 13, 14, 19]) if subset >> i & 1]
+    for subset in range(128):
+        chosen = [refusal for i, refusal in enumerate([9, 22, 11, 12, 13, 14, 19]) if subset >> i & 1]
         data = damaged(base, [places[refusal] for refusal in chosen if refusal in places]) + JUNK[:20 - (19 in chosen)]
         if 11 in chosen:
             data = data[:len(base) - 1]
-        yield f'defects {chosen}', min(chosen, default=0), data, bytes([5] * (9 not in chosen))
+        yield f'defects {chosen}', chosen[0] if chosen else 0, data, bytes([5] * (9 not in chosen)), 16 if 22 in chosen else 6
 
 
 def resized_histories():
     """Two records and slack, cut to each size."""
     for size in range(67):
         buffer = Buffer(f'two, {size} bytes', (history([bytes([1, 2]), bytes([3])], [2, 1]) + JUNK)[:size])
-        buffer.log(bytes([5]))
+        buffer.log(bytes([5]), 0)
         yield buffer
 
 
@@ -773,15 +804,15 @@ def damaged_histories():
     """Two records with each byte set to each of several values."""
     data = history([bytes([1, 2]), bytes([3])], [2, 1])
     for at, byte in enumerate(data):
-        for value in sorted({0, 1, 2, 3, 16, 17, 255} - {byte}):
+        for value in sorted({0, 1, 2, 3, 16, 17, 240, 255} - {byte}):
             yield Buffer(f'two, byte {at} is {value}', damaged(data, [(at, value)]))
 
 
-def logged(name, data, sentences, unshown=0):
+def logged(name, data, sentences, unshown=0, voices=None):
     """The sentences logged one after the other, each followed by a check; the first ones without the buffer's bytes."""
     buffer = Buffer(name, data)
-    for i, sentence in enumerate(sentences):
-        buffer.log(sentence, i >= unshown)
+    for i, (sentence, voice) in enumerate(zip(sentences, voices or [0] * len(sentences), strict=True)):
+        buffer.log(sentence, voice, i >= unshown)
         buffer.check()
     return buffer
 
@@ -808,11 +839,13 @@ def random_histories(rng):
     """Histories of at most 6 records, as they are and damaged, with slack; then logs, the buffer shown after the last."""
     for i in range(60):
         k = rng.below(7)
-        data = history([random_sentence(rng, 1, 16) for _ in range(k)], rng.shuffled(range(1, k + 1)))
+        voices = [rng.choice([0, rng.below(16)]) for _ in range(k)]
+        data = history([random_sentence(rng, 1, 16) for _ in range(k)], rng.shuffled(range(1, k + 1)), voices=voices)
         for places in history_damages(rng, data):
             slack = bytes(rng.below(10) for _ in range(rng.below(50)))
             sentences = [random_sentence(rng, 0, 17) for _ in range(1 + rng.below(3))]
-            yield logged(f'random {i}, damage {places}', damaged(data, places) + slack, sentences, len(sentences) - 1)
+            voices = [rng.choice([0, 1, 15, rng.below(16), 16 + rng.below(240), rng.below(2**64)]) for _ in sentences]
+            yield logged(f'random {i}, damage {places}', damaged(data, places) + slack, sentences, len(sentences) - 1, voices)
 
 
 def history_cases():
@@ -821,16 +854,17 @@ def history_cases():
         if oracle.check_history(data)[0] != refusal:
             raise AssertionError(f'{name}: document 01 gives {refusal}, the brute-force program {oracle.check_history(data)[0]}')
         buffer = Buffer(name, data)
-        buffer.log(bytes([5, 6]), len(data) < 1000)
+        buffer.log(bytes([5, 6]), 0, len(data) < 1000)
         buffers.append(buffer)
-    for name, refusal, data, sentence in LOG_TRAPS + list(log_defects()):
-        if oracle.append(data, sentence)[0] != refusal:
-            raise AssertionError(f'{name}: document 01 gives {refusal}, the brute-force program {oracle.append(data, sentence)[0]}')
-        buffers.append(logged(name, data, [sentence]))
+    for name, refusal, data, sentence, voice in LOG_TRAPS + list(log_defects()):
+        if oracle.append(data, sentence, voice)[0] != refusal:
+            raise AssertionError(f'{name}: the documents give {refusal}, the brute-force program {oracle.append(data, sentence, voice)[0]}')
+        buffers.append(logged(name, data, [sentence], voices=[voice]))
     buffers += [
         *resized_histories(), *damaged_histories(),
         logged('from none to five', bytes(4) + (JUNK * 2)[:100], [bytes(range(i)) for i in [1, 16, 0, 2, 17, 15, 3, 1]]),
         logged('the same sentence', bytes(4) + bytes([255]) * 79, [bytes([8, 0])] * 4),
+        logged('in every voice', bytes(4) + bytes([255]) * 320, [bytes([8, 0])] * 16, 15, range(16)),
         logged('253 to 258', many(253) + JUNK * 2, [bytes([i]) for i in range(5)], 4),
         logged('999 to 1,000', many(999, [*range(500, 1000), *range(1, 500)]) + JUNK[:50], [bytes([5]), bytes([6]), bytes([7])], 2),
         logged('999, exactly the room', many(999) + JUNK[:20], [bytes([5])], 1),

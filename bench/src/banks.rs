@@ -177,7 +177,7 @@ pub fn every_tree() -> Vec<u8> {
     encode(5, 0, &[chain], &[0, 1, 2, 3, 4, 5])
 }
 
-/// A history of these sentences, chained in an order of its own.
+/// A history of these sentences, in voice 0, chained in an order of its own.
 pub fn history(sentences: &[Vec<u8>], rng: &mut Rng) -> Vec<u8> {
     let k = sentences.len();
     let order = rng.some_of(k, k);
@@ -208,6 +208,14 @@ pub fn logged(sentences: &[Vec<u8>]) -> Vec<u8> {
     }
     bytes[2..4].copy_from_slice(&(k as u16).to_le_bytes());
     bytes
+}
+
+/// The same records, each in a voice by its place.
+pub fn spoken(mut history: Vec<u8>, voice: &mut dyn FnMut(usize) -> u8) -> Vec<u8> {
+    for (i, record) in history[4..].chunks_exact_mut(20).enumerate() {
+        record[3] = 16 * voice(i);
+    }
+    history
 }
 
 fn damage(bytes: &mut Vec<u8>, rng: &mut Rng) {
@@ -260,7 +268,7 @@ pub fn small_bank(rng: &mut Rng) -> Vec<u8> {
     bank
 }
 
-/// A small history, often a damaged one or one with slack; `sentence` makes some of its sentences.
+/// A small history, often a damaged one or one with slack, in one voice or in several; `sentence` makes some of its sentences.
 pub fn small_history(rng: &mut Rng, sentence: &mut dyn FnMut(&mut Rng) -> Option<Vec<u8>>) -> Vec<u8> {
     let k = rng.index(7);
     let sentences: Vec<Vec<u8>> = (0..k)
@@ -273,7 +281,12 @@ pub fn small_history(rng: &mut Rng, sentence: &mut dyn FnMut(&mut Rng) -> Option
             small_sentence(rng)
         })
         .collect();
-    let mut h = history(&sentences, rng);
+    let h = history(&sentences, rng);
+    let (voice, most) = (small_voice(rng), [1, 2, 16][rng.index(3)]);
+    let mut h = spoken(h, &mut |_| (voice + rng.below(most) as u8) % 16);
+    if k > 0 && rng.below(12) == 0 {
+        h[7 + 20 * rng.index(k)] |= 1 + rng.below(15) as u8;
+    }
     if rng.below(3) == 0 {
         h.extend((0..rng.index(50)).map(|i| i as u8));
     }
@@ -281,6 +294,15 @@ pub fn small_history(rng: &mut Rng, sentence: &mut dyn FnMut(&mut Rng) -> Option
         damage(&mut h, rng);
     }
     h
+}
+
+/// A voice from 0 to 15, often 0.
+pub fn small_voice(rng: &mut Rng) -> u8 {
+    match rng.below(4) {
+        0 => rng.below(16) as u8,
+        1 => rng.below(3) as u8,
+        _ => 0,
+    }
 }
 
 pub fn small_sentence(rng: &mut Rng) -> Vec<u8> {

@@ -14,9 +14,13 @@ const DRAWS: usize = 20;
 
 // ---- Both answer alike
 
+/// Refusals have numbers below it. 18 is returned no more, and there is no 21.
+const REFUSALS: usize = 23;
+const NEVER: [usize; 2] = [18, 21];
+
 /// How often each refusal was given, 0 for accepted.
 struct Alike {
-    refusals: [usize; 21],
+    refusals: [usize; REFUSALS],
     calls: usize,
 }
 
@@ -60,21 +64,21 @@ impl Alike {
         self.note("check_history", &h, ours::check_history(h), plain::check_history(h));
     }
 
-    fn remaining(&mut self, g: &[u8], h: &[u8], n: u64) {
-        self.note("remaining", &(g, h, n), ours::remaining(g, h, n), plain::remaining(g, h, n));
+    fn remaining(&mut self, g: &[u8], h: &[u8], n: u64, v: u64) {
+        self.note("remaining", &(g, h, n, v), ours::remaining(g, h, n, v), plain::remaining(g, h, n, v));
     }
 
-    fn draw(&mut self, g: &[u8], h: &[u8], n: u64, q: u64, room: usize) {
+    fn draw(&mut self, g: &[u8], h: &[u8], n: u64, v: u64, q: u64, room: usize) {
         let (mut x, mut y) = (vec![77; room], vec![77; room]);
-        let input = (g, h, n, q, room);
-        self.note("draw", &input, ours::draw(g, h, n, q, &mut x), plain::draw(g, h, n, q, &mut y));
+        let input = (g, h, n, v, q, room);
+        self.note("draw", &input, ours::draw(g, h, n, v, q, &mut x), plain::draw(g, h, n, v, q, &mut y));
         self.same_buffers("draw", &input, &x, &y);
     }
 
-    fn append(&mut self, h: &[u8], s: &[u8]) {
+    fn append(&mut self, h: &[u8], s: &[u8], v: u64) {
         let (mut x, mut y) = (h.to_vec(), h.to_vec());
-        let input = (h, s);
-        self.note("append", &input, ours::append(&mut x, s), plain::append(&mut y, s));
+        let input = (h, s, v);
+        self.note("append", &input, ours::append(&mut x, s, v), plain::append(&mut y, s, v));
         self.same_buffers("append", &input, &x, &y);
     }
 }
@@ -90,6 +94,12 @@ fn random_inputs(alike: &mut Alike) {
             2 => 17,
             3 => rng.next(),
             _ => 1 + rng.below(5),
+        };
+        let v = match rng.below(12) {
+            0 => 16,
+            1 => rng.next(),
+            2 => 1 << (4 + rng.below(60)),
+            _ => banks::small_voice(&mut rng) as u64,
         };
         let total = plain::count(&g, n).unwrap_or(0);
         let derivable = |rng: &mut Rng| {
@@ -116,9 +126,9 @@ fn random_inputs(alike: &mut Alike) {
         alike.unrank(&g, n, number(&mut rng), room);
         alike.rank(&g, &s);
         alike.history(&h);
-        alike.remaining(&g, &h, n);
-        alike.draw(&g, &h, n, number(&mut rng), room);
-        alike.append(&h, &s);
+        alike.remaining(&g, &h, n, v);
+        alike.draw(&g, &h, n, v, number(&mut rng), room);
+        alike.append(&h, &s, v);
     }
 }
 
@@ -244,6 +254,8 @@ struct Case {
     half: Vec<u8>,
     /// As many records, with repeats and other lengths.
     mixed: Vec<Vec<u8>>,
+    /// The full ones in voices 0 to 15 in turn; all others are in voice 0.
+    spoken: Vec<Vec<u8>>,
 }
 
 fn sentence(bank: &[u8], n: u64, d: u64) -> Vec<u8> {
@@ -261,7 +273,8 @@ fn case(name: &'static str, banks: Vec<Vec<u8>>, length: u64, mixed: bool) -> Ca
     let total = plain::count(bank, length).expect("an accepted bank");
     let numbers: Vec<u64> = (0..MANY).map(|_| rng.below(total - 1_000)).collect();
     let sentences = numbers.iter().map(|&d| sentence(bank, length, d)).collect();
-    let mut case = Case { name, length, total, sentences, numbers, full: Vec::new(), half: Vec::new(), mixed: Vec::new(), banks };
+    let mut case =
+        Case { name, length, total, sentences, numbers, full: Vec::new(), half: Vec::new(), mixed: Vec::new(), spoken: Vec::new(), banks };
     for _ in 0..4 {
         let mut met = HashSet::new();
         let mut heard = Vec::new();
@@ -284,6 +297,8 @@ fn case(name: &'static str, banks: Vec<Vec<u8>>, length: u64, mixed: bool) -> Ca
             }
             rng.shuffle(&mut heard);
             case.mixed.push(banks::history(&heard, &mut rng));
+            let full = case.full.last().unwrap().clone();
+            case.spoken.push(banks::spoken(full, &mut |i| (i % 16) as u8));
         }
     }
     case.half.resize(4 + 20 * 1_000, 0);
@@ -315,18 +330,20 @@ fn table_inputs(alike: &mut Alike, cases: &[Case]) {
         for (&d, s) in c.numbers.iter().zip(&c.sentences) {
             alike.unrank(g, n, d, 16);
             alike.rank(g, s);
-            alike.draw(g, &EMPTY, n, d, 16);
-            alike.append(&c.half, s);
+            alike.draw(g, &EMPTY, n, 0, d, 16);
+            alike.append(&c.half, s, 0);
         }
-        for h in [&EMPTY[..], &c.half].into_iter().chain(c.full.iter().chain(&c.mixed).map(Vec::as_slice)) {
+        for h in [&EMPTY[..], &c.half].into_iter().chain(c.full.iter().chain(&c.mixed).chain(&c.spoken).map(Vec::as_slice)) {
             alike.history(h);
-            alike.remaining(g, h, n);
-            for &d in &c.numbers[..DRAWS] {
-                alike.draw(g, h, n, d, 16);
+            for v in 0..16 {
+                alike.remaining(g, h, n, v);
+                for &d in &c.numbers[..DRAWS] {
+                    alike.draw(g, h, n, v, d, 16);
+                }
+                let left = plain::remaining(g, h, n, v).expect("an accepted history").2;
+                alike.draw(g, h, n, v, left - 1, 16);
+                alike.draw(g, h, n, v, left, 16);
             }
-            let left = plain::remaining(g, h, n).expect("an accepted history").2;
-            alike.draw(g, h, n, left - 1, 16);
-            alike.draw(g, h, n, left, 16);
         }
     }
     for rules in RULES {
@@ -375,14 +392,10 @@ fn calls_table(report: &mut Report, c: &Case) {
         let k = h.len();
         let row = measure(k, |i| ours::check_history(&h[i]), |i| plain::check_history(&h[i]));
         report.row(&format!("check_history, {what}"), row);
-        let row = measure(k, |i| ours::remaining(g, &h[i], n), |i| plain::remaining(g, &h[i], n));
-        report.row(&format!("remaining, {what}"), row);
-        let row = measure(
-            draws,
-            |i| ours::draw(g, &h[i % k], n, c.numbers[i], &mut out),
-            |i| plain::draw(g, &h[i % k], n, c.numbers[i], &mut out2),
-        );
-        report.row(&format!("draw, {what}"), row);
+        sampling_rows(report, c, what, h, draws);
+    }
+    if !c.spoken.is_empty() {
+        sampling_rows(report, c, "full history in sixteen voices", &c.spoken, DRAWS);
     }
     // the four bytes of K and head are put back before each call
     let (mut h, mut h2) = (c.half.clone(), c.half.clone());
@@ -391,14 +404,28 @@ fn calls_table(report: &mut Report, c: &Case) {
         MANY,
         |i| {
             h[..4].copy_from_slice(&header);
-            ours::append(&mut h, &c.sentences[i])
+            ours::append(&mut h, &c.sentences[i], 0)
         },
         |i| {
             h2[..4].copy_from_slice(&header);
-            plain::append(&mut h2, &c.sentences[i])
+            plain::append(&mut h2, &c.sentences[i], 0)
         },
     );
     report.row("append, half full", row);
+}
+
+/// *remaining* and *draw* in voice 0.
+fn sampling_rows(report: &mut Report, c: &Case, what: &str, h: &[Vec<u8>], draws: usize) {
+    let (g, n, k) = (&c.banks[0][..], c.length, h.len());
+    let (mut out, mut out2) = ([0u8; 16], [0u8; 16]);
+    let row = measure(k, |i| ours::remaining(g, &h[i], n, 0), |i| plain::remaining(g, &h[i], n, 0));
+    report.row(&format!("remaining, {what}"), row);
+    let row = measure(
+        draws,
+        |i| ours::draw(g, &h[i % k], n, 0, c.numbers[i], &mut out),
+        |i| plain::draw(g, &h[i % k], n, 0, c.numbers[i], &mut out2),
+    );
+    report.row(&format!("draw, {what}"), row);
 }
 
 fn growth_tables(report: &mut Report, cases: &[Case]) {
@@ -428,7 +455,7 @@ fn growth_tables(report: &mut Report, cases: &[Case]) {
             let records: Vec<Vec<u8>> = (0..k).map(|r| c.full[0][8 + 20 * r..8 + 20 * r + c.length as usize].to_vec()).collect();
             let h = banks::history(&records, &mut Rng::new(3));
             let g = &c.banks[0][..];
-            let row = measure(1, |_| ours::remaining(g, black_box(&h), c.length), |_| plain::remaining(g, black_box(&h), c.length));
+            let row = measure(1, |_| ours::remaining(g, black_box(&h), c.length, 0), |_| plain::remaining(g, black_box(&h), c.length, 0));
             report.row(&k.to_string(), row);
         }
     }
@@ -442,8 +469,8 @@ fn draws_table(report: &mut Report, c: &Case) {
     for (what, h) in [("empty", &EMPTY[..]), ("full", &c.full[0])] {
         let row = measure(
             1,
-            |_| (0..1_000).map(|q| ours::draw(g, h, c.length, q, &mut out).unwrap().1).sum::<u64>(),
-            |_| (0..1_000).map(|q| plain::draw(g, h, c.length, q, &mut out2).unwrap().1).sum::<u64>(),
+            |_| (0..1_000).map(|q| ours::draw(g, h, c.length, 0, q, &mut out).unwrap().1).sum::<u64>(),
+            |_| (0..1_000).map(|q| plain::draw(g, h, c.length, 0, q, &mut out2).unwrap().1).sum::<u64>(),
         );
         report.row(what, row);
     }
@@ -500,13 +527,13 @@ fn listing_table(report: &mut Report, cases: &[Case], ours: &Path, plain: &Path,
 fn main() {
     let arguments: Vec<PathBuf> = std::env::args().skip(1).map(PathBuf::from).collect();
     let cases = cases();
-    let mut alike = Alike { refusals: [0; 21], calls: 0 };
+    let mut alike = Alike { refusals: [0; REFUSALS], calls: 0 };
     random_inputs(&mut alike);
     table_inputs(&mut alike, &cases);
     println!("Both gave the same answers and buffers in {} calls. Answers by refusal, 0 first:", alike.calls);
     println!("{:?}", alike.refusals);
-    if (0..21).any(|refusal| (alike.refusals[refusal] == 0) != (refusal == 18)) {
-        eprintln!("some refusal was never given, or 18 was, which is returned no more");
+    if (0..REFUSALS).any(|refusal| (alike.refusals[refusal] == 0) != NEVER.contains(&refusal)) {
+        eprintln!("some refusal was never given, or 18 or 21 was");
         std::process::exit(1);
     }
     let mut report = Report::default();

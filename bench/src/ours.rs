@@ -22,6 +22,7 @@ extern "C" {
         h: *const u8,
         h_len: usize,
         length: u64,
+        voice: u64,
         total: *mut u64,
         heard: *mut u64,
         remaining: *mut u64,
@@ -32,13 +33,14 @@ extern "C" {
         h: *const u8,
         h_len: usize,
         length: u64,
+        voice: u64,
         draw: u64,
         out: *mut u8,
         out_len: usize,
         remaining: *mut u64,
         number: *mut u64,
     ) -> c_uchar;
-    fn pumpfennel_append(h: *mut u8, h_len: usize, s: *const u8, s_len: usize, records: *mut u64) -> c_uchar;
+    fn pumpfennel_append(h: *mut u8, h_len: usize, s: *const u8, s_len: usize, voice: u64, records: *mut u64) -> c_uchar;
 }
 
 /// What a figure holds before a call: a refusal must turn it into 0.
@@ -82,20 +84,21 @@ pub fn rank(g: &[u8], s: &[u8]) -> Result<(u64, u64, u64), u8> {
     answer(r, &[d, t, k], (d, t, k))
 }
 
-pub fn remaining(g: &[u8], h: &[u8], length: u64) -> Result<(u64, u64, u64), u8> {
+pub fn remaining(g: &[u8], h: &[u8], length: u64, voice: u64) -> Result<(u64, u64, u64), u8> {
     let (mut t, mut k, mut l) = (BEFORE, BEFORE, BEFORE);
-    let r = unsafe { pumpfennel_remaining(g.as_ptr(), g.len(), h.as_ptr(), h.len(), length, &mut t, &mut k, &mut l) };
+    let r = unsafe { pumpfennel_remaining(g.as_ptr(), g.len(), h.as_ptr(), h.len(), length, voice, &mut t, &mut k, &mut l) };
     answer(r, &[t, k, l], (t, k, l))
 }
 
-pub fn draw(g: &[u8], h: &[u8], length: u64, q: u64, out: &mut [u8]) -> Result<(u64, u64), u8> {
+pub fn draw(g: &[u8], h: &[u8], length: u64, voice: u64, q: u64, out: &mut [u8]) -> Result<(u64, u64), u8> {
     let (mut l, mut d) = (BEFORE, BEFORE);
-    let r = unsafe { pumpfennel_draw(g.as_ptr(), g.len(), h.as_ptr(), h.len(), length, q, out.as_mut_ptr(), out.len(), &mut l, &mut d) };
+    let r =
+        unsafe { pumpfennel_draw(g.as_ptr(), g.len(), h.as_ptr(), h.len(), length, voice, q, out.as_mut_ptr(), out.len(), &mut l, &mut d) };
     answer(r, &[l, d], (l, d))
 }
 
-pub fn append(h: &mut [u8], s: &[u8]) -> Result<u64, u8> {
+pub fn append(h: &mut [u8], s: &[u8], voice: u64) -> Result<u64, u8> {
     let mut k = BEFORE;
-    let r = unsafe { pumpfennel_append(h.as_mut_ptr(), h.len(), s.as_ptr(), s.len(), &mut k) };
+    let r = unsafe { pumpfennel_append(h.as_mut_ptr(), h.len(), s.as_ptr(), s.len(), voice, &mut k) };
     answer(r, &[k], k)
 }

@@ -1,7 +1,8 @@
-//! The calls of document 01, with document 02's U2, in plain Rust: the yardstick. Written from the documents alone; no unsafe code, no threads, nothing kept
-//! between calls. An error is the refusal's number.
+//! The calls of document 01, with document 02's U2, U4 and U6, in plain Rust: the yardstick. Written from the documents alone; no unsafe
+//! code, no threads, nothing kept between calls. An error is the refusal's number.
 
 const MOST_RECORDS: usize = 1000;
+const LAST_VOICE: u64 = 15;
 
 /// An accepted grammar: words and pairs by nonterminal, in chain order.
 struct Grammar {
@@ -174,11 +175,14 @@ fn fill_totals(g: &Grammar, n: usize, t: &mut Totals) -> Result<(), u8> {
     Ok(())
 }
 
-/// The refusals 1 to 10; then T is in the table.
-fn prepare(grammar: &[u8], length: u64, t: &mut Totals) -> Result<(Grammar, usize), u8> {
+/// The refusals 1 to 9, 22 and 10; then T is in the table. A call that takes no voice names 0.
+fn prepare(grammar: &[u8], length: u64, voice: u64, t: &mut Totals) -> Result<(Grammar, usize), u8> {
     let g = Grammar::read(grammar)?;
     if !(1..=16).contains(&length) {
         return Err(9);
+    }
+    if voice > LAST_VOICE {
+        return Err(22);
     }
     let n = length as usize;
     fill_totals(&g, n, t)?;
@@ -375,7 +379,7 @@ impl<'a> History<'a> {
         let mut far = head > k;
         for record in h.records.chunks_exact(20) {
             let length = record[2] as usize;
-            if !(1..=16).contains(&length) || record[3] != 0 {
+            if !(1..=16).contains(&length) || record[3] % 16 != 0 {
                 return Err(12);
             }
             if record[4 + length..].iter().any(|&b| b != 0) {
@@ -400,8 +404,8 @@ impl<'a> History<'a> {
         Ok(h)
     }
 
-    /// The derivation numbers of the sentences of n words with one derivation, rising, each once; or 15.
-    fn heard(&self, g: &Grammar, t: &Totals, n: usize) -> Result<Vec<u64>, u8> {
+    /// The derivation numbers of the sentences of n words, heard in a voice, with one derivation, rising, each once; or 15.
+    fn heard(&self, g: &Grammar, t: &Totals, n: usize, voice: u64) -> Result<Vec<u64>, u8> {
         let mut numbers = Vec::with_capacity(self.count());
         if self.count() == 0 {
             return Ok(numbers);
@@ -409,7 +413,7 @@ impl<'a> History<'a> {
         let mut parser = Parser::new(g, t);
         // Which records are first makes no difference: each is asked by itself.
         for record in self.records.chunks_exact(20) {
-            if record[2] as usize != n {
+            if record[2] as usize != n || (record[3] / 16) as u64 != voice {
                 continue;
             }
             match parser.find(&record[4..4 + n]) {
@@ -438,7 +442,7 @@ fn skip(q: u64, heard: &[u64]) -> u64 {
     q + low as u64
 }
 
-/// What many draws on one grammar, history and length share.
+/// What many draws on one grammar, history, length and voice share.
 pub struct Prepared<'a> {
     g: Grammar,
     t: &'a Totals,
@@ -449,9 +453,9 @@ pub struct Prepared<'a> {
 }
 
 impl<'a> Prepared<'a> {
-    pub fn new(grammar: &[u8], history: &[u8], length: u64, t: &'a mut Totals) -> Result<Self, u8> {
-        let (g, n) = prepare(grammar, length, t)?;
-        let heard = History::read(history)?.heard(&g, t, n)?;
+    pub fn new(grammar: &[u8], history: &[u8], length: u64, voice: u64, t: &'a mut Totals) -> Result<Self, u8> {
+        let (g, n) = prepare(grammar, length, voice, t)?;
+        let heard = History::read(history)?.heard(&g, t, n, voice)?;
         let total = t[g.start][n];
         let left = total - heard.len() as u64;
         Ok(Prepared { g, t, n, heard, total, left })
@@ -491,14 +495,14 @@ pub fn check_history(history: &[u8]) -> Result<u64, u8> {
 #[inline(never)]
 pub fn count(grammar: &[u8], length: u64) -> Result<u64, u8> {
     let mut t = NO_TOTALS;
-    let (g, n) = prepare(grammar, length, &mut t)?;
+    let (g, n) = prepare(grammar, length, 0, &mut t)?;
     Ok(t[g.start][n])
 }
 
 #[inline(never)]
 pub fn unrank(grammar: &[u8], length: u64, number: u64, out: &mut [u8]) -> Result<u64, u8> {
     let mut t = NO_TOTALS;
-    let (g, n) = prepare(grammar, length, &mut t)?;
+    let (g, n) = prepare(grammar, length, 0, &mut t)?;
     let total = t[g.start][n];
     if number >= total {
         return Err(16);
@@ -513,7 +517,7 @@ pub fn unrank(grammar: &[u8], length: u64, number: u64, out: &mut [u8]) -> Resul
 #[inline(never)]
 pub fn rank(grammar: &[u8], sentence: &[u8]) -> Result<(u64, u64, u64), u8> {
     let mut t = NO_TOTALS;
-    let (g, n) = prepare(grammar, sentence.len() as u64, &mut t)?;
+    let (g, n) = prepare(grammar, sentence.len() as u64, 0, &mut t)?;
     let mut parser = Parser::new(&g, &t);
     match parser.find(sentence) {
         Found::None => Err(17),
@@ -523,27 +527,30 @@ pub fn rank(grammar: &[u8], sentence: &[u8]) -> Result<(u64, u64, u64), u8> {
 }
 
 #[inline(never)]
-pub fn remaining(grammar: &[u8], history: &[u8], length: u64) -> Result<(u64, u64, u64), u8> {
+pub fn remaining(grammar: &[u8], history: &[u8], length: u64, voice: u64) -> Result<(u64, u64, u64), u8> {
     let mut t = NO_TOTALS;
-    let (g, n) = prepare(grammar, length, &mut t)?;
-    let heard = History::read(history)?.heard(&g, &t, n)?.len() as u64;
+    let (g, n) = prepare(grammar, length, voice, &mut t)?;
+    let heard = History::read(history)?.heard(&g, &t, n, voice)?.len() as u64;
     let total = t[g.start][n];
     Ok((total, heard, total - heard))
 }
 
 #[inline(never)]
-pub fn draw(grammar: &[u8], history: &[u8], length: u64, q: u64, out: &mut [u8]) -> Result<(u64, u64), u8> {
+pub fn draw(grammar: &[u8], history: &[u8], length: u64, voice: u64, q: u64, out: &mut [u8]) -> Result<(u64, u64), u8> {
     let mut t = NO_TOTALS;
-    let prepared = Prepared::new(grammar, history, length, &mut t)?;
+    let prepared = Prepared::new(grammar, history, length, voice, &mut t)?;
     let d = prepared.draw(q, out)?;
     Ok((prepared.left, d))
 }
 
 #[inline(never)]
-pub fn append(history: &mut [u8], sentence: &[u8]) -> Result<u64, u8> {
+pub fn append(history: &mut [u8], sentence: &[u8], voice: u64) -> Result<u64, u8> {
     let n = sentence.len();
     if !(1..=16).contains(&n) {
         return Err(9);
+    }
+    if voice > LAST_VOICE {
+        return Err(22);
     }
     let h = History::read(history)?;
     let (new, head) = (h.count() + 1, h.head);
@@ -554,6 +561,7 @@ pub fn append(history: &mut [u8], sentence: &[u8]) -> Result<u64, u8> {
     record.fill(0);
     record[..2].copy_from_slice(&(head as u16).to_le_bytes());
     record[2] = n as u8;
+    record[3] = 16 * voice as u8;
     record[4..4 + n].copy_from_slice(sentence);
     history[..2].copy_from_slice(&(new as u16).to_le_bytes());
     history[2..4].copy_from_slice(&(new as u16).to_le_bytes());

@@ -11,7 +11,7 @@ fn list(input: &[u8], out: &mut impl Write) -> io::Result<()> {
         _ => (0, &input[..0], &input[..0]),
     };
     let mut t = NO_TOTALS;
-    let prepared = match Prepared::new(grammar, history, length, &mut t) {
+    let prepared = match Prepared::new(grammar, history, length, 0, &mut t) {
         Ok(p) => p,
         Err(refusal) => return writeln!(out, "refused {refusal}"),
     };

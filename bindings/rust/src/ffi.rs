@@ -12,7 +12,7 @@ unsafe extern "C" {
     pub safe fn pumpfennel_version() -> u64;
 
     // version: from VERSION, by tools/generate
-    #[link_name = "pumpfennel_interface_0_3"]
+    #[link_name = "pumpfennel_interface_0_4"]
     // end of version
     pub safe fn pumpfennel_interface() -> u64;
 
@@ -53,6 +53,7 @@ unsafe extern "C" {
         history: *const u8,
         history_len: usize,
         length: u64,
+        voice: u64,
         total: *mut u64,
         heard: *mut u64,
         remaining: *mut u64,
@@ -64,6 +65,7 @@ unsafe extern "C" {
         history: *const u8,
         history_len: usize,
         length: u64,
+        voice: u64,
         draw: u64,
         sentence: *mut u8,
         sentence_len: usize,
@@ -76,6 +78,7 @@ unsafe extern "C" {
         history_len: usize,
         sentence: *const u8,
         sentence_len: usize,
+        voice: u64,
         records: *mut u64,
     ) -> u8;
 }

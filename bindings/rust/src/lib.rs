@@ -1,9 +1,9 @@
 //! A verified sampler of test sentences for cochlear implant fitting.
 //!
-//! A *grammar* derives sentences of 1 to 16 words, a *history* holds the sentences that one patient has heard. The
-//! calls count the derivations of a length, give the sentence of a derivation number and the number of a
-//! sentence, and draw from what is outside the history. Both are plain bytes, laid out as the project's document
-//! 01 says; it calls them bank and diary.
+//! A *grammar* derives sentences of 1 to 16 words, a *history* holds the sentences that one patient has heard, each
+//! with its talker's *voice* from 0 to 15. The calls count the derivations of a length, give the sentence of a
+//! derivation number and the number of a sentence, and draw from what is unheard in a voice. Both are plain bytes,
+//! laid out as the project's documents 01 and 02 say; they call them bank and diary.
 //!
 //! The work is done by a proved archive, written by `rt staticlib pumpfennel` in the project's folder. This crate
 //! links it and gives each of its functions a safe face; it checks nothing itself and allocates nothing. No call
@@ -33,13 +33,18 @@
 //! assert_eq!(sentence, [3, 11, 24, 31, 45]);
 //! assert_eq!(pumpfennel::rank(&grammar, &sentence)?.number, DerivationNumber(31415));
 //!
-//! // A history with room for 30 records. Once the sentence is heard, no draw gives it again.
+//! // A history with room for 30 records. Once the sentence is heard in voice 0, no draw in that voice gives it again.
 //! let mut history = [0; pumpfennel::history_size(30)];
-//! pumpfennel::append(&mut history, &sentence)?;
-//! assert_eq!(pumpfennel::remaining(&grammar, &history, 5)?.remaining, 99_999);
-//! let drawn = pumpfennel::draw(&grammar, &history, 5, DrawNumber(31415), &mut sentence)?;
+//! pumpfennel::append(&mut history, &sentence, 0)?;
+//! assert_eq!(pumpfennel::remaining(&grammar, &history, 5, 0)?.remaining, 99_999);
+//! let drawn = pumpfennel::draw(&grammar, &history, 5, 0, DrawNumber(31415), &mut sentence)?;
 //! assert_eq!(drawn.number, DerivationNumber(31416));
 //! assert_eq!(sentence, [3, 11, 24, 31, 46]);
+//!
+//! // In voice 1 it is unheard.
+//! assert_eq!(pumpfennel::remaining(&grammar, &history, 5, 1)?.remaining, 100_000);
+//! let drawn = pumpfennel::draw(&grammar, &history, 5, 1, DrawNumber(31415), &mut sentence)?;
+//! assert_eq!(drawn.number, DerivationNumber(31415));
 //! # Ok::<(), pumpfennel::Refusal>(())
 //! ```
 #![deny(unsafe_op_in_unsafe_fn, missing_docs)]
@@ -88,7 +93,8 @@ static INTERFACE: extern "C" fn() -> u64 = ffi::pumpfennel_interface;
 #[derive(Clone, Copy, Debug, PartialEq, Eq, PartialOrd, Ord, Hash)]
 pub struct DerivationNumber(pub u64);
 
-/// How many derivations with an unheard sentence stand before one. It never serves as a [`DerivationNumber`].
+/// How many derivations with a sentence unheard in the voice stand before one. It never serves as a
+/// [`DerivationNumber`].
 #[derive(Clone, Copy, Debug, PartialEq, Eq, PartialOrd, Ord, Hash)]
 pub struct DrawNumber(pub u64);
 
@@ -117,16 +123,16 @@ pub struct Ranked {
 pub struct Remaining {
     /// How many derivations there are of that length.
     pub total: u64,
-    /// How many different sentences of that length are heard and have a derivation.
+    /// How many different sentences of that length are heard in that voice and have a derivation.
     pub heard: u64,
-    /// How many derivations have an unheard sentence: `total - heard`.
+    /// How many derivations have a sentence unheard in that voice: `total - heard`.
     pub remaining: u64,
 }
 
 /// What [`draw`] gives.
 #[derive(Clone, Copy, Debug, PartialEq, Eq)]
 pub struct Drawn {
-    /// How many derivations have an unheard sentence.
+    /// How many derivations have a sentence unheard in that voice.
     pub remaining: u64,
     /// The derivation number of the sentence drawn.
     pub number: DerivationNumber,
@@ -272,23 +278,27 @@ pub fn rank(grammar: &[u8], sentence: &[u8]) -> Result<Ranked, Refusal> {
     accepted(refusal, Ranked { number: DerivationNumber(number), total, derivations })
 }
 
-/// Counts what is outside the history.
+/// Counts what is unheard in a voice. A sentence is heard in a voice if the history has a record with its length, its
+/// words and that voice.
 ///
 /// ```
 /// use pumpfennel::Remaining;
 ///
 /// let grammar = [2, 2, 4, 0, 1, 3, 1, 1, 1, 2, 1, 0, 1, 0, 0, 0, 0, 4, 0, 1, 0, 0];
 /// let mut history = [0; 24];
-/// pumpfennel::append(&mut history, &[0, 1])?;
+/// pumpfennel::append(&mut history, &[0, 1], 3)?;
 /// let remaining = Remaining { total: 4, heard: 1, remaining: 3 };
-/// assert_eq!(pumpfennel::remaining(&grammar, &history, 2)?, remaining);
+/// assert_eq!(pumpfennel::remaining(&grammar, &history, 2, 3)?, remaining);
+/// // heard in voice 3, and in no other
+/// let remaining = Remaining { total: 4, heard: 0, remaining: 4 };
+/// assert_eq!(pumpfennel::remaining(&grammar, &history, 2, 0)?, remaining);
 /// # Ok::<(), pumpfennel::Refusal>(())
 /// ```
 ///
 /// # Errors
 ///
-/// Refusals 1 to 15.
-pub fn remaining(grammar: &[u8], history: &[u8], length: u64) -> Result<Remaining, Refusal> {
+/// Refusals 1 to 15 and 22. 22, here and below, comes right after 9.
+pub fn remaining(grammar: &[u8], history: &[u8], length: u64, voice: u64) -> Result<Remaining, Refusal> {
     let (mut total, mut heard, mut remaining) = (0, 0, 0);
     // SAFETY: two slices, and three figures of this function.
     let refusal = unsafe {
@@ -298,6 +308,7 @@ pub fn remaining(grammar: &[u8], history: &[u8], length: u64) -> Result<Remainin
             history.as_ptr(),
             history.len(),
             length,
+            voice,
             &mut total,
             &mut heard,
             &mut remaining,
@@ -306,31 +317,33 @@ pub fn remaining(grammar: &[u8], history: &[u8], length: u64) -> Result<Remainin
     accepted(refusal, Remaining { total, heard, remaining })
 }
 
-/// Writes the sentence of a draw number into the first bytes of `sentence`: that of the derivation with an unheard
-/// sentence that has exactly so many such derivations before it. Bytes past the sentence keep their content.
+/// Writes the sentence of a draw number into the first bytes of `sentence`: that of the derivation with a sentence
+/// unheard in the voice that has exactly so many such derivations before it. Bytes past the sentence keep their
+/// content.
 ///
 /// ```
 /// use pumpfennel::{DerivationNumber, DrawNumber, Drawn, Refusal};
 ///
 /// let grammar = [2, 2, 4, 0, 1, 3, 1, 1, 1, 2, 1, 0, 1, 0, 0, 0, 0, 4, 0, 1, 0, 0];
 /// let mut history = [0; 24];
-/// pumpfennel::append(&mut history, &[0, 1])?;
+/// pumpfennel::append(&mut history, &[0, 1], 0)?;
 /// let mut sentence = [0; 2];
 /// let drawn = Drawn { remaining: 3, number: DerivationNumber(2) };
-/// assert_eq!(pumpfennel::draw(&grammar, &history, 2, DrawNumber(1), &mut sentence)?, drawn);
+/// assert_eq!(pumpfennel::draw(&grammar, &history, 2, 0, DrawNumber(1), &mut sentence)?, drawn);
 /// assert_eq!(sentence, [1, 0]);
-/// let past = pumpfennel::draw(&grammar, &history, 2, DrawNumber(3), &mut sentence);
+/// let past = pumpfennel::draw(&grammar, &history, 2, 0, DrawNumber(3), &mut sentence);
 /// assert_eq!(past, Err(Refusal::NumberBeyond));
 /// # Ok::<(), Refusal>(())
 /// ```
 ///
 /// # Errors
 ///
-/// Refusals 1 to 16 and 20.
+/// Refusals 1 to 16, 20 and 22.
 pub fn draw(
     grammar: &[u8],
     history: &[u8],
     length: u64,
+    voice: u64,
     draw: DrawNumber,
     sentence: &mut [u8],
 ) -> Result<Drawn, Refusal> {
@@ -343,6 +356,7 @@ pub fn draw(
             history.as_ptr(),
             history.len(),
             length,
+            voice,
             draw.0,
             sentence.as_mut_ptr(),
             sentence.len(),
@@ -353,25 +367,35 @@ pub fn draw(
     accepted(refusal, Drawn { remaining, number: DerivationNumber(number) })
 }
 
-/// Adds a sentence to the history that `history` holds, and gives how many records there are then. The buffer
-/// must have room for the record, 20 bytes past the last one. Any word bytes will do.
+/// Adds a sentence, heard in a voice, to the history that `history` holds, and gives how many records there are then.
+/// The buffer must have room for the record, 20 bytes past the last one. Any word bytes will do.
 ///
 /// ```
+/// use pumpfennel::Refusal;
+///
 /// let mut history = [0; 24]; // no record, and room for one
-/// assert_eq!(pumpfennel::append(&mut history, &[0, 1]), Ok(1));
-/// assert_eq!(history[..10], [1, 0, 1, 0, 0, 0, 2, 0, 0, 1]);
+/// assert_eq!(pumpfennel::append(&mut history, &[0, 1], 16), Err(Refusal::BadVoice));
+/// assert_eq!(pumpfennel::append(&mut history, &[0, 1], 3), Ok(1));
+/// assert_eq!(history[..10], [1, 0, 1, 0, 0, 0, 2, 16 * 3, 0, 1]);
 /// assert_eq!(history[10..], [0; 14]);
-/// assert_eq!(pumpfennel::append(&mut history, &[0, 1]), Err(pumpfennel::Refusal::HistoryFull));
+/// assert_eq!(pumpfennel::append(&mut history, &[0, 1], 3), Err(Refusal::HistoryFull));
 /// ```
 ///
 /// # Errors
 ///
-/// Refusals 9, 11 to 14 and 19.
-pub fn append(history: &mut [u8], sentence: &[u8]) -> Result<u64, Refusal> {
+/// Refusals 9, 11 to 14, 19 and 22.
+pub fn append(history: &mut [u8], sentence: &[u8], voice: u64) -> Result<u64, Refusal> {
     let mut records = 0;
     // SAFETY: two slices, of which the one that is written is borrowed alone, and a figure of this function.
     let refusal = unsafe {
-        ffi::pumpfennel_append(history.as_mut_ptr(), history.len(), sentence.as_ptr(), sentence.len(), &mut records)
+        ffi::pumpfennel_append(
+            history.as_mut_ptr(),
+            history.len(),
+            sentence.as_ptr(),
+            sentence.len(),
+            voice,
+            &mut records,
+        )
     };
     accepted(refusal, records)
 }

@@ -2,7 +2,7 @@ use std::error::Error;
 use std::fmt;
 
 // refusals: from refusals.txt, by tools/generate
-/// Why a call says no. The numbers are those of document 01's list; the first that applies is returned.
+/// Why a call says no. The numbers are the documents'; the first that applies is returned.
 #[derive(Clone, Copy, Debug, PartialEq, Eq, PartialOrd, Ord, Hash)]
 #[non_exhaustive]
 #[repr(u8)]
@@ -29,13 +29,13 @@ pub enum Refusal {
     TooManyDerivations = 10,
     /// The history has fewer than 4 bytes, K is above 1,000, or it has fewer than 4 + 20K bytes.
     HistoryWrongSize = 11,
-    /// Some record has a wrong length, a fourth byte that is not 0, or a non-zero byte beyond its words.
+    /// Some record has a wrong length, a fourth byte whose low four bits are not 0, or a non-zero byte beyond its words.
     HistoryBadRecord = 12,
     /// The history's head or some next is above K.
     HistoryBadLink = 13,
     /// The history's chain meets a record twice or misses one.
     HistoryBadChain = 14,
-    /// A heard sentence of the length has two or more derivations.
+    /// A sentence of the length, heard in the voice, has two or more derivations.
     HeardAmbiguous = 15,
     /// The number is not below how many there are to choose from.
     NumberBeyond = 16,
@@ -47,11 +47,13 @@ pub enum Refusal {
     HistoryFull = 19,
     /// The sentence's buffer is shorter than the length.
     BufferTooShort = 20,
+    /// The voice is above 15.
+    BadVoice = 22,
 }
 
 impl Refusal {
-    /// Every refusal, in the order of document 01's list.
-    pub const ALL: [Refusal; 20] = [
+    /// Every refusal, by rising number.
+    pub const ALL: [Refusal; 21] = [
         Refusal::GrammarTooShort,
         Refusal::GrammarOutOfRange,
         Refusal::GrammarWrongSize,
@@ -72,6 +74,7 @@ impl Refusal {
         Refusal::SentenceAmbiguous,
         Refusal::HistoryFull,
         Refusal::BufferTooShort,
+        Refusal::BadVoice,
     ];
 
     /// What the refusal says in words: a sentence without its first capital and its full stop.
@@ -91,23 +94,24 @@ impl Refusal {
                 "the history has fewer than 4 bytes, K is above 1,000, or it has fewer than 4 + 20K bytes"
             }
             Refusal::HistoryBadRecord => {
-                "some record has a wrong length, a fourth byte that is not 0, or a non-zero byte beyond its words"
+                "some record has a wrong length, a fourth byte whose low four bits are not 0, or a non-zero byte beyond its words"
             }
             Refusal::HistoryBadLink => "the history's head or some next is above K",
             Refusal::HistoryBadChain => "the history's chain meets a record twice or misses one",
-            Refusal::HeardAmbiguous => "a heard sentence of the length has two or more derivations",
+            Refusal::HeardAmbiguous => "a sentence of the length, heard in the voice, has two or more derivations",
             Refusal::NumberBeyond => "the number is not below how many there are to choose from",
             Refusal::SentenceUnderivable => "the sentence has no derivation",
             Refusal::SentenceAmbiguous => "the sentence has two or more derivations",
             Refusal::HistoryFull => "the history has 1,000 records or no room for one more",
             Refusal::BufferTooShort => "the sentence's buffer is shorter than the length",
+            Refusal::BadVoice => "the voice is above 15",
         }
     }
 }
 // end of refusals
 
 impl Refusal {
-    /// The number in document 01's list, from 1.
+    /// Its number in document 01's list, or in document 02.
     ///
     /// ```
     /// # use pumpfennel::Refusal;

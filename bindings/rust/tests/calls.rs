@@ -4,7 +4,7 @@ mod support;
 use pumpfennel::{DerivationNumber, DrawNumber, Refusal};
 use std::collections::{BTreeMap, BTreeSet};
 use support::case::{self, Answer, CALLS, Call, Case};
-use support::generate::{self, Rng};
+use support::generate::{self, Rng, Spoken};
 use support::{agreed, reference};
 
 const SEED: u64 = 20261115;
@@ -27,8 +27,8 @@ fn agree(call: Call, count: u64) -> Vec<Answer> {
         }
     }
     println!("how many with each refusal: {seen:?}");
-    let reached: Vec<u8> = seen.into_keys().collect();
-    let allowed: Vec<u8> = [0].into_iter().chain(call.refusals()).collect();
+    let reached: BTreeSet<u8> = seen.into_keys().collect();
+    let allowed: BTreeSet<u8> = [0].into_iter().chain(call.refusals()).collect();
     assert_eq!(reached, allowed, "the refusals of {}", call.name());
     accepted
 }
@@ -65,9 +65,13 @@ fn generated_rank() {
     assert!(kinds.values().all(|&many| many > 1_000), "{kinds:?}");
 }
 
+/// Among them histories with sentences heard in the voice, in plenty.
 #[test]
 fn generated_remaining() {
-    agree(Call::Remaining, 150_000);
+    let accepted = agree(Call::Remaining, 150_000);
+    let heard = accepted.iter().filter(|answer| answer.figures[1] > 0).count();
+    println!("{heard} of {} with a heard sentence", accepted.len());
+    assert!(heard > 30_000);
 }
 
 #[test]
@@ -130,12 +134,17 @@ fn stored_cases() {
 
 // ---- Every refusal, and the first that applies
 
-/// The diary of P7, with room for one record more.
-fn heard_01() -> Vec<u8> {
-    generate::history(&[vec![0, 1]], &[1], &[7; 20])
+/// The answer that library and reference agree on.
+fn given(case: &Case) -> Answer {
+    agreed(case).unwrap_or_else(|fault| panic!("{fault}"))
 }
 
-/// Accepted: F, the diary of P7, length 2.
+/// The diary of P7, with room for one record more.
+fn heard_01() -> Vec<u8> {
+    generate::history(&[(0, vec![0, 1])], &[1], &[7; 20])
+}
+
+/// Accepted: F, the diary of P7, length 2, voice 0.
 fn accepted(call: Call) -> Case {
     let mut case = Case::new(call);
     if call.takes_grammar() {
@@ -181,13 +190,14 @@ fn fault(case: &mut Case, refusal: u8) {
         14 => case.history[2] = 0,
         15 => {
             case.grammar = generate::g_words(1).bytes();
-            case.history = generate::history(&[vec![0; 3]], &[1], &[]);
+            case.history = generate::history(&[(0, vec![0; 3])], &[1], &[]);
             case.length = 3;
         }
         16 => case.number = u64::MAX,
         17 => case.sentence[1] = 255,
         19 => case.history.truncate(24),
         20 => case.sentence.truncate(1),
+        22 => case.voice = 16,
         _ => unreachable!("{refusal}"),
     }
 }
@@ -208,7 +218,7 @@ fn first_that_applies() {
                     first = refusal;
                 }
             }
-            let answer = agreed(&case).unwrap_or_else(|fault| panic!("{fault}"));
+            let answer = given(&case);
             assert_eq!(answer.refusal, first, "\n{}", case.text(None));
             reached.insert((call.name(), answer.refusal));
         }
@@ -219,38 +229,199 @@ fn first_that_applies() {
         .collect();
     assert_eq!(reached, allowed);
     println!("{} pairs of a call and a refusal", reached.len() - CALLS.len());
-    assert_eq!(reached.len() - CALLS.len(), 83);
+    assert_eq!(reached.len() - CALLS.len(), 86);
+}
+
+// ---- Voices
+
+fn left(grammar: &[u8], history: &[u8], length: u64, voice: u64) -> Answer {
+    let (grammar, history) = (grammar.to_vec(), history.to_vec());
+    given(&Case { grammar, history, length, voice, ..Case::new(Call::Remaining) })
+}
+
+fn draw(grammar: &[u8], history: &[u8], length: u64, voice: u64, number: u64) -> Answer {
+    let (grammar, history, sentence) = (grammar.to_vec(), history.to_vec(), vec![7; length as usize]);
+    given(&Case { call: Call::Draw, grammar, history, length, voice, number, sentence })
+}
+
+/// Every draw from 0 on until one is refused, with 16: derivation numbers and sentences.
+fn every_draw(grammar: &[u8], history: &[u8], length: u64, voice: u64) -> Vec<(u64, Vec<u8>)> {
+    let mut drawn = vec![];
+    loop {
+        let answer = draw(grammar, history, length, voice, drawn.len() as u64);
+        if answer.refusal != 0 {
+            assert_eq!(answer.refusal, 16);
+            return drawn;
+        }
+        drawn.push((answer.figures[1], answer.buffer));
+    }
+}
+
+/// F, and its full list of a length.
+fn f_listed(length: usize) -> (Vec<u8>, Vec<Vec<u8>>) {
+    let grammar = generate::f_words(2).bytes();
+    let full = reference::listed(&reference::read_grammar(&grammar).expect("an accepted grammar"), length);
+    assert_eq!(full.len(), 1 << length);
+    (grammar, full)
+}
+
+/// The same words in all sixteen voices: each voice counts its own, once.
+#[test]
+fn same_words_in_every_voice() {
+    let (grammar, full) = f_listed(5);
+    let mut sentences: Vec<Spoken> = (0..16).map(|voice| (voice, full[20].clone())).collect();
+    let history = generate::history(&sentences, &(1..=16).collect::<Vec<usize>>(), &[]);
+    for voice in 0..16 {
+        assert_eq!(left(&grammar, &history, 5, voice).figures, [32, 1, 31]);
+        assert!(every_draw(&grammar, &history, 5, voice).iter().all(|(_, words)| *words != full[20]));
+    }
+    // Beside them voice v has the first v sentences, each twice.
+    for voice in 0..16 {
+        let more = full[..usize::from(voice)].iter().map(|words| (voice, words.clone()));
+        sentences.extend(more.clone().chain(more));
+    }
+    Rng::new(SEED).shuffle(&mut sentences);
+    let history = generate::history(&sentences, &(1..=sentences.len()).collect::<Vec<usize>>(), &[]);
+    for voice in 0..16 {
+        assert_eq!(left(&grammar, &history, 5, voice).figures, [32, 1 + voice, 31 - voice]);
+        let unheard = (0..).zip(full.clone()).filter(|(number, _)| *number >= voice && *number != 20);
+        assert_eq!(every_draw(&grammar, &history, 5, voice), unheard.collect::<Vec<(u64, Vec<u8>)>>());
+    }
+}
+
+/// A sentence with several derivations, heard in one voice: 15 in that voice, and no harm in any other.
+#[test]
+fn ambiguous_in_one_voice() {
+    let grammar = generate::g_words(1).bytes();
+    let every: Vec<(u64, Vec<u8>)> = (0..5).map(|number| (number, vec![0; 4])).collect();
+    for heard in 0..16 {
+        // The sentence of two words has one derivation.
+        let history = generate::history(&[(heard, vec![0; 4]), (heard, vec![0; 2])], &[2, 1], &[]);
+        for voice in 0..16 {
+            if voice == u64::from(heard) {
+                assert_eq!(left(&grammar, &history, 4, voice).refusal, 15);
+                assert_eq!(draw(&grammar, &history, 4, voice, 0).refusal, 15);
+                assert_eq!(left(&grammar, &history, 2, voice).figures, [1, 1, 0]);
+            } else {
+                assert_eq!(left(&grammar, &history, 4, voice).figures, [5, 0, 5]);
+                assert_eq!(every_draw(&grammar, &history, 4, voice), every);
+                assert_eq!(left(&grammar, &history, 2, voice).figures, [1, 0, 1]);
+            }
+        }
+    }
+}
+
+/// Every fourth byte: 12 minds its low four bits alone, in every call that takes a history.
+#[test]
+fn every_fourth_byte() {
+    for value in 0..=255 {
+        let mut history = heard_01();
+        history[7] = value;
+        let checked = pumpfennel::check_history(&history);
+        assert_eq!(checked, if value % 16 == 0 { Ok(1) } else { Err(Refusal::HistoryBadRecord) }, "{value}");
+        for call in CALLS.into_iter().filter(|call| call.takes_voice()) {
+            for voice in 0..16 {
+                let answer = given(&Case { history: history.clone(), voice, ..accepted(call) });
+                assert_eq!(answer.refusal, if value % 16 == 0 { 0 } else { 12 }, "{} {value}", call.name());
+                if call == Call::Remaining && answer.refusal == 0 {
+                    assert_eq!(answer.figures[1] == 1, u64::from(value) == 16 * voice, "{value}");
+                }
+            }
+        }
+    }
+}
+
+/// Logs in each voice in turn: a sentence is then heard in its voice, what was heard before in any voice still is, and
+/// nothing else is.
+#[test]
+fn logs_in_every_voice() {
+    let (grammar, full) = f_listed(3);
+    let mut history = vec![7; 4 + 20 * 64];
+    history[..4].fill(0);
+    let mut heard: BTreeSet<(u64, u64)> = BTreeSet::new();
+    for k in 0..64 {
+        // The last sixteen are those of the first sixteen again.
+        let (voice, round) = (k % 16, k / 16);
+        let number = (5 * voice + round % 3) % 8;
+        assert_eq!(pumpfennel::append(&mut history, &full[number as usize], voice), Ok(k + 1));
+        assert_eq!(u64::from(history[4 + 20 * k as usize + 3]), 16 * voice);
+        heard.insert((voice, number));
+        for voice in 0..16 {
+            let unheard = (0..).zip(full.clone()).filter(|(number, _)| !heard.contains(&(voice, *number)));
+            let unheard: Vec<(u64, Vec<u8>)> = unheard.collect();
+            let many = unheard.len() as u64;
+            assert_eq!(left(&grammar, &history, 3, voice).figures, [8, 8 - many, many]);
+            assert_eq!(every_draw(&grammar, &history, 3, voice), unheard);
+        }
+    }
+    assert_eq!(heard.len(), 48);
+    assert_eq!(pumpfennel::append(&mut history, &[0], 0), Err(Refusal::HistoryFull));
+}
+
+/// A voice above 15, whatever its low bits: 22 comes before all that is tested after it, and after 1 to 9.
+#[test]
+fn voices_above_fifteen() {
+    for call in CALLS.into_iter().filter(|call| call.takes_voice()) {
+        for voice in generate::BAD_VOICES {
+            let case = Case { voice, ..accepted(call) };
+            assert_eq!(given(&case).refusal, 22, "\n{}", case.text(None));
+            assert_eq!(case::parse(&case.text(None)), [(case, None)]);
+            for refusal in call.refusals() {
+                let mut case = accepted(call);
+                fault(&mut case, refusal);
+                case.voice = voice;
+                let first = if refusal <= 9 { refusal } else { 22 };
+                assert_eq!(given(&case).refusal, first, "\n{}", case.text(None));
+            }
+        }
+    }
+    let (grammar, mut history) = (generate::f_words(2).bytes(), heard_01());
+    for voice in [16, 256, 1 << 32, u64::MAX] {
+        assert_eq!(pumpfennel::remaining(&grammar, &history, 2, voice), Err(Refusal::BadVoice));
+        let drawn = pumpfennel::draw(&grammar, &history, 2, voice, DrawNumber(0), &mut [0; 2]);
+        assert_eq!(drawn, Err(Refusal::BadVoice));
+        assert_eq!(pumpfennel::append(&mut history, &[1], voice), Err(Refusal::BadVoice));
+        assert_eq!(history, heard_01());
+    }
 }
 
 // ---- The draws as one list
 
 /// Every draw from 0 to left - 1 gives the unheard list, which is made without any count; every later one is refused.
-/// Another history that bars the same sentences alters nothing.
+/// Another history that bars the same sentences alters nothing. Heard and barred are meant in the voice asked for.
 #[test]
 fn draws_as_one_list() {
     println!("seed {SEED}");
-    let (mut lists, mut draws, mut i) = (0, 0, 0);
+    let (mut lists, mut draws, mut elsewhere, mut i) = (0, 0, 0, 0);
     while lists < 5_000 {
         let mut rng = Rng::of_case(SEED, i);
         i += 1;
         let case = generate::case(&mut rng, Call::Remaining);
-        let Ok(found) = pumpfennel::remaining(&case.grammar, &case.history, case.length) else { continue };
+        let Case { length, voice, .. } = case;
+        let Ok(found) = pumpfennel::remaining(&case.grammar, &case.history, length, voice) else { continue };
         let shown = case.text(None);
-        let length = case.length as usize;
+        let length = length as usize;
         let grammar = reference::read_grammar(&case.grammar).expect("an accepted grammar");
         if found.total == 0 || short_lists(&grammar) < length {
             continue;
         }
         let sentences = reference::read_history(&case.history).expect("an accepted history");
         let full = reference::listed(&grammar, length);
-        let unheard: Vec<(u64, Vec<u8>)> =
-            (0..).zip(full.iter().cloned()).filter(|(_, words)| !sentences.contains(&&words[..])).collect();
+        let heard = |words: &[u8]| sentences.contains(&(voice as u8, words));
+        let unheard: Vec<(u64, Vec<u8>)> = (0..).zip(full.iter().cloned()).filter(|(_, words)| !heard(words)).collect();
         assert_eq!((found.total, found.remaining), (full.len() as u64, unheard.len() as u64), "{shown}");
+        let only_elsewhere = |words: &[u8]| !heard(words) && sentences.iter().any(|sentence| sentence.1 == words);
+        elsewhere += u64::from(full.iter().any(|words| only_elsewhere(words)));
 
-        // The same sentences in another order, some twice, and some that bar nothing.
-        let mut others: Vec<Vec<u8>> = sentences.iter().map(|words| words.to_vec()).collect();
+        // The same sentences in another order, some twice, and some that bar nothing; in other voices any sentences.
+        let asked = sentences.iter().filter(|sentence| u64::from(sentence.0) == voice);
+        let mut others: Vec<Spoken> = asked.map(|&(spoken, words)| (spoken, words.to_vec())).collect();
         others.extend_from_within(..others.len().min(3));
-        others.push(vec![255; length]);
+        others.push((voice as u8, vec![255; length]));
+        for _ in 0..rng.below(20) {
+            let spoken = (voice as u8 + 1 + rng.below(15) as u8) % 16;
+            others.push((spoken, full[rng.below(full.len())].clone()));
+        }
         others.truncate(1000);
         rng.shuffle(&mut others);
         let mut numbers: Vec<usize> = (1..=others.len()).collect();
@@ -258,48 +429,54 @@ fn draws_as_one_list() {
         let other = generate::history(&others, &numbers, &[9; 7]);
 
         for history in [&case.history, &other] {
-            assert_eq!(pumpfennel::remaining(&case.grammar, history, case.length), Ok(found), "{shown}");
+            assert_eq!(pumpfennel::remaining(&case.grammar, history, case.length, voice), Ok(found), "{shown}");
             let mut drawn = vec![];
             for q in 0..found.remaining {
                 let mut buffer = vec![rng.byte(); length];
-                let answer = pumpfennel::draw(&case.grammar, history, case.length, DrawNumber(q), &mut buffer);
+                let answer = pumpfennel::draw(&case.grammar, history, case.length, voice, DrawNumber(q), &mut buffer);
                 let answer = answer.unwrap_or_else(|refusal| panic!("draw {q}: {refusal}\n{shown}"));
                 assert_eq!(answer.remaining, found.remaining, "{shown}");
                 drawn.push((answer.number.0, buffer));
             }
             assert_eq!(drawn, unheard, "{shown}");
             for q in [found.remaining, found.remaining + 1, found.total.max(found.remaining), 1 << 32, u64::MAX] {
-                let answer = pumpfennel::draw(&case.grammar, history, case.length, DrawNumber(q), &mut [0; 16]);
+                let answer = pumpfennel::draw(&case.grammar, history, case.length, voice, DrawNumber(q), &mut [0; 16]);
                 assert_eq!(answer, Err(Refusal::NumberBeyond), "draw {q}\n{shown}");
             }
             draws += drawn.len();
         }
         lists += 1;
     }
-    println!("{lists} lists, {draws} draws");
+    println!("{lists} lists, {draws} draws; in {elsewhere} lists a sentence is heard in other voices only");
+    assert!(elsewhere > 500);
 }
 
-/// A thousand sentences of the house matrix grammar, each drawn from what is left and then logged.
+/// A thousand sentences of the house matrix grammar, each drawn from what is left in a voice and then logged: all in
+/// one voice, and in sixteen in turn.
 #[test]
 fn a_thousand_draws_and_logs() {
     println!("seed {SEED}");
     let grammar = generate::groups(&[10; 5]).bytes();
     assert_eq!(grammar.len(), 229);
-    let mut rng = Rng::new(SEED);
-    let mut history = vec![0; 4 + 20 * 1001];
-    let mut heard = BTreeSet::new();
-    for k in 0..1000 {
-        let left = pumpfennel::remaining(&grammar, &history, 5).expect("accepted").remaining;
-        assert_eq!(left, 100_000 - k);
-        let mut sentence = [0; 5];
-        let q = DrawNumber(rng.below_u64(left));
-        let drawn = pumpfennel::draw(&grammar, &history, 5, q, &mut sentence).expect("a draw below what is left");
-        assert_eq!(pumpfennel::rank(&grammar, &sentence).map(|ranked| ranked.number), Ok(drawn.number));
-        assert!(heard.insert(sentence), "{sentence:?} came twice");
-        assert_eq!(pumpfennel::append(&mut history, &sentence), Ok(k + 1));
+    for voices in [1, 16] {
+        let mut rng = Rng::new(SEED);
+        let mut history = vec![0; 4 + 20 * 1001];
+        let mut heard = BTreeSet::new();
+        for k in 0..1000 {
+            let voice = k % voices;
+            let left = pumpfennel::remaining(&grammar, &history, 5, voice).expect("accepted").remaining;
+            assert_eq!(left, 100_000 - k / voices);
+            let mut sentence = [0; 5];
+            let q = DrawNumber(rng.below_u64(left));
+            let drawn = pumpfennel::draw(&grammar, &history, 5, voice, q, &mut sentence);
+            let drawn = drawn.expect("a draw below what is left");
+            assert_eq!(pumpfennel::rank(&grammar, &sentence).map(|ranked| ranked.number), Ok(drawn.number));
+            assert!(heard.insert((voice, sentence)), "{sentence:?} came twice in voice {voice}");
+            assert_eq!(pumpfennel::append(&mut history, &sentence, voice), Ok(k + 1));
+        }
+        assert_eq!(pumpfennel::append(&mut history, &[1], 0), Err(Refusal::HistoryFull));
+        assert_eq!(history[4 + 20 * 1000..], [0; 20]);
     }
-    assert_eq!(pumpfennel::append(&mut history, &[1]), Err(Refusal::HistoryFull));
-    assert_eq!(history[4 + 20 * 1000..], [0; 20]);
 }
 
 // ---- The binding itself
@@ -313,19 +490,19 @@ fn empty_slices() {
     assert_eq!(pumpfennel::count(&[], 2), Err(Refusal::GrammarTooShort));
     assert_eq!(pumpfennel::unrank(&grammar, 2, DerivationNumber(0), &mut []), Err(Refusal::BufferTooShort));
     assert_eq!(pumpfennel::rank(&grammar, &[]), Err(Refusal::BadLength));
-    assert_eq!(pumpfennel::remaining(&grammar, &[], 2), Err(Refusal::HistoryWrongSize));
-    assert_eq!(pumpfennel::draw(&grammar, &[0; 4], 2, DrawNumber(0), &mut []), Err(Refusal::BufferTooShort));
-    assert_eq!(pumpfennel::append(&mut [], &[1]), Err(Refusal::HistoryWrongSize));
-    assert_eq!(pumpfennel::append(&mut [0; 24], &[]), Err(Refusal::BadLength));
+    assert_eq!(pumpfennel::remaining(&grammar, &[], 2, 0), Err(Refusal::HistoryWrongSize));
+    assert_eq!(pumpfennel::draw(&grammar, &[0; 4], 2, 0, DrawNumber(0), &mut []), Err(Refusal::BufferTooShort));
+    assert_eq!(pumpfennel::append(&mut [], &[1], 0), Err(Refusal::HistoryWrongSize));
+    assert_eq!(pumpfennel::append(&mut [0; 24], &[], 0), Err(Refusal::BadLength));
 }
 
 /// The stack that the crate names is enough for the largest call, with what a thread takes itself.
 #[test]
 fn stack() {
     let grammar = generate::f_words(15).bytes();
-    let sentences: Vec<Vec<u8>> = (0..1000).map(|i| vec![(i % 15) as u8; 16]).collect();
+    let sentences: Vec<Spoken> = (0..1000).map(|i| (0, vec![(i % 15) as u8; 16])).collect();
     let history = generate::history(&sentences, &(1..=1000).collect::<Vec<usize>>(), &[]);
-    let call = move || pumpfennel::draw(&grammar, &history, 16, DrawNumber(5), &mut [0; 16]);
+    let call = move || pumpfennel::draw(&grammar, &history, 16, 0, DrawNumber(5), &mut [0; 16]);
     let size = pumpfennel::LARGE_STACK + (16 << 10);
     let thread = std::thread::Builder::new().stack_size(size).spawn(call).expect("a thread");
     assert!(thread.join().expect("an answer").is_ok());

@@ -53,16 +53,17 @@ fn rows() -> Vec<(Refusal, Option<Refusal>, &'static str)> {
         (Refusal::HistoryBadLink, of(check_history(&record(2, 0, 1))), "history's head"),
         // record 1 comes after record 1
         (Refusal::HistoryBadChain, of(check_history(&record(1, 1, 1))), "history's chain"),
-        (Refusal::HeardAmbiguous, of(remaining(TREES, &record(1, 0, 3), 3)), "heard sentence"),
+        (Refusal::HeardAmbiguous, of(remaining(TREES, &record(1, 0, 3), 3, 0)), "heard in the voice"),
         // there is derivation 0, and no derivation 1
         (Refusal::NumberBeyond, of(unrank(ONE, 1, DerivationNumber(1), &mut [0])), "to choose from"),
         (Refusal::SentenceUnderivable, of(rank(ONE, &[1])), "no derivation"),
         // no longer returned: the sentence is accepted
         (Refusal::SentenceAmbiguous, of(rank(TREES, &[0, 0, 0])), "the sentence has two"),
         // no record, and no room for one
-        (Refusal::HistoryFull, of(append(&mut [0; 4], &[0])), "no room"),
+        (Refusal::HistoryFull, of(append(&mut [0; 4], &[0], 0)), "no room"),
         // one word, and room for none
         (Refusal::BufferTooShort, of(unrank(ONE, 1, DerivationNumber(0), &mut [])), "buffer"),
+        (Refusal::BadVoice, of(append(&mut [0; 24], &[0], 16)), "above 15"),
     ]
 }
 
@@ -79,9 +80,11 @@ fn by_name() {
 
 #[test]
 fn by_number() {
-    for (refusal, number) in Refusal::ALL.into_iter().zip(1..) {
-        assert_eq!(refusal.number(), number);
-        assert_eq!(Refusal::from_number(number), Some(refusal));
+    // there is no 21
+    let numbers: Vec<u8> = (1..=20).chain([22]).collect();
+    assert_eq!(Refusal::ALL.map(Refusal::number)[..], numbers);
+    for refusal in Refusal::ALL {
+        assert_eq!(Refusal::from_number(refusal.number()), Some(refusal));
         let error: Box<dyn std::error::Error> = Box::new(refusal);
         assert_eq!(error.to_string(), refusal.text());
     }

@@ -1,3 +1,4 @@
 pub mod Answer
 pub mod Length
+pub mod Voice
 pub mod Inner

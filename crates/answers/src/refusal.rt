@@ -1,4 +1,4 @@
-// Why a call says no: document 01's refusals, each with its number there. Written by tools/generate from refusals.txt.
+// Why a call says no: the documents' refusals, each with its number there. Written by tools/generate from refusals.txt.
 ghost use mathlib.Core.Path.{_≡_};
 ghost use Rattle.answers.specs.Inner.Refusals.{refusalNumber};
 
@@ -22,9 +22,10 @@ pub enum Refusal {
     SentenceUnderivable,
     HistoryFull,
     BufferTooShort,
+    BadVoice,
 }
 
-// The refusal's number in document 01's list.
+// The refusal's number in the documents.
 pub fn number(r: Refusal) -> u8
     ensures { λ x. ⌜ x ≡ refusalNumber r ⌝ }
 {
@@ -48,5 +49,6 @@ pub fn number(r: Refusal) -> u8
         Refusal::SentenceUnderivable => 17,
         Refusal::HistoryFull => 19,
         Refusal::BufferTooShort => 20,
+        Refusal::BadVoice => 22,
     }
 }

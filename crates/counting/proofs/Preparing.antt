@@ -30,7 +30,7 @@ use Rattle.counting.specs.Refusals.{tooLarge, openRows, preparedRows}
 use Rattle.lists.specs.Inner.Tables.{Kept}
 use Rattle.counting.specs.Inner.Counted.{countAt}
 use Rattle.counting.specs.Inner.Filling.{Filling, FilledAs}
-use Rattle.counting.specs.Inner.Preparing.{OpenedAs, Lent, PreparedAs}
+use Rattle.counting.specs.Inner.Preparing.{OpenedAs, Lent, Tabled, PreparedAs}
 use Rattle.counting.specs.Answers.{countOf}
 use Rattle.counting.specs.Inner.Says.{countSays}
 use Rattle.counting.specs.declared.prepare.Prepared.{Prepared}
@@ -40,7 +40,7 @@ use Rattle.lists.proofs.Tables.{kept-same}
 use Rattle.counting.proofs.Asking.{asked-whole}
 use Rattle.counting.proofs.Tabled.{tabled-T, tabled-large}
 
-refused-ready : {r : Refusal} → Refused r ≡ Ready → ⊥
+pub refused-ready : {r : Refusal} → Refused r ≡ Ready → ⊥
 refused-ready e = let q : _≡_ {A = ℕ} 0 1 = cc in omega arith
 
 -- ---- what reading the grammar says
@@ -115,12 +115,18 @@ module _ {g : List ℕ} {n : ℕ} {rules₀ rules totals₀ : List (List ℕ)} {
       fits-says : fits ≡ not (tooLarge g n)
       fits-says = f .says ∙ sym (ap not (tabled-large (o .ready e .holds) n))
 
+      pub filled-large : fits ≡ false → tooLarge g n ≡ true
+      filled-large z = not-false (tooLarge g n) (sym fits-says ∙ z)
+
+      pub filled-tabled : fits ≡ true → Tabled g n rules totals
+      filled-tabled z = record { holds = o .ready e .holds; fits = not-true (tooLarge g n) (sym fits-says ∙ z); counted = f .counted z }
+
       totals-stay : Kept 17 32 totals₀ totals
       totals-stay = record { long = f .long; wide = f .wide; rest = f .rest }
 
       pub prepare-too-large : fits ≡ false → PreparedAs g n rules₀ rules totals₀ totals (Refused TooManyDerivations)
       prepare-too-large z = record {
-        refusal = sym (past-opening ∙ row-applies 10 [] (not-false (tooLarge g n) (sym fits-says ∙ z)));
+        refusal = sym (past-opening ∙ row-applies 10 [] (filled-large z));
         ready = λ z. absurd (refused-ready z);
         rules-kept = o .kept;
         totals-kept = totals-stay;
@@ -129,13 +135,8 @@ module _ {g : List ℕ} {n : ℕ} {rules₀ rules totals₀ : List (List ℕ)} {
       pub prepare-ready : fits ≡ true → PreparedAs g n rules₀ rules totals₀ totals Ready
       unfolding firstThatApplies
       prepare-ready z =
-          let small = not-true (tooLarge g n) (sym fits-says ∙ z) in
-          record {
-            refusal = sym (past-opening ∙ row-passed 10 [] small);
-            ready = λ _. record { holds = o .ready e .holds; fits = small; counted = f .counted z };
-            rules-kept = o .kept;
-            totals-kept = totals-stay;
-          }
+          let t = filled-tabled z in
+          record { refusal = sym (past-opening ∙ row-passed 10 [] (t .fits)); ready = λ _. t; rules-kept = o .kept; totals-kept = totals-stay }
 
 -- ---- *Count*
 

@@ -3,7 +3,7 @@
 use mathlib.Core.Path.{_≡_, sym, _∙_}
 use mathlib.Core.Bool.{false, true, not, _||_}
 use mathlib.Core.List.{List}
-use Prim.Native.Nat.{ℕ, _+_, _-_, _*_, _≤_, _<_}
+use Prim.Native.Nat.{ℕ, _+_, _-_, _*_, _%_, _≤_, _<_}
 use borrow.Author.Tests.{ltb-false, eqb-true, lt-ltb, le-ltb, eq-eqb, ne-eqb, not-false}
 use native.Mathlib.Omega.{arith}
 use lib.ListN.{length, getD, drop, length-drop}
@@ -49,20 +49,13 @@ module _ (h : List ℕ) where
 
 -- ---- 12: the layout of a record
 
-pub record Fits (h : List ℕ) (at : ℕ) : Type 0 where
-  pub some : 1 ≤ getD h (at + 2) 0
-  pub short : getD h (at + 2) 0 ≤ 16
-  pub plain : getD h (at + 3) 0 ≡ 0
-
-pub fits : (h : List ℕ) (at : ℕ) → misfit h at ≡ false → Fits h at
+-- a record that passes has no more than sixteen words
+pub few-words : (h : List ℕ) (at : ℕ) → misfit h at ≡ false → getD h (at + 2) 0 ≤ 16
 unfolding misfit badLength
-fits h at e =
+few-words h at e =
     let n = getD h (at + 2) 0 in
-    let fourth = not (eqb (getD h (at + 3) 0) 0) in
-    let beyond = someNonzero h (at + 4 + n) (16 - n) in
-    let l = within-facts 1 16 n (or-left (badLength n) (fourth || beyond) e) in
-    let f = or-left fourth beyond (or-right (badLength n) (fourth || beyond) e) in
-    record { some = l .0; short = l .1; plain = eqb-true (getD h (at + 3) 0) 0 (not-false _ f) }
+    let rest = not (eqb (getD h (at + 3) 0 % 16) 0) || someNonzero h (at + 4 + n) (16 - n) in
+    within-facts 1 16 n (or-left (badLength n) rest e) .1
 
 module _ (h : List ℕ) (at : ℕ) where
   -- the test part by part, as the code makes it
@@ -74,17 +67,17 @@ module _ (h : List ℕ) (at : ℕ) where
   unfolding misfit badLength
   misfit-high l = rw (within-high 1 16 (getD h (at + 2) 0) l)
 
-  pub misfit-fourth : 1 ≤ getD h (at + 2) 0 → getD h (at + 2) 0 ≤ 16 → (getD h (at + 3) 0 ≡ 0 → ⊥) → true ≡ misfit h at
+  pub misfit-fourth : 1 ≤ getD h (at + 2) 0 → getD h (at + 2) 0 ≤ 16 → (getD h (at + 3) 0 % 16 ≡ 0 → ⊥) → true ≡ misfit h at
   unfolding misfit badLength
-  misfit-fourth l m n = rw (within-both 1 16 (getD h (at + 2) 0) l m, ne-eqb (getD h (at + 3) 0) 0 n)
+  misfit-fourth l m n = rw (within-both 1 16 (getD h (at + 2) 0) l m, ne-eqb (getD h (at + 3) 0 % 16) 0 n)
 
-  pub misfit-beyond : 1 ≤ getD h (at + 2) 0 → getD h (at + 2) 0 ≤ 16 → getD h (at + 3) 0 ≡ 0
+  pub misfit-beyond : 1 ≤ getD h (at + 2) 0 → getD h (at + 2) 0 ≤ 16 → getD h (at + 3) 0 % 16 ≡ 0
       → someNonzero h (at + 4 + getD h (at + 2) 0) (16 - getD h (at + 2) 0) ≡ misfit h at
   unfolding misfit badLength
-  misfit-beyond l m e = rw (within-both 1 16 (getD h (at + 2) 0) l m, eq-eqb (getD h (at + 3) 0) 0 e)
+  misfit-beyond l m e = rw (within-both 1 16 (getD h (at + 2) 0) l m, eq-eqb (getD h (at + 3) 0 % 16) 0 e)
 
   -- nothing lies beyond sixteen words
-  pub misfit-full : getD h (at + 2) 0 ≡ 16 → getD h (at + 3) 0 ≡ 0 → false ≡ misfit h at
+  pub misfit-full : getD h (at + 2) 0 ≡ 16 → getD h (at + 3) 0 % 16 ≡ 0 → false ≡ misfit h at
   misfit-full n e = sym (below-none _ _ (omega arith)) ∙ misfit-beyond (omega arith) (omega arith) e
 
 -- ---- 13 and 14
@@ -157,8 +150,8 @@ known h ok =
 pub words-inside : (h : List ℕ) → Accepted h → (r : ℕ) → 1 ≤ r → r ≤ recordsOf h → (lengthOf h r ≤ 16) × (recordAt r + 4 + lengthOf h r ≤ length h)
 words-inside h ok r l m =
     let k = known h ok in
-    let f = fits h (recordAt r) (k .fit r l m) in
-    (f .short, omega (arith, f .short, k .sized .size))
+    let f = few-words h (recordAt r) (k .fit r l m) in
+    (f, omega (arith, f, k .sized .size))
 
 pub words-length : (h : List ℕ) → Accepted h → (r : ℕ) → 1 ≤ r → r ≤ recordsOf h → length (recordWords h r) ≡ lengthOf h r
 unfolding recordWords

@@ -13,17 +13,18 @@ use lib.ListN.{length}
 use lib.Dec.{eqb}
 use Rattle.lists.specs.Joined.{_∈_, upFrom}
 use Rattle.lists.specs.Ordered.{Distinct}
-use Rattle.lists.specs.Searched.{someOf, times, same}
+use Rattle.lists.specs.Searched.{someOf, times, same, keep}
 use Rattle.lists.specs.Linked.{metFrom, Walk}
 use Rattle.lists.proofs.Sums.{sum-ext, sum-one, length-upFrom}
 use Rattle.lists.proofs.Members.{upFrom-∈, ∈-upFrom}
 use Rattle.lists.proofs.Searches.{times-sum, times-full, ∈-times, times-distinct, distinct-times}
-use Rattle.lists.proofs.Linked.{met-zero, met-above, met-step, met-inside, met-free, met-walk, walk-distinct}
-use Rattle.lists.proofs.Tests.{both-ways, some-∈, ∈-some, to-clear, to-some, to-found}
+use Rattle.lists.proofs.Linked.{met-zero, met-step, met-inside, met-free, met-walk, walk-distinct}
+use Rattle.lists.proofs.Tests.{both-ways, and-left, and-right, some-∈, ∈-some, to-clear, to-some, to-found}
+use Rattle.lists.proofs.Strikes.{keep-∈, ∈-keep}
 use Rattle.history.specs.Layout.{recordsOf, headOf, nextOf, recordWords}
 use Rattle.history.specs.Chain.{numbersFrom, numbers}
 use Rattle.history.specs.Refusals.{badLink, badChain, Accepted}
-use Rattle.history.specs.Heard.{sentencesIn, hasSentence, heard}
+use Rattle.history.specs.Heard.{makesHeard, sentencesIn, hasSentence, heard}
 use Rattle.history.proofs.Acceptance.{clear, known, link-head, link-next, each-once}
 
 module _ (h : List ℕ) where
@@ -131,10 +132,6 @@ module _ (h : List ℕ) (ok : Accepted h) where
   unfolding numbersFrom
   numbers-zero r e = met-zero (nextOf h) (recordsOf h) (recordsOf h + 1) r e
 
-  pub numbers-above : (r : ℕ) → recordsOf h < r → numbersFrom h r ≡ []
-  unfolding numbersFrom
-  numbers-above r l = met-above (nextOf h) (recordsOf h) (recordsOf h + 1) r l
-
   pub numbers-step : (r : ℕ) → 1 ≤ r → r ≤ recordsOf h → numbersFrom h r ≡ r ∷ numbersFrom h (nextOf h r)
   unfolding numbersFrom
   numbers-step r l m =
@@ -143,18 +140,24 @@ module _ (h : List ℕ) (ok : Accepted h) where
 
   -- ---- heard: a sentence of the chain
 
-  pub heard-sentences : (s : List ℕ) → heard h s ≡ someOf (λ t. same t s) (sentencesIn h)
-  unfolding heard
-  heard-sentences s = both-ways (heard h s) (someOf (λ t. same t s) (sentencesIn h)) there back
-    where
-      there : heard h s ≡ true → someOf (λ t. same t s) (sentencesIn h) ≡ true
-      there e =
-          let q = to-found (λ r. hasSentence h r s) (recordsOf h) e in
-          some-∈ (λ t. same t s) (recordWords h (q .0)) (sentencesIn h) (Memᴰ·map (recordWords h) (chained h ok .all (q .0) (q .1) (q .2))) (q .3)
+  module _ (v : ℕ) where
+    pub heard-sentences : (s : List ℕ) → heard h v s ≡ someOf (λ t. same t s) (sentencesIn h v)
+    unfolding heard
+    heard-sentences s = both-ways (heard h v s) (someOf (λ t. same t s) (sentencesIn h v)) there back
+      where
+        there : heard h v s ≡ true → someOf (λ t. same t s) (sentencesIn h v) ≡ true
+        there e =
+            let q = to-found (λ r. hasSentence h v r s) (recordsOf h) e in
+            let r = q .0 in
+            let makes = and-left (makesHeard h v r) (same (recordWords h r) s) (q .3) in
+            some-∈ (λ t. same t s) (recordWords h r) (sentencesIn h v)
+            (Memᴰ·map (recordWords h) (∈-keep (makesHeard h v) (numbers h) r (chained h ok .all r (q .1) (q .2)) makes))
+            (and-right (makesHeard h v r) (same (recordWords h r) s) (q .3))
 
-      back : someOf (λ t. same t s) (sentencesIn h) ≡ true → heard h s ≡ true
-      back e =
-          let q = ∈-some (λ t. same t s) (sentencesIn h) e in
-          let r = Memᴰ·of-map (recordWords h) (numbers h) (q .1) in
-          let i = numbers-inside h (headOf h) (r .1) in
-          to-some (λ k. hasSentence h k s) (recordsOf h) (r .0) (i .0) (i .1) (rw (r .2) (q .2))
+        back : someOf (λ t. same t s) (sentencesIn h v) ≡ true → heard h v s ≡ true
+        back e =
+            let q = ∈-some (λ t. same t s) (sentencesIn h v) e in
+            let r = Memᴰ·of-map (recordWords h) (keep (makesHeard h v) (numbers h)) (q .1) in
+            let k = keep-∈ (makesHeard h v) (numbers h) (r .0) (r .1) in
+            let i = numbers-inside h (headOf h) (k .0) in
+            to-some (λ k. hasSentence h v k s) (recordsOf h) (r .0) (i .0) (i .1) (rw (k .1, r .2) (q .2))

@@ -14,6 +14,7 @@ use Rattle.answers.specs.Answer.{Answer, firstThatApplies}
 use Rattle.answers.specs.Inner.Refusals.{refusalNumber}
 use Rattle.answers.specs.declared.refusal.Refusal.{Refusal}
 use Rattle.answers.specs.Length.{badLength}
+use Rattle.answers.specs.Voice.{badVoice}
 use Rattle.answers.proofs.Refusals.{row-applies, row-passed, rows-stop, rows-pass, answer-number, answer-accepted, answer-refused}
 use Rattle.history.specs.declared.checks.HistoryAnswer.{HistoryAnswer}
 use Rattle.history.specs.declared.checks.HistoryAnswer.the-variants.{Given, Refused}
@@ -56,11 +57,11 @@ check-refused h e f = sym (check-number h (rw f at e))
 
 -- ---- *Log*
 
-module _ (h s : List ℕ) where
+module _ (h s : List ℕ) (v : ℕ) where
   -- the refusal, with the bytes as they were
-  log-refused : (n : ℕ) → firstThatApplies (appendRows h s) ≡ n → 0 < n → answer.refused n 1 h ≡ appendOf h s
+  log-refused : (n : ℕ) → firstThatApplies (appendRows h s v) ≡ n → 0 < n → answer.refused n 1 h ≡ appendOf h s v
   unfolding appendOf
-  log-refused n e l = rw e (sym (answer-refused n (suc (recordsOf h) ∷ []) h (appended h s) l))
+  log-refused n e l = rw e (sym (answer-refused n (suc (recordsOf h) ∷ []) h (appended h s v) l))
 
   length-low : length s < 1 → badLength (length s) ≡ true
   unfolding badLength
@@ -70,30 +71,37 @@ module _ (h s : List ℕ) where
   unfolding badLength
   length-high l = within-high 1 16 (length s) l
 
-  pub log-low : length s < 1 → answer.refused 9 1 h ≡ appendOf h s
+  pub log-low : length s < 1 → answer.refused 9 1 h ≡ appendOf h s v
   log-low l = log-refused 9 (row-applies 9 _ (length-low l)) (lit< tt)
 
-  pub log-high : 16 < length s → answer.refused 9 1 h ≡ appendOf h s
+  pub log-high : 16 < length s → answer.refused 9 1 h ≡ appendOf h s v
   log-high l = log-refused 9 (row-applies 9 _ (length-high l)) (lit< tt)
 
   module _ (some : 1 ≤ length s) (short : length s ≤ 16) where
-    past-length : firstThatApplies (appendRows h s) ≡ firstThatApplies (historyRows h ++ ((noRoom h, 19) ∷ []))
+    past-length : firstThatApplies (appendRows h s v) ≡ firstThatApplies ((badVoice v, 22) ∷ (historyRows h ++ ((noRoom h, 19) ∷ [])))
     unfolding badLength
     past-length = row-passed 9 _ (within-both 1 16 (length s) some short)
 
-    pub log-history : (n : ℕ) → historyRefusal h ≡ n → 0 < n → answer.refused n 1 h ≡ appendOf h s
-    log-history n e l = log-refused n (past-length ∙ rows-stop (historyRows h) _ (omega arith) ∙ e) l
+    pub log-voice : 15 < v → answer.refused 22 1 h ≡ appendOf h s v
+    log-voice l = log-refused 22 (past-length ∙ row-applies 22 _ (lt-ltb 15 v l)) (lit< tt)
 
-    past-history : Accepted h → firstThatApplies (appendRows h s) ≡ firstThatApplies ((noRoom h, 19) ∷ [])
-    past-history ok = past-length ∙ rows-pass (historyRows h) _ refl ok
+    module _ (voiced : v ≤ 15) where
+      past-voice : firstThatApplies (appendRows h s v) ≡ firstThatApplies (historyRows h ++ ((noRoom h, 19) ∷ []))
+      past-voice = past-length ∙ row-passed 22 _ (le-ltb 15 v voiced)
 
-    pub log-room : Accepted h → noRoom h ≡ true → answer.refused 19 1 h ≡ appendOf h s
-    log-room ok e = log-refused 19 (past-history ok ∙ row-applies 19 [] e) (lit< tt)
+      pub log-history : (n : ℕ) → historyRefusal h ≡ n → 0 < n → answer.refused n 1 h ≡ appendOf h s v
+      log-history n e l = log-refused n (past-voice ∙ rows-stop (historyRows h) _ (omega arith) ∙ e) l
 
-    pub log-accepted : {k : ℕ} {after : List ℕ} → Accepted h → noRoom h ≡ false → k ≡ suc (recordsOf h) → after ≡ appended h s
-        → answer.given (k ∷ []) after ≡ appendOf h s
-    unfolding appendOf firstThatApplies
-    log-accepted ok r e f = rw (e, f) (sym (answer-accepted (suc (recordsOf h) ∷ []) h (appended h s) (past-history ok ∙ row-passed 19 [] r)))
+      past-history : Accepted h → firstThatApplies (appendRows h s v) ≡ firstThatApplies ((noRoom h, 19) ∷ [])
+      past-history ok = past-voice ∙ rows-pass (historyRows h) _ refl ok
+
+      pub log-room : Accepted h → noRoom h ≡ true → answer.refused 19 1 h ≡ appendOf h s v
+      log-room ok e = log-refused 19 (past-history ok ∙ row-applies 19 [] e) (lit< tt)
+
+      pub log-accepted : {k : ℕ} {after : List ℕ} → Accepted h → noRoom h ≡ false → k ≡ suc (recordsOf h) → after ≡ appended h s v
+          → answer.given (k ∷ []) after ≡ appendOf h s v
+      unfolding appendOf firstThatApplies
+      log-accepted ok r e f = rw (e, f) (sym (answer-accepted (suc (recordsOf h) ∷ []) h (appended h s v) (past-history ok ∙ row-passed 19 [] r)))
 
 -- 19, from what the code has tested
 module _ (h : List ℕ) where

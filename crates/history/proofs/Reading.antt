@@ -1,22 +1,19 @@
--- What is read at a number, and that reading from there on tells the chain: an empty sentence stands where the walk has ended, any other is the
--- record's own, and the walk goes on at the number after it.
+-- What is read at a number, and that reading from there on tells the chain: at a record's number stand its own words, and the walk goes on at the
+-- number after it.
 -- Assumes nothing.
-use mathlib.Core.Path.{_≡_, refl, sym, ap, _∙_}
-use mathlib.Core.Bool.{Bool, true, false, not, cond, false≢true}
+use mathlib.Core.Path.{_≡_, sym, ap, _∙_}
+use mathlib.Core.Bool.{Bool, true, false, not, cond}
 use mathlib.Core.List.{List, [], _∷_}
 use Prim.Native.Nat.{ℕ, _≤_, _<_}
-use native.Mathlib.Omega.{arith}
-use borrow.Author.Tests.{leb-true, leb-false, le-leb, lt-leb}
-use lib.ListN.{length}
+use borrow.Author.Tests.{le-leb, lt-leb}
 use lib.Dec.{leb}
 use Rattle.lists.proofs.Tests.{within-facts}
-use Rattle.history.specs.Layout.{recordsOf, recordAt, nextOf, recordWords}
+use Rattle.history.specs.Layout.{recordsOf, nextOf, recordWords}
 use Rattle.history.specs.Chain.{numbersFrom}
 use Rattle.history.specs.Refusals.{Accepted}
 use Rattle.history.specs.Inner.Checks.{Inside}
 use Rattle.history.specs.Inner.Reading.{isRecord, sentenceAt, nextAt}
-use Rattle.history.proofs.Acceptance.{known, fits, words-length}
-use Rattle.history.proofs.Chain.{numbers-zero, numbers-above, numbers-step}
+use Rattle.history.proofs.Chain.{numbers-step}
 
 module _ (h : List ℕ) (at : ℕ) where
   -- ---- whether a number is a record's
@@ -46,38 +43,15 @@ module _ (h : List ℕ) (at : ℕ) where
 
   -- ---- the chain of an accepted history, read from here on
 
-  module _ (ok : Accepted h) where
-    -- a record's sentence has a word
-    some-word : isRecord h at ≡ true → 1 ≤ length (sentenceAt h at)
-    some-word e =
-        let i = inside e in
-        let f = fits h (recordAt at) (known h ok .fit at (i .low) (i .high)) in
-        rw (← words-here e) (omega (arith, words-length h ok at (i .low) (i .high), f .some))
+  module _ (ok : Accepted h) (l : 1 ≤ at) (m : at ≤ recordsOf h) where
+    here : isRecord h at ≡ true
+    here = sym (by-high l) ∙ le-leb at (recordsOf h) m
 
-    over : isRecord h at ≡ false → numbersFrom h at ≡ []
-    over e = go (leb 1 at) (leb at (recordsOf h)) refl refl
-      where
-        go : (a b : Bool) → leb 1 at ≡ a → leb at (recordsOf h) ≡ b → numbersFrom h at ≡ []
-        go false b f g = let z = leb-false 1 at f in numbers-zero h ok at (omega (arith, z))
-        go true false f g = numbers-above h ok at (leb-false at (recordsOf h) g)
-        go true true f g =
-            absurd (false≢true (sym e ∙ sym (by-high (leb-true 1 at f)) ∙ g))
+    pub read-words : sentenceAt h at ≡ recordWords h at
+    read-words = sym (words-here here)
 
-    goes-on : isRecord h at ≡ true → (sentenceAt h at ≡ recordWords h at) × (numbersFrom h at ≡ at ∷ numbersFrom h (nextAt h at))
-    goes-on e =
-        let i = inside e in
-        (sym (words-here e), numbers-step h ok at (i .low) (i .high) ∙ ap (λ (r : ℕ). at ∷ numbersFrom h r) (next-here e))
+    pub read-next : nextAt h at ≡ nextOf h at
+    read-next = sym (next-here here)
 
-    pub read-end : length (sentenceAt h at) ≡ 0 → numbersFrom h at ≡ []
-    read-end z = go (isRecord h at) refl
-      where
-        go : (b : Bool) → isRecord h at ≡ b → numbersFrom h at ≡ []
-        go true e = let s = some-word e in absurd (omega (arith, s, z))
-        go false e = over e
-
-    pub read-record : (length (sentenceAt h at) ≡ 0 → ⊥) → (sentenceAt h at ≡ recordWords h at) × (numbersFrom h at ≡ at ∷ numbersFrom h (nextAt h at))
-    read-record n = go (isRecord h at) refl
-      where
-        go : (b : Bool) → isRecord h at ≡ b → (sentenceAt h at ≡ recordWords h at) × (numbersFrom h at ≡ at ∷ numbersFrom h (nextAt h at))
-        go true e = goes-on e
-        go false e = absurd (n (ap length (sym (words-end e))))
+    pub read-step : numbersFrom h at ≡ at ∷ numbersFrom h (nextAt h at)
+    read-step = numbers-step h ok at l m ∙ ap (λ (r : ℕ). at ∷ numbersFrom h r) (next-here here)

@@ -8,7 +8,7 @@ use lib.ListN.{length, getD, take, drop, replicate, length-append, length-replic
 use lib.Seq.{paste, take-length, length-take-le, length-paste, getD-take, getD-drop, getD-append-add}
 use Rattle.lists.proofs.Places.{getD-same, getD-left, getD-right}
 use Rattle.history.specs.Layout.{recordsOf, headOf, recordAt}
-use Rattle.history.specs.Writing.{overwritten, twoBytes, recordBytes, appended}
+use Rattle.history.specs.Writing.{overwritten, twoBytes, recordBytes, fourthByte, appended}
 
 -- zeros after a list change no entry: past its end an entry is 0 anyway
 getD-padded : (s : List ℕ) (n i : ℕ) → getD (s ++ replicate n 0) i 0 ≡ getD s i 0
@@ -18,15 +18,15 @@ getD-padded (x ∷ s) n (suc i) = getD-padded s n i
 
 -- ---- the bytes of a record
 
-pub record-word : (next : ℕ) (s : List ℕ) (i : ℕ) → 4 ≤ i → getD (recordBytes next s) i 0 ≡ getD s (i - 4) 0
+pub record-word : (next fourth : ℕ) (s : List ℕ) (i : ℕ) → 4 ≤ i → getD (recordBytes next fourth s) i 0 ≡ getD s (i - 4) 0
 unfolding recordBytes
-record-word next s i h =
+record-word next fourth s i h =
     let e : i ≡ suc (suc (suc (suc (i - 4)))) = omega arith in
-    ap (λ (k : ℕ). getD (recordBytes next s) k 0) e ∙ getD-padded s (16 - length s) (i - 4)
+    ap (λ (k : ℕ). getD (recordBytes next fourth s) k 0) e ∙ getD-padded s (16 - length s) (i - 4)
 
-pub record-length : (next : ℕ) (s : List ℕ) → length s ≤ 16 → length (recordBytes next s) ≡ 20
+pub record-length : (next fourth : ℕ) (s : List ℕ) → length s ≤ 16 → length (recordBytes next fourth s) ≡ 20
 unfolding recordBytes
-record-length next s h =
+record-length next fourth s h =
     let e : length (s ++ replicate (16 - length s) 0) ≡ 16 = simp (length-append, length-replicate) (omega arith) in
     omega arith
 
@@ -73,7 +73,7 @@ module _ (h : List ℕ) (at : ℕ) (bs : List ℕ) (fits : at + length bs ≤ le
 -- ---- the whole of it
 
 -- the record first, then K, then the head
-pub written : (h s : List ℕ) (new at old : ℕ) {a b c : List ℕ} → new ≡ suc (recordsOf h) → at ≡ recordAt new → old ≡ headOf h
-    → a ≡ overwritten h at (recordBytes old s) → b ≡ overwritten a 0 (twoBytes new) → c ≡ overwritten b 2 (twoBytes new) → c ≡ appended h s
+pub written : (h s : List ℕ) (v new at old : ℕ) {a b c : List ℕ} → new ≡ suc (recordsOf h) → at ≡ recordAt new → old ≡ headOf h
+    → a ≡ overwritten h at (recordBytes old (fourthByte v) s) → b ≡ overwritten a 0 (twoBytes new) → c ≡ overwritten b 2 (twoBytes new) → c ≡ appended h s v
 unfolding appended
-written h s new at old n i o e f g = rw (g, f, e, i, o, n)
+written h s v new at old n i o e f g = rw (g, f, e, i, o, n)

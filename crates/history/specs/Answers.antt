@@ -7,6 +7,7 @@ use lib.ListN.{length}
 use lib.Dec.{ltb, eqb}
 use Rattle.answers.specs.Answer.{Row, Answer, answer}
 use Rattle.answers.specs.Length.{badLength}
+use Rattle.answers.specs.Voice.{badVoice}
 use Rattle.history.specs.Layout.{recordsOf}
 use Rattle.history.specs.Refusals.{historyRows}
 use Rattle.history.specs.Writing.{appended}
@@ -23,9 +24,10 @@ checkHistory h = answer (historyRows h) (recordsOf h ∷ []) [] []
 unfoldable pub noRoom : List ℕ → Bool
 noRoom h = eqb (recordsOf h) 1000 || ltb (length h) (4 + 20 * suc (recordsOf h))
 
-abbrev pub appendRows : (h s : List ℕ) → List Row
-appendRows h s = (badLength (length s), 9) ∷ (historyRows h ++ ((noRoom h, 19) ∷ []))
+-- the lines 9, 22, 11 to 14 and 19, in their order
+abbrev pub appendRows : (h s : List ℕ) (v : ℕ) → List Row
+appendRows h s v = (badLength (length s), 9) ∷ (badVoice v, 22) ∷ (historyRows h ++ ((noRoom h, 19) ∷ []))
 
--- "*Log* (diary buffer, sentence) writes record K + 1 in full [..], gives the new K."
-unfoldable pub appendOf : (h s : List ℕ) → Answer
-appendOf h s = answer (appendRows h s) (suc (recordsOf h) ∷ []) h (appended h s)
+-- "*Log* (diary buffer, sentence) writes record K + 1 in full [..], gives the new K." It takes a voice too (document 02, U4).
+unfoldable pub appendOf : (h s : List ℕ) (v : ℕ) → Answer
+appendOf h s v = answer (appendRows h s v) (suc (recordsOf h) ∷ []) h (appended h s v)

@@ -1,7 +1,7 @@
 -- The bytes of a history (document 01: diary, section 'Diary bytes'). A history is here the list of its bytes, slack included.
 -- Assumes nothing: these are definitions.
 use mathlib.Core.List.{List}
-use Prim.Native.Nat.{ℕ, _+_, _-_, _*_}
+use Prim.Native.Nat.{ℕ, _+_, _-_, _*_, _/_}
 use lib.ListN.{getD, take, drop}
 
 -- "Two-byte fields have the low byte first."
@@ -19,12 +19,19 @@ headOf h = twoAt h 2
 abbrev pub recordAt : ℕ → ℕ
 recordAt r = 20 * r - 16
 
--- "two bytes next, one byte length (1 to 16), one byte 0, sixteen word bytes, zero beyond the length"
+-- "two bytes next, one byte length (1 to 16), one byte [..], sixteen word bytes, zero beyond the length"
 abbrev pub nextOf : List ℕ → ℕ → ℕ
 nextOf h r = twoAt h (recordAt r)
 
 abbrev pub lengthOf : List ℕ → ℕ → ℕ
 lengthOf h r = getD h (recordAt r + 2) 0
+
+abbrev pub fourthOf : List ℕ → ℕ → ℕ
+fourthOf h r = getD h (recordAt r + 3) 0
+
+-- "The high four bits of a record's fourth byte hold it": the voice (document 02, U4)
+abbrev pub voiceOf : List ℕ → ℕ → ℕ
+voiceOf h r = fourthOf h r / 16
 
 -- the words of record r: a sentence
 unfoldable pub recordWords : List ℕ → ℕ → List ℕ

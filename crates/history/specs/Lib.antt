@@ -4,4 +4,5 @@ pub mod Refusals
 pub mod Heard
 pub mod Writing
 pub mod Answers
+pub mod Logged
 pub mod Inner

@@ -1,7 +1,7 @@
--- What *Log* writes (document 01, section 'Operations').
+-- What *Log* writes (document 01, section 'Operations'; document 02, U4).
 -- Assumes nothing: these are definitions.
 use mathlib.Core.List.{List, [], _∷_, _++_}
-use Prim.Native.Nat.{ℕ, suc, _+_, _-_, _/_, _%_}
+use Prim.Native.Nat.{ℕ, suc, _+_, _-_, _*_, _/_, _%_}
 use lib.ListN.{length, take, drop, replicate}
 use Rattle.history.specs.Layout.{recordsOf, headOf, recordAt}
 
@@ -13,12 +13,16 @@ overwritten h at bs = take at h ++ bs ++ drop (at + length bs) h
 abbrev pub twoBytes : ℕ → List ℕ
 twoBytes x = x % 256 ∷ x / 256 ∷ []
 
--- "two bytes next, one byte length (1 to 16), one byte 0, sixteen word bytes, zero beyond the length"
-unfoldable pub recordBytes : (next : ℕ) (s : List ℕ) → List ℕ
-recordBytes next s = twoBytes next ++ (length s ∷ 0 ∷ (s ++ replicate (16 - length s) 0))
+-- "two bytes next, one byte length (1 to 16), one byte [..], sixteen word bytes, zero beyond the length"
+unfoldable pub recordBytes : (next fourth : ℕ) (s : List ℕ) → List ℕ
+recordBytes next fourth s = twoBytes next ++ (length s ∷ fourth ∷ (s ++ replicate (16 - length s) 0))
+
+-- "The high four bits of a record's fourth byte hold it": the voice (document 02, U4)
+abbrev pub fourthByte : (v : ℕ) → ℕ
+fourthByte v = 16 * v
 
 -- "writes record K + 1 in full with next = old head, sets head and K to K + 1 [..] No other byte changes."
-unfoldable pub appended : (h s : List ℕ) → List ℕ
-appended h s =
+unfoldable pub appended : (h s : List ℕ) (v : ℕ) → List ℕ
+appended h s v =
     let new = suc (recordsOf h) in
-    overwritten (overwritten (overwritten h (recordAt new) (recordBytes (headOf h) s)) 0 (twoBytes new)) 2 (twoBytes new)
+    overwritten (overwritten (overwritten h (recordAt new) (recordBytes (headOf h) (fourthByte v) s)) 0 (twoBytes new)) 2 (twoBytes new)

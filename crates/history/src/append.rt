@@ -17,9 +17,9 @@ pub enum AppendAnswer {
 }
 
 // Byte i of a record.
-fn record_byte(next: usize, s: &[u8], i: usize) -> u8
+fn record_byte(next: usize, fourth: u8, s: &[u8], i: usize) -> u8
     requires { ⌜ (next ≤ 65535) × (length (now s) ≤ 16) × (i < 20) ⌝ }
-    ensures { λ b. ⌜ b ≡ getD (recordBytes next (now (s .entry))) i 0 ⌝ }
+    ensures { λ b. ⌜ b ≡ getD (recordBytes next fourth (now (s .entry))) i 0 ⌝ }
 {
     if i == 0 {
         return (next % 256) as u8;
@@ -31,18 +31,18 @@ fn record_byte(next: usize, s: &[u8], i: usize) -> u8
         return s.len() as u8;
     }
     if i == 3 {
-        return 0;
+        return fourth;
     }
     if i - 4 < s.len() { s[i - 4] } else { 0 }
 }
 
-fn put_record(h: &mut [u8], at: usize, next: usize, s: &[u8])
+fn put_record(h: &mut [u8], at: usize, next: usize, fourth: u8, s: &[u8])
     requires { ⌜ (at + 20 ≤ length (now h)) × (next ≤ 65535) × (length (now s) ≤ 16) ⌝ }
-    ensures { λ _. ⌜ now (h .exit) ≡ overwritten (now (h .entry)) at (recordBytes next (now (s .entry))) ⌝ }
+    ensures { λ _. ⌜ now (h .exit) ≡ overwritten (now (h .entry)) at (recordBytes next fourth (now (s .entry))) ⌝ }
 {
     let mut i: usize = 0;
     while i < 20 {
-        h[at + i] = record_byte(next, s, i);
+        h[at + i] = record_byte(next, fourth, s, i);
         i += 1;
     }
 }
@@ -55,25 +55,28 @@ fn put_two(h: &mut [u8], at: usize, x: usize)
     h[at + 1] = (x / 256) as u8;
 }
 
-// Record `new`, with the old head as its next, and K and head set to `new`.
-fn write(h: &mut [u8], new: usize, sentence: &[u8])
-    requires { ⌜ Room (now h) new × (length (now sentence) ≤ 16) ⌝ }
-    ensures { λ _. ⌜ now (h .exit) ≡ appended (now (h .entry)) (now (sentence .entry)) ⌝ }
+// Record `new`, with the old head as its next, and K and head set to `new`. The voice stands in the fourth byte's high four bits.
+fn write(h: &mut [u8], new: usize, sentence: &[u8], voice: u8)
+    requires { ⌜ Room (now h) new × (length (now sentence) ≤ 16) × (voice ≤ 15) ⌝ }
+    ensures { λ _. ⌜ now (h .exit) ≡ appended (now (h .entry)) (now (sentence .entry)) voice ⌝ }
 {
     let old = records::two_at(h, 2);
-    put_record(h, records::record_at(new), old, sentence);
+    put_record(h, records::record_at(new), old, 16 * voice, sentence);
     put_two(h, 0, new);
     put_two(h, 2, new);
 }
 
-pub fn append(h: &mut [u8], sentence: &[u8]) -> AppendAnswer
-    ensures { λ a. ⌜ appendSays a (now (h .exit)) ≡ appendOf (now (h .entry)) (now (sentence .entry)) ⌝ }
+pub fn append(h: &mut [u8], sentence: &[u8], voice: u64) -> AppendAnswer
+    ensures { λ a. ⌜ appendSays a (now (h .exit)) ≡ appendOf (now (h .entry)) (now (sentence .entry)) voice ⌝ }
 {
     if sentence.len() < 1 {
         return AppendAnswer::Refused(Refusal::BadLength);
     }
     if 16 < sentence.len() {
         return AppendAnswer::Refused(Refusal::BadLength);
+    }
+    if 15 < voice {
+        return AppendAnswer::Refused(Refusal::BadVoice);
     }
     let a = checks::check(h);
     match a {
@@ -86,7 +89,7 @@ pub fn append(h: &mut [u8], sentence: &[u8]) -> AppendAnswer
             if h.len() < 4 + 20 * new {
                 return AppendAnswer::Refused(Refusal::HistoryFull);
             }
-            write(h, new, sentence);
+            write(h, new, sentence, voice as u8);
             AppendAnswer::Given(k + 1)
         }
     }

@@ -57,7 +57,8 @@ fn misfit(h: &[u8], at: usize) -> bool
     if 16 < n {
         return true;
     }
-    if h[at + 3] != 0 {
+    // the high four bits hold the voice, and may be any
+    if h[at + 3] % 16 != 0 {
         return true;
     }
     // nothing lies beyond sixteen words

@@ -1,8 +1,9 @@
 // The fields of a history and of one of its records.
 ghost use mathlib.Core.Path.{_≡_};
 ghost use Prim.Native.Nat.{_+_, _≤_, _<_};
-ghost use lib.ListN.{length};
+ghost use lib.ListN.{length, getD};
 ghost use Rattle.history.specs.Layout.{twoAt, recordAt, lengthOf, recordWords};
+ghost use Rattle.history.specs.Heard.{makesHeard};
 ghost use Rattle.history.specs.Refusals.{Accepted};
 ghost use Rattle.history.specs.Inner.Checks.{Inside};
 
@@ -30,12 +31,20 @@ pub fn record_at(r: usize) -> usize
     20 * r - 16
 }
 
+// Byte i of record r.
+fn byte(h: &[u8], r: usize, i: usize) -> usize
+    requires { ⌜ Accepted (now h) × Inside (now h) r × (i < 20) ⌝ }
+    ensures { λ x. ⌜ (x ≡ getD (now (h .entry)) (recordAt r + i) 0) × (x ≤ 255) ⌝ }
+{
+    wide(h[record_at(r) + i])
+}
+
 // How many words the sentence of record r has.
 fn length(h: &[u8], r: usize) -> usize
     requires { ⌜ Accepted (now h) × Inside (now h) r ⌝ }
     ensures { λ n. ⌜ n ≡ lengthOf (now (h .entry)) r ⌝ }
 {
-    wide(h[record_at(r) + 2])
+    byte(h, r, 2)
 }
 
 // The sentence of record r.
@@ -46,4 +55,12 @@ pub fn words(h: &[u8], r: usize) -> &[u8]
     let at = record_at(r) + 4;
     let end = at + length(h, r);
     &h[at..end]
+}
+
+// Whether record r makes its sentence heard in a voice.
+pub fn makes_heard(h: &[u8], r: usize, voice: u64) -> bool
+    requires { ⌜ Accepted (now h) × Inside (now h) r ⌝ }
+    ensures { λ b. ⌜ b ≡ makesHeard (now (h .entry)) voice r ⌝ }
+{
+    (byte(h, r, 3) / 16) as u64 == voice
 }

@@ -198,7 +198,10 @@ fn list(n: u64, g: &[u8], h: &[u8]) -> bool {
     let row = [0u64; 32];
     let mut totals = [row; 17];
     let mut numbers = [0u64; 1000];
-    let question = Question { length: n };
+    let question = Question {
+        length: n,
+        voice: 0,
+    };
     let p = prepare::prepare(g, h, question, &mut rules, &mut totals, &mut numbers);
     match p {
         Sampled::Refused(r) => print_refusal(r),

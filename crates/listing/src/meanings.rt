@@ -33,7 +33,7 @@ pub fn explain(r: Refusal) {
             b"listing: refused: the history has fewer than 4 bytes, K is above 1,000, or it has fewer than 4 + 20K bytes\n",
         ),
         Refusal::HistoryBadRecord => say(
-            b"listing: refused: some record has a wrong length, a fourth byte that is not 0, or a non-zero byte beyond its words\n",
+            b"listing: refused: some record has a wrong length, a fourth byte whose low four bits are not 0, or a non-zero byte beyond its words\n",
         ),
         Refusal::HistoryBadLink => say(
             b"listing: refused: the history's head or some next is above K\n",
@@ -42,7 +42,7 @@ pub fn explain(r: Refusal) {
             b"listing: refused: the history's chain meets a record twice or misses one\n",
         ),
         Refusal::HeardAmbiguous => say(
-            b"listing: refused: a heard sentence of the length has two or more derivations\n",
+            b"listing: refused: a sentence of the length, heard in the voice, has two or more derivations\n",
         ),
         Refusal::NumberBeyond => say(
             b"listing: refused: the number is not below how many there are to choose from\n",
@@ -54,5 +54,6 @@ pub fn explain(r: Refusal) {
         Refusal::BufferTooShort => say(
             b"listing: refused: the sentence's buffer is shorter than the length\n",
         ),
+        Refusal::BadVoice => say(b"listing: refused: the voice is above 15\n"),
     }
 }

@@ -66,6 +66,15 @@ module _ {X : Type 0} where
   keep-ext P Q [] h = refl
   keep-ext P Q (x ∷ l) h = rw (h x (List·Memᴰ·head refl), keep-ext P Q l (λ y m. h y (List·Memᴰ·tail m)))
 
+  -- all pass, or none does
+  pub keep-all : (P : X → Bool) (l : List X) → ((x : X) → x ∈ l → P x ≡ true) → keep P l ≡ l
+  keep-all P [] h = refl
+  keep-all P (x ∷ l) h = rw (h x (List·Memᴰ·head refl), keep-all P l (λ y m. h y (List·Memᴰ·tail m)))
+
+  pub keep-none : (P : X → Bool) (l : List X) → ((x : X) → x ∈ l → P x ≡ false) → keep P l ≡ []
+  keep-none P [] h = refl
+  keep-none P (x ∷ l) h = rw (h x (List·Memᴰ·head refl)) (keep-none P l (λ y m. h y (List·Memᴰ·tail m)))
+
   -- a sum of what is 0 where the test fails
   pub sum-keep : (P : X → Bool) (f : X → ℕ) (l : List X) → ((x : X) → x ∈ l → P x ≡ false → f x ≡ 0) → sumOver f (keep P l) ≡ sumOver f l
   sum-keep P f [] h = refl

@@ -3,7 +3,7 @@
 -- Assumes nothing.
 use mathlib.Core.Path.{sym, ap, _∙_}
 use mathlib.Core.List.{List, [], _∷_, _++_}
-use Prim.Native.Nat.{ℕ, suc}
+use Prim.Native.Nat.{ℕ, suc, _≤_}
 use native.Mathlib.Omega.{arith}
 use lib.ListN.{length, drop}
 use Rattle.answers.specs.Answer.{Row, Answer, firstThatApplies, answer}
@@ -20,6 +20,7 @@ use Rattle.history.specs.Refusals as history
 use Rattle.history.specs.Refusals.{historyRows}
 use Rattle.history.specs.Writing.{appended}
 use Rattle.history.specs.Answers.{checkHistory, appendRows, appendOf}
+use Rattle.history.proofs.Appended.{logged}
 use Rattle.ranking.specs.Answers.{totalOf, entryOf, readingsOf, numberOf, unrankRows, unrankOf, rankRows, rankOf}
 use Rattle.ranking.proofs.Demand2.{demand-2}
 use Rattle.sampling.specs.Question.{plainly}
@@ -28,12 +29,13 @@ use Rattle.sampling.specs.Unheard.{heardOf, leftOf}
 use Rattle.sampling.specs.Answers.{drawn, remainingRows, remainingTo, drawRows, drawTo}
 use Rattle.sampling.proofs.Premises.{premises, fifteen}
 use Rattle.sampling.proofs.Demand3.{demand-3, once, alike}
-use Rattle.sampling.proofs.Examples.{examples, example-premises, logged-twice}
+use Rattle.sampling.proofs.Examples.{examples, example-premises, example-voiced, logged-twice}
 use Rattle.matrix.specs.Table.{table}
 use Rattle.matrix.proofs.Rules.{is-accepted}
 use Rattle.matrix.proofs.Counts.{sentences-of-five, no-others}
 use Rattle.matrix.proofs.Single.{no-two, counts-fit}
 use Rattle.pumpfennel.specs.Demands.{Refuses, Demand1, Demands}
+use Rattle.pumpfennel.proofs.Voices.{former-voices}
 use Rattle.pumpfennel.proofs.Former.{former-numbers, former-answers}
 
 -- an answer by its list of refusals
@@ -57,7 +59,7 @@ demand-1 = record {
   number = λ g s. refuses (rankRows g s) (numberOf g s ∷ totalOf g (length s) ∷ readingsOf g s ∷ []) [] [];
   left = λ g h a. refuses (remainingRows g h a) (totalOf g (a .length) ∷ heardOf g h a ∷ leftOf g h a ∷ []) [] [];
   draw = λ g h a q out. refuses (drawRows g h a q out) (leftOf g h a ∷ drawn g h a q .number ∷ []) out (sentence (drawn g h a q .tree) ++ drop (a .length) out);
-  log = λ h s. refuses (appendRows h s) (suc (recordsOf h) ∷ []) h (appended h s);
+  log = λ h s v. refuses (appendRows h s v) (suc (recordsOf h) ∷ []) h (appended h s v);
 }
 
 -- ---- the house matrix bank
@@ -65,11 +67,12 @@ demand-1 = record {
 house-single : (s : List ℕ) → Single table s
 house-single s t u dt du st su = no-two (length s) (length s) t u dt du (st ∙ sym su)
 
-house-premises : (h : List ℕ) → history.Accepted h → Premises table h (plainly 5)
-house-premises h diary = record {
+house-premises : (h : List ℕ) (v : ℕ) → history.Accepted h → v ≤ 15 → Premises table h (plainly 5 v)
+house-premises h v diary voiced = record {
   bank = is-accepted;
   some = omega arith;
   short = omega arith;
+  voiced = voiced;
   counts = counts-small table 5 .0 counts-fit;
   diary = diary;
   single = λ s l e. house-single s;
@@ -79,17 +82,20 @@ pub demands : Demands
 demands = record {
   one = demand-1;
   two = demand-2;
-  three = λ g h a. demand-3 g h (a .length);
-  once = λ g h a. once g h (a .length);
-  alike = λ g h h′ a. alike g h h′ (a .length);
-  premises = λ g h a. premises g h (a .length);
+  three = demand-3;
+  once = once;
+  alike = alike;
+  premises = premises;
+  logged = logged;
+  voices = former-voices;
   ten = ten;
   former = former-answers;
   numbers = former-numbers;
-  fifteen = λ g h a. fifteen g h (a .length);
+  fifteen = fifteen;
   instance = example-premises;
+  voiced = example-voiced;
   logged-twice = logged-twice;
   house = record { accepted = is-accepted; five = sentences-of-five; others = no-others; single = house-single };
-  house-once = λ h diary. once table h 5 (house-premises h diary) (λ s l. house-single s);
+  house-once = λ h v diary voiced. once table h (plainly 5 v) (house-premises h v diary voiced) (λ s l. house-single s);
   examples = examples;
 }

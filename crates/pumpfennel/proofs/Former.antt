@@ -13,7 +13,7 @@ use lib.Dec.{ltb, leb, eqb}
 use lib.ListN.{length, getD, drop}
 use Rattle.lists.specs.Joined.{_∈_}
 use Rattle.lists.specs.Linked.{metFrom}
-use Rattle.lists.specs.Searched.{someBelow}
+use Rattle.lists.specs.Searched.{someOf, someBelow}
 use Rattle.lists.proofs.Tests.{below-some, to-some}
 use Rattle.answers.specs.Answer.{Row, Answer, firstThatApplies, given, refused, answerOf, answer}
 use Rattle.answers.specs.Length.{badLength}
@@ -29,12 +29,9 @@ use Rattle.counting.proofs.OneLength.{OneLength, words-alone, power, T-power}
 use Rattle.counting.proofs.Ten.{former-first}
 use Rattle.ranking.specs.Answers.{totalOf, entryOf, readingsOf, numberOf, unrankOf, rankRows, rankOf}
 use Rattle.ranking.proofs.Demand2.{rank-answer, rank-some}
-use Rattle.history.specs.Refusals.{historyRows}
-use Rattle.sampling.specs.Unheard.{heardOf, leftOf, ambiguous}
-use Rattle.sampling.specs.Answers.{drawn, remainingTo, drawTo}
 use Rattle.sampling.proofs.Premises.{length-within, prepared-pass}
 use Rattle.sampling.proofs.Examples.{doubled, doubled-fits}
-use Rattle.pumpfennel.specs.Former.{formerNumberRows, formerNumber, FormerNumbers, formerCount, beside, FormerAnswers}
+use Rattle.pumpfennel.specs.Former.{unvoiced, rowsBy, sentencesBy, countedBy, restBy, drawnBy, formerNumberRows, formerNumber, FormerNumbers, formerCount, beside, FormerAnswers}
 
 -- ---- U6
 
@@ -197,16 +194,19 @@ was-refused =
     rw e (answer-refused 10 (totalOf beside 16 ∷ []) [] [] (omega arith))
 
 pub former-answers : FormerAnswers
-unfolding countOf unrankOf remainingTo drawTo
+unfolding countOf unrankOf
 former-answers = record {
   count = λ g n. former-answer g n [] (totalOf g n ∷ []) [] [];
   give = λ g n d out. former-answer g n ((leb (totalOf g n) d, 16) ∷ (ltb (length out) n, 20) ∷ []) (totalOf g n ∷ []) out (entryOf g n d ++ drop n out);
   number = λ g s.
       former-answer g (length s) ((eqb (readingsOf g s) 0, 17) ∷ (leb 2 (readingsOf g s), 18) ∷ []) (numberOf g s ∷ totalOf g (length s) ∷ []) [] [];
-  left = λ g h a.
-      former-answer g (a .length) (historyRows h ++ ((ambiguous g h a, 15) ∷ [])) (totalOf g (a .length) ∷ heardOf g h a ∷ leftOf g h a ∷ []) [] [];
-  draw = λ g h a q out.
-      former-answer g (a .length) (historyRows h ++ ((ambiguous g h a, 15) ∷ (leb (leftOf g h a) q, 16) ∷ (ltb (length out) (a .length), 20) ∷ []))
-      (leftOf g h a ∷ drawn g h a q .number ∷ []) out (sentence (drawn g h a q .tree) ++ drop (a .length) out);
+  left = λ g h n.
+      former-answer g n (rowsBy unvoiced h ++ ((someOf (λ s. leb 2 (readingsOf g s)) (sentencesBy unvoiced h n), 15) ∷ []))
+      (totalOf g n ∷ countedBy unvoiced g h n ∷ restBy unvoiced g h n ∷ []) [] [];
+  draw = λ g h n q out.
+      former-answer g n
+      (rowsBy unvoiced h
+      ++ ((someOf (λ s. leb 2 (readingsOf g s)) (sentencesBy unvoiced h n), 15) ∷ (leb (restBy unvoiced g h n) q, 16) ∷ (ltb (length out) n, 20) ∷ []))
+      (restBy unvoiced g h n ∷ drawnBy unvoiced g h n q .number ∷ []) out (sentence (drawnBy unvoiced g h n q .tree) ++ drop n out);
   wider = (was-refused, answers-now);
 }

@@ -2,19 +2,108 @@
 -- Assumes nothing: these are definitions.
 use mathlib.Core.Path.{_≡_}
 use mathlib.Core.Logic.{_≢_}
-use mathlib.Core.Bool.{cond}
+use mathlib.Core.Bool.{Bool, true, false, cond, not, _&&_, _||_}
 use mathlib.Core.List.{List, [], _∷_, _++_, map}
-use Prim.Native.Nat.{ℕ, _≤_}
-use lib.Dec.{leb, eqb}
-use lib.ListN.{length, drop}
+use Prim.Native.Nat.{ℕ, suc, _+_, _-_, _≤_}
+use lib.Dec.{ltb, leb, eqb}
+use lib.ListN.{length, getD, drop}
+use Rattle.lists.specs.Searched.{someOf, someTo, same, keep}
 use Rattle.answers.specs.Answer.{Row, Answer, given, refused, answer}
-use Rattle.grammar.specs.Trees.{sentence}
+use Rattle.answers.specs.Length.{badLength}
+use Rattle.grammar.specs.Trees.{leaf, sentence}
 use Rattle.counting.specs.Refusals.{preparedRows, formerTooLarge}
 use Rattle.counting.specs.Answers.{countOf}
-use Rattle.ranking.specs.Answers.{totalOf, entryOf, readingsOf, numberOf, unrankRows, unrankOf, rankOf}
-use Rattle.sampling.specs.Question.{Question}
-use Rattle.sampling.specs.Unheard.{heardOf, leftOf}
-use Rattle.sampling.specs.Answers.{drawn, remainingRows, remainingTo, drawRows, drawTo}
+use Rattle.ranking.specs.Answers.{fullList, totalOf, entryOf, readingsOf, numberOf, unrankRows, unrankOf, rankOf}
+use Rattle.history.specs.Layout.{recordsOf, headOf, recordAt, fourthOf, recordWords}
+use Rattle.history.specs.Chain.{numbers}
+use Rattle.history.specs.Refusals.{badSize, someNonzero, badLink, badChain}
+use Rattle.history.specs.Heard.{heard}
+use Rattle.history.specs.Writing.{overwritten, twoBytes, recordBytes}
+use Rattle.history.specs.Answers.{checkHistory, noRoom, appendOf}
+use Rattle.sampling.specs.Question.{plainly}
+use Rattle.sampling.specs.Unheard.{Entry, entriesFrom, distinct, heardOf}
+use Rattle.sampling.specs.Answers.{remainingOf, drawOf}
+
+-- ---- before voices, U4: "Old diaries read as voice 0"
+
+-- How a record's fourth byte was read: whether 12 let it pass, and whether such a record made its sentence heard.
+pub record Fourth : Type 0 where
+  pub passes : ℕ → Bool
+  pub hears : ℕ → Bool
+
+-- "12. Some record has [..] a fourth byte that is not 0", and "A sentence is heard if a record has its length and words."
+abbrev pub unvoiced : Fourth
+unvoiced = record { passes = λ x. eqb x 0; hears = λ x. true }
+
+-- the history's refusals, its sentences of n words and what is heard, by that reading
+abbrev pub misfitBy : (f : Fourth) (h : List ℕ) (at : ℕ) → Bool
+misfitBy f h at =
+    let n = getD h (at + 2) 0 in
+    badLength n || (not (f .passes (getD h (at + 3) 0)) || someNonzero h (at + 4 + n) (16 - n))
+
+abbrev pub rowsBy : (f : Fourth) (h : List ℕ) → List Row
+rowsBy f h = (badSize h, 11) ∷ (someTo (λ r. misfitBy f h (recordAt r)) (recordsOf h), 12) ∷ (badLink h, 13) ∷ (badChain h, 14) ∷ []
+
+abbrev pub sentencesBy : (f : Fourth) (h : List ℕ) (n : ℕ) → List (List ℕ)
+sentencesBy f h n = keep (λ s. eqb (length s) n) (map (recordWords h) (keep (λ r. f .hears (fourthOf h r)) (numbers h)))
+
+abbrev pub heardBy : (f : Fourth) (h s : List ℕ) → Bool
+heardBy f h s = someTo (λ r. f .hears (fourthOf h r) && same (recordWords h r) s) (recordsOf h)
+
+-- *Left*: "heard (distinct heard sentences of that length with one derivation) and left = T - heard"
+abbrev pub countedBy : (f : Fourth) (g h : List ℕ) (n : ℕ) → ℕ
+countedBy f g h n = length (distinct (keep (λ s. eqb (readingsOf g s) 1) (sentencesBy f h n)))
+
+abbrev pub restBy : (f : Fourth) (g h : List ℕ) (n : ℕ) → ℕ
+restBy f g h n = totalOf g n - countedBy f g h n
+
+-- "15. A diary sentence of the named length has two or more derivations from S (*Left*, *Draw*)."
+abbrev pub leftRowsBy : (f : Fourth) (g h : List ℕ) (n : ℕ) → List Row
+leftRowsBy f g h n = preparedRows g n ++ (rowsBy f h ++ ((someOf (λ s. leb 2 (readingsOf g s)) (sentencesBy f h n), 15) ∷ []))
+
+abbrev pub leftBy : (f : Fourth) (g h : List ℕ) (n : ℕ) → Answer
+leftBy f g h n = answer (leftRowsBy f g h n) (totalOf g n ∷ countedBy f g h n ∷ restBy f g h n ∷ []) [] []
+
+-- *Draw*: "the derivation with an unheard sentence that has exactly q such derivations before it"
+abbrev pub drawnBy : (f : Fourth) (g h : List ℕ) (n q : ℕ) → Entry
+drawnBy f g h n q = getD (keep (λ e. not (heardBy f h (sentence (e .tree)))) (entriesFrom 0 (fullList g n))) q (record { number = 0; tree = leaf 0 0 })
+
+abbrev pub drawRowsBy : (f : Fourth) (g h : List ℕ) (n q : ℕ) (out : List ℕ) → List Row
+drawRowsBy f g h n q out = leftRowsBy f g h n ++ ((leb (restBy f g h n) q, 16) ∷ (ltb (length out) n, 20) ∷ [])
+
+abbrev pub drawBy : (f : Fourth) (g h : List ℕ) (n q : ℕ) (out : List ℕ) → Answer
+drawBy f g h n q out =
+    answer (drawRowsBy f g h n q out) (restBy f g h n ∷ drawnBy f g h n q .number ∷ []) out (sentence (drawnBy f g h n q .tree) ++ drop n out)
+
+-- *Check diary*, and *Log*, which wrote "one byte 0"
+abbrev pub unvoicedCheck : (h : List ℕ) → Answer
+unvoicedCheck h = answer (rowsBy unvoiced h) (recordsOf h ∷ []) [] []
+
+abbrev pub unvoicedLog : (h s : List ℕ) → Answer
+unvoicedLog h s =
+    let new = suc (recordsOf h) in
+    answer ((badLength (length s), 9) ∷ (rowsBy unvoiced h ++ ((noRoom h, 19) ∷ []))) (new ∷ []) h
+    (overwritten (overwritten (overwritten h (recordAt new) (recordBytes (headOf h) 0 s)) 0 (twoBytes new)) 2 (twoBytes new))
+
+-- a history whose records all have the fourth byte 0 has its former answers in voice 0, and in every other voice nothing is heard
+pub record FormerVoice (h : List ℕ) : Type 0 where
+  pub check : checkHistory h ≡ unvoicedCheck h
+  pub left : (g : List ℕ) (n : ℕ) → remainingOf g h n 0 ≡ leftBy unvoiced g h n
+  pub draw : (g : List ℕ) (n q : ℕ) (out : List ℕ) → drawOf g h n 0 q out ≡ drawBy unvoiced g h n q out
+  pub log : (s : List ℕ) → appendOf h s 0 ≡ unvoicedLog h s
+  pub others : (v : ℕ) → v ≢ 0 → (s : List ℕ) → heard h v s ≡ false
+  pub none : (v : ℕ) → v ≢ 0 → (g : List ℕ) (n : ℕ) → heardOf g h (plainly n v) ≡ 0
+
+abbrev pub AllZero : List ℕ → Type 0
+AllZero h = (r : ℕ) → 1 ≤ r → r ≤ recordsOf h → fourthOf h r ≡ 0
+
+pub record FormerVoices : Type 0 where
+  pub stay : (h : List ℕ) → AllZero h → FormerVoice h
+  -- every history that was accepted is such a one
+  pub old : (h : List ℕ) → unvoicedCheck h .refusal ≡ 0 → AllZero h
+  -- the former texts: the sentences were those of all records along the chain, and heard was that "a record has its length and words"
+  pub sentences : (h : List ℕ) (n : ℕ) → sentencesBy unvoiced h n ≡ keep (λ s. eqb (length s) n) (map (recordWords h) (numbers h))
+  pub heard : (h s : List ℕ) → heardBy unvoiced h s ≡ someTo (λ r. same (recordWords h r) s) (recordsOf h)
 
 -- ---- U6: "A sentence with one derivation has its former number."
 
@@ -53,13 +142,14 @@ formerUnrank g n d out = answer (formerly g n (unrankRows g n d out)) (totalOf g
 abbrev pub formerRank : (g s : List ℕ) → Answer
 formerRank g s = answer (formerly g (length s) (formerNumberRows g s)) (numberOf g s ∷ totalOf g (length s) ∷ []) [] []
 
-abbrev pub formerRemaining : (g h : List ℕ) (a : Question) → Answer
-formerRemaining g h a = answer (formerly g (a .length) (remainingRows g h a)) (totalOf g (a .length) ∷ heardOf g h a ∷ leftOf g h a ∷ []) [] []
+-- *Left* and *Draw* as U4 found them: `FormerVoices` says what they answer now
+abbrev pub formerRemaining : (g h : List ℕ) (n : ℕ) → Answer
+formerRemaining g h n = answer (formerly g n (leftRowsBy unvoiced g h n)) (totalOf g n ∷ countedBy unvoiced g h n ∷ restBy unvoiced g h n ∷ []) [] []
 
-abbrev pub formerDraw : (g h : List ℕ) (a : Question) (q : ℕ) (out : List ℕ) → Answer
-formerDraw g h a q out =
-    answer (formerly g (a .length) (drawRows g h a q out)) (leftOf g h a ∷ drawn g h a q .number ∷ []) out
-    (sentence (drawn g h a q .tree) ++ drop (a .length) out)
+abbrev pub formerDraw : (g h : List ℕ) (n q : ℕ) (out : List ℕ) → Answer
+formerDraw g h n q out =
+    answer (formerly g n (drawRowsBy unvoiced g h n q out)) (restBy unvoiced g h n ∷ drawnBy unvoiced g h n q .number ∷ []) out
+    (sentence (drawnBy unvoiced g h n q .tree) ++ drop n out)
 
 -- F, and beside it F with 16 words, which its start never uses
 abbrev pub beside : List ℕ
@@ -82,7 +172,7 @@ pub record FormerAnswers : Type 0 where
   pub give : (g : List ℕ) (n d : ℕ) (out : List ℕ) → formerUnrank g n d out .refusal ≢ 10 → unrankOf g n d out ≡ formerUnrank g n d out
   -- *Number* as U6 found it: `FormerNumbers` says what it answers now
   pub number : (g s : List ℕ) → formerRank g s .refusal ≢ 10 → formerNumber g s ≡ formerRank g s
-  pub left : (g h : List ℕ) (a : Question) → formerRemaining g h a .refusal ≢ 10 → remainingTo g h a ≡ formerRemaining g h a
-  pub draw : (g h : List ℕ) (a : Question) (q : ℕ) (out : List ℕ) → formerDraw g h a q out .refusal ≢ 10 → drawTo g h a q out ≡ formerDraw g h a q out
+  pub left : (g h : List ℕ) (n : ℕ) → formerRemaining g h n .refusal ≢ 10 → leftBy unvoiced g h n ≡ formerRemaining g h n
+  pub draw : (g h : List ℕ) (n q : ℕ) (out : List ℕ) → formerDraw g h n q out .refusal ≢ 10 → drawBy unvoiced g h n q out ≡ formerDraw g h n q out
   -- and there is a call that returned 10 and answers now
   pub wider : (formerCount beside 16 ≡ refused 10 1 []) × (countOf beside 16 ≡ given (65536 ∷ []) [])

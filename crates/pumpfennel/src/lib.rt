@@ -23,6 +23,7 @@ use ranking::unrank::DerivationNumber;
 use ranking::unrank::UnrankAnswer;
 use sampling::draw;
 use sampling::draw::DrawAnswer;
+use sampling::question::Question;
 use sampling::remaining;
 use sampling::remaining::RemainingAnswer;
 use sampling::skip::DrawNumber;
@@ -154,13 +155,14 @@ pub extern "C" fn pumpfennel_remaining(
     grammar: &[u8],
     history: &[u8],
     length: u64,
+    voice: u64,
     total: &mut u64,
     heard: &mut u64,
     remaining: &mut u64,
 ) -> u8
-    ensures { λ r. ⌜ gives r (now (total .exit) ∷ now (heard .exit) ∷ now (remaining .exit) ∷ []) [] ≡ remainingOf (now (grammar .entry)) (now (history .entry)) length ⌝ }
+    ensures { λ r. ⌜ gives r (now (total .exit) ∷ now (heard .exit) ∷ now (remaining .exit) ∷ []) [] ≡ remainingOf (now (grammar .entry)) (now (history .entry)) length voice ⌝ }
 {
-    let a = remaining::remaining(grammar, history, length);
+    let a = remaining::remaining(grammar, history, Question { length, voice });
     match a {
         RemainingAnswer::Given(t, k, l) => {
             *total = t;
@@ -183,14 +185,21 @@ pub extern "C" fn pumpfennel_draw(
     grammar: &[u8],
     history: &[u8],
     length: u64,
+    voice: u64,
     draw: u64,
     sentence: &mut [u8],
     remaining: &mut u64,
     number: &mut u64,
 ) -> u8
-    ensures { λ r. ⌜ gives r (now (remaining .exit) ∷ now (number .exit) ∷ []) (now (sentence .exit)) ≡ drawOf (now (grammar .entry)) (now (history .entry)) length draw (now (sentence .entry)) ⌝ }
+    ensures { λ r. ⌜ gives r (now (remaining .exit) ∷ now (number .exit) ∷ []) (now (sentence .exit)) ≡ drawOf (now (grammar .entry)) (now (history .entry)) length voice draw (now (sentence .entry)) ⌝ }
 {
-    let a = draw::draw(grammar, history, length, DrawNumber(draw), sentence);
+    let a = draw::draw(
+        grammar,
+        history,
+        Question { length, voice },
+        DrawNumber(draw),
+        sentence,
+    );
     match a {
         DrawAnswer::Given(l, d) => {
             *remaining = l;
@@ -207,10 +216,15 @@ pub extern "C" fn pumpfennel_draw(
 
 // *Log*.
 #[no_mangle]
-pub extern "C" fn pumpfennel_append(history: &mut [u8], sentence: &[u8], records: &mut u64) -> u8
-    ensures { λ r. ⌜ gives r (now (records .exit) ∷ []) (now (history .exit)) ≡ appendOf (now (history .entry)) (now (sentence .entry)) ⌝ }
+pub extern "C" fn pumpfennel_append(
+    history: &mut [u8],
+    sentence: &[u8],
+    voice: u64,
+    records: &mut u64,
+) -> u8
+    ensures { λ r. ⌜ gives r (now (records .exit) ∷ []) (now (history .exit)) ≡ appendOf (now (history .entry)) (now (sentence .entry)) voice ⌝ }
 {
-    let a = append::append(history, sentence);
+    let a = append::append(history, sentence, voice);
     match a {
         AppendAnswer::Given(k) => {
             *records = k;

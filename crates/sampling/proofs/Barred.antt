@@ -29,7 +29,7 @@ use Rattle.ranking.proofs.Demand2.{listed-total, number-inside, number-says, nu
 use Rattle.history.specs.Refusals as history
 use Rattle.history.specs.Heard.{sentencesIn, heard}
 use Rattle.history.proofs.Chain.{heard-sentences}
-use Rattle.sampling.specs.Question.{plainly}
+use Rattle.sampling.specs.Question.{Question}
 use Rattle.sampling.specs.Unheard.{Entry, entriesFrom, outside, unheard, distinct, ofLength, heardOf, leftOf, ambiguous}
 use Rattle.sampling.specs.Inner.Collect.{barred}
 use Rattle.sampling.specs.Answers.{drawn}
@@ -116,84 +116,84 @@ entries-are : (d : ℕ) (l : List Tree) → entriesFrom d l ≡ map entry (numbe
 entries-are d [] = refl
 entries-are d (t ∷ l) = rw (entries-are (suc d) l)
 
-module _ (g h : List ℕ) (n : ℕ) where
+module _ (g h : List ℕ) (a : Question) where
   -- the heard sentences of the length that have one derivation
   abbrev oneReading : List (List ℕ)
-  oneReading = keep (λ s. eqb (readingsOf g s) 1) (ofLength n h)
+  oneReading = keep (λ s. eqb (readingsOf g s) 1) (ofLength h a)
 
   -- the unheard list, by pairs of a place and what stands there
   abbrev pub kept : List (ℕ × Tree)
-  kept = keep (λ (e : ℕ × Tree). outside h (e .1)) (numbered 0 (fullList g n))
+  kept = keep (λ (e : ℕ × Tree). outside h (a .voice) (e .1)) (numbered 0 (fullList g (a .length)))
 
-  pub unheard-is : unheard g h (plainly n) ≡ map entry kept
+  pub unheard-is : unheard g h a ≡ map entry kept
   unfolding unheard
   unheard-is =
-      ap (keep (λ (e : Entry). outside h (e .tree))) (entries-are 0 (fullList g n))
-      ∙ keep-map entry (λ (e : Entry). outside h (e .tree)) (numbered 0 (fullList g n))
+      ap (keep (λ (e : Entry). outside h (a .voice) (e .tree))) (entries-are 0 (fullList g (a .length)))
+      ∙ keep-map entry (λ (e : Entry). outside h (a .voice) (e .tree)) (numbered 0 (fullList g (a .length)))
 
-  pub unheard-length : length (unheard g h (plainly n)) ≡ length (keep (outside h) (fullList g n))
-  unheard-length = ap length unheard-is ∙ length-map kept entry ∙ keep-numbered (outside h) 0 (fullList g n)
+  pub unheard-length : length (unheard g h a) ≡ length (keep (outside h (a .voice)) (fullList g (a .length)))
+  unheard-length = ap length unheard-is ∙ length-map kept entry ∙ keep-numbered (outside h (a .voice)) 0 (fullList g (a .length))
 
-  pub unheard-all : length (unheard g h (plainly n)) + length (barred g h (plainly n)) ≡ totalOf g n
-  unheard-all = omega (arith, unheard-length, keep-length (outside h) (fullList g n), listed-total g n)
+  pub unheard-all : length (unheard g h a) + length (barred g h a) ≡ totalOf g (a .length)
+  unheard-all = omega (arith, unheard-length, keep-length (outside h (a .voice)) (fullList g (a .length)), listed-total g (a .length))
 
   -- entry q is what the skip of q over the struck places finds
-  pub unheard-at : (q : ℕ) → q < length (unheard g h (plainly n)) → drawn g h (plainly n) q ≡ entry (skip q (barred g h (plainly n)), getD (fullList g n) (skip q (barred g h (plainly n))) (leaf 0 0))
+  pub unheard-at : (q : ℕ) → q < length (unheard g h a) → drawn g h a q ≡ entry (skip q (barred g h a), getD (fullList g (a .length)) (skip q (barred g h a)) (leaf 0 0))
   unheard-at q l =
       ap (λ (l : List Entry). getD l q (entry (0, leaf 0 0))) unheard-is
       ∙ List·getD-map entry kept q (0, leaf 0 0)
-      ∙ ap entry (kept-at (outside h) (fullList g n) q (leaf 0 0) (omega (arith, unheard-length)))
+      ∙ ap entry (kept-at (outside h (a .voice)) (fullList g (a .length)) q (leaf 0 0) (omega (arith, unheard-length)))
 
 -- with an accepted history
-module _ (g h : List ℕ) (n : ℕ) (diary : history.Accepted h) where
+module _ (g h : List ℕ) (a : Question) (diary : history.Accepted h) where
   -- ---- the sentences heard
 
-  pub heard-∈ : (s : List ℕ) → heard h s ≡ true → s ∈ sentencesIn h
+  pub heard-∈ : (s : List ℕ) → heard h (a .voice) s ≡ true → s ∈ sentencesIn h (a .voice)
   heard-∈ s e =
-      let q = ∈-some (λ t. same t s) (sentencesIn h) (sym (heard-sentences h diary s) ∙ e) in
+      let q = ∈-some (λ t. same t s) (sentencesIn h (a .voice)) (sym (heard-sentences h diary (a .voice) s) ∙ e) in
       Memᴰ·cast (sym (same-eq (q .0) s (q .2))) (q .1)
 
-  pub ∈-heard : (s : List ℕ) → s ∈ sentencesIn h → heard h s ≡ true
-  ∈-heard s m = heard-sentences h diary s ∙ some-∈ (λ t. same t s) s (sentencesIn h) m (same-refl s)
+  pub ∈-heard : (s : List ℕ) → s ∈ sentencesIn h (a .voice) → heard h (a .voice) s ≡ true
+  ∈-heard s m = heard-sentences h diary (a .voice) s ∙ some-∈ (λ t. same t s) s (sentencesIn h (a .voice)) m (same-refl s)
 
-  pub length-∈ : (s : List ℕ) → s ∈ ofLength n h → (heard h s ≡ true) × (length s ≡ n)
+  pub length-∈ : (s : List ℕ) → s ∈ ofLength h a → (heard h (a .voice) s ≡ true) × (length s ≡ a .length)
   length-∈ s m =
-      let q = keep-∈ (λ s. eqb (length s) n) (sentencesIn h) s m in
-      (∈-heard s (q .0), eqb-true (length s) n (q .1))
+      let q = keep-∈ (λ s. eqb (length s) (a .length)) (sentencesIn h (a .voice)) s m in
+      (∈-heard s (q .0), eqb-true (length s) (a .length) (q .1))
 
-  pub ∈-length : (s : List ℕ) → heard h s ≡ true → length s ≡ n → s ∈ ofLength n h
-  ∈-length s e l = ∈-keep (λ s. eqb (length s) n) (sentencesIn h) s (heard-∈ s e) (eq-eqb (length s) n l)
+  pub ∈-length : (s : List ℕ) → heard h (a .voice) s ≡ true → length s ≡ a .length → s ∈ ofLength h a
+  ∈-length s e l = ∈-keep (λ s. eqb (length s) (a .length)) (sentencesIn h (a .voice)) s (heard-∈ s e) (eq-eqb (length s) (a .length) l)
 
   -- ---- the struck places are the numbers of the heard sentences that have one derivation
 
   -- the number of such a sentence is struck
-  number-fails : (s : List ℕ) → s ∈ ofLength n h → readingsOf g s ≡ 1
-      → (numberOf g s < length (fullList g n)) × (outside h (getD (fullList g n) (numberOf g s) (leaf 0 0)) ≡ false)
+  number-fails : (s : List ℕ) → s ∈ ofLength h a → readingsOf g s ≡ 1
+      → (numberOf g s < length (fullList g (a .length))) × (outside h (a .voice) (getD (fullList g (a .length)) (numberOf g s) (leaf 0 0)) ≡ false)
   number-fails s m one =
       let q = length-∈ s m in
-      (number-listed g n s (q .1) one, ap (λ (u : List ℕ). not (heard h u)) (number-entry g n s (q .1) one) ∙ ap not (q .0))
+      (number-listed g (a .length) s (q .1) one, ap (λ (u : List ℕ). not (heard h (a .voice) u)) (number-entry g (a .length) s (q .1) one) ∙ ap not (q .0))
 
-  module _ (clear : ambiguous g h (plainly n) ≡ false) where
-    pub few-readings : (s : List ℕ) → s ∈ ofLength n h → readingsOf g s < 2
+  module _ (clear : ambiguous g h a ≡ false) where
+    pub few-readings : (s : List ℕ) → s ∈ ofLength h a → readingsOf g s < 2
     unfolding ambiguous
-    few-readings s m = leb-false 2 (readingsOf g s) (none-∈ (λ s. leb 2 (readingsOf g s)) (ofLength n h) clear s m)
+    few-readings s m = leb-false 2 (readingsOf g s) (none-∈ (λ s. leb 2 (readingsOf g s)) (ofLength h a) clear s m)
 
     -- a struck place is the number of such a sentence
-    fails-number : (d : ℕ) → d < length (fullList g n) → outside h (getD (fullList g n) d (leaf 0 0)) ≡ false
-        → (s : List ℕ) × (s ∈ ofLength n h) × (readingsOf g s ≡ 1) × (numberOf g s ≡ d)
+    fails-number : (d : ℕ) → d < length (fullList g (a .length)) → outside h (a .voice) (getD (fullList g (a .length)) d (leaf 0 0)) ≡ false
+        → (s : List ℕ) × (s ∈ ofLength h a) × (readingsOf g s ≡ 1) × (numberOf g s ≡ d)
     fails-number d l e =
-        let long = entry-length g n d l in
-        let m = ∈-length (entryOf g n d) (not-false (heard h (entryOf g n d)) e) long in
-        let one : readingsOf g (entryOf g n d) ≡ 1 = omega (arith, few-readings (entryOf g n d) m, entry-read g n (entryOf g n d) d long l refl) in
-        (entryOf g n d, m, one, sym (entry-only g n (entryOf g n d) long one d l refl))
+        let long = entry-length g (a .length) d l in
+        let m = ∈-length (entryOf g (a .length) d) (not-false (heard h (a .voice) (entryOf g (a .length) d)) e) long in
+        let one : readingsOf g (entryOf g (a .length) d) ≡ 1 = omega (arith, few-readings (entryOf g (a .length) d) m, entry-read g (a .length) (entryOf g (a .length) d) d long l refl) in
+        (entryOf g (a .length) d, m, one, sym (entry-only g (a .length) (entryOf g (a .length) d) long one d l refl))
 
     -- a rising list of just these numbers is that of the struck places
     pub collected : (l : List ℕ) → Pairwise _<_ l
-        → ((d : ℕ) → d ∈ l → (s : List ℕ) × (s ∈ ofLength n h) × (readingsOf g s ≡ 1) × (numberOf g s ≡ d))
-        → ((s : List ℕ) → s ∈ ofLength n h → readingsOf g s ≡ 1 → numberOf g s ∈ l)
-        → l ≡ barred g h (plainly n)
+        → ((d : ℕ) → d ∈ l → (s : List ℕ) × (s ∈ ofLength h a) × (readingsOf g s ≡ 1) × (numberOf g s ≡ d))
+        → ((s : List ℕ) → s ∈ ofLength h a → readingsOf g s ≡ 1 → numberOf g s ∈ l)
+        → l ≡ barred g h a
     collected l rising from into =
-        struck-unique (outside h) (fullList g n) (leaf 0 0) l rising
+        struck-unique (outside h (a .voice)) (fullList g (a .length)) (leaf 0 0) l rising
         (λ d. (
           λ m. let q = from d m in rw (← q .3) (number-fails (q .0) (q .1) (q .2)),
           λ p. let q = fails-number d (p .0) (p .1) in Memᴰ·cast (sym (q .3)) (into (q .0) (q .1) (q .2)),
@@ -202,52 +202,52 @@ module _ (g h : List ℕ) (n : ℕ) (diary : history.Accepted h) where
     -- ---- what *Left* counts
 
     -- a sentence counted is one of these
-    counted-∈ : (s : List ℕ) → s ∈ distinct (oneReading g h n) → (s ∈ ofLength n h) × (readingsOf g s ≡ 1)
+    counted-∈ : (s : List ℕ) → s ∈ distinct (oneReading g h a) → (s ∈ ofLength h a) × (readingsOf g s ≡ 1)
     counted-∈ s m =
-        let q = keep-∈ (λ s. eqb (readingsOf g s) 1) (ofLength n h) s (distinct-∈ (oneReading g h n) s m) in
+        let q = keep-∈ (λ s. eqb (readingsOf g s) 1) (ofLength h a) s (distinct-∈ (oneReading g h a) s m) in
         (q .0, eqb-true (readingsOf g s) 1 (q .1))
 
-    ∈-counted : (s : List ℕ) → s ∈ ofLength n h → readingsOf g s ≡ 1 → s ∈ distinct (oneReading g h n)
+    ∈-counted : (s : List ℕ) → s ∈ ofLength h a → readingsOf g s ≡ 1 → s ∈ distinct (oneReading g h a)
     ∈-counted s m one =
-        ∈-distinct (oneReading g h n) s (∈-keep (λ s. eqb (readingsOf g s) 1) (ofLength n h) s m (eq-eqb (readingsOf g s) 1 one))
+        ∈-distinct (oneReading g h a) s (∈-keep (λ s. eqb (readingsOf g s) 1) (ofLength h a) s m (eq-eqb (readingsOf g s) 1 one))
 
     -- their numbers are the struck places
-    counted-struck : (d : ℕ) → d ∈ map (numberOf g) (distinct (oneReading g h n)) → d ∈ barred g h (plainly n)
+    counted-struck : (d : ℕ) → d ∈ map (numberOf g) (distinct (oneReading g h a)) → d ∈ barred g h a
     counted-struck d m =
-        let p = Memᴰ·of-map (numberOf g) (distinct (oneReading g h n)) m in
+        let p = Memᴰ·of-map (numberOf g) (distinct (oneReading g h a)) m in
         let q = counted-∈ (p .0) (p .1) in
         let r = number-fails (p .0) (q .0) (q .1) in
-        Memᴰ·cast (sym (p .2)) (fails-struck (outside h) (fullList g n) (numberOf g (p .0)) (leaf 0 0) (r .0) (r .1))
+        Memᴰ·cast (sym (p .2)) (fails-struck (outside h (a .voice)) (fullList g (a .length)) (numberOf g (p .0)) (leaf 0 0) (r .0) (r .1))
 
-    struck-counted : (d : ℕ) → d ∈ barred g h (plainly n) → d ∈ map (numberOf g) (distinct (oneReading g h n))
+    struck-counted : (d : ℕ) → d ∈ barred g h a → d ∈ map (numberOf g) (distinct (oneReading g h a))
     struck-counted d m =
-        let p = struck-fails (outside h) (fullList g n) d (leaf 0 0) m in
+        let p = struck-fails (outside h (a .voice)) (fullList g (a .length)) d (leaf 0 0) m in
         let q = fails-number d (p .0) (p .1) in
         Memᴰ·cast (sym (q .3)) (Memᴰ·map (numberOf g) (∈-counted (q .0) (q .1) (q .2)))
 
-    pub heard-length : heardOf g h (plainly n) ≡ length (barred g h (plainly n))
+    pub heard-length : heardOf g h a ≡ length (barred g h a)
     unfolding heardOf
     heard-length =
-        sym (length-map (distinct (oneReading g h n)) (numberOf g))
+        sym (length-map (distinct (oneReading g h a)) (numberOf g))
         ∙ omega (
           arith,
-          distinct-le (map (numberOf g) (distinct (oneReading g h n))) (barred g h (plainly n))
-              (numbers-once g n (distinct (oneReading g h n))
-              (λ s m. let q = counted-∈ s m in (length-∈ s (q .0) .1, q .1)) (distinct-once (oneReading g h n)))
+          distinct-le (map (numberOf g) (distinct (oneReading g h a))) (barred g h a)
+              (numbers-once g (a .length) (distinct (oneReading g h a))
+              (λ s m. let q = counted-∈ s m in (length-∈ s (q .0) .1, q .1)) (distinct-once (oneReading g h a)))
               counted-struck,
-          distinct-le (barred g h (plainly n)) (map (numberOf g) (distinct (oneReading g h n)))
-              (pairwise-distinct _<_ (λ x y l e. omega arith) (barred g h (plainly n)) (struck-rising (outside h) (fullList g n)))
+          distinct-le (barred g h a) (map (numberOf g) (distinct (oneReading g h a)))
+              (pairwise-distinct _<_ (λ x y l e. omega arith) (barred g h a) (struck-rising (outside h (a .voice)) (fullList g (a .length))))
               struck-counted,
         )
 
     -- it counts the heard sentences that have one derivation
-    pub heard-exactly : Exactly (heardOf g h (plainly n)) (λ s. (length s ≡ n) × (heard h s ≡ true) × (readingsOf g s ≡ 1))
+    pub heard-exactly : Exactly (heardOf g h a) (λ s. (length s ≡ a .length) × (heard h (a .voice) s ≡ true) × (readingsOf g s ≡ 1))
     unfolding heardOf
     heard-exactly =
         record {
-          listed = distinct (oneReading g h n);
+          listed = distinct (oneReading g h a);
           many = refl;
-          once = distinct-once (oneReading g h n);
+          once = distinct-once (oneReading g h a);
           all = λ s. (
             λ p. ∈-counted s (∈-length s (p .1) (p .0)) (p .2),
             λ m. let q = counted-∈ s m in let r = length-∈ s (q .0) in (r .1, r .0, q .1),
@@ -255,13 +255,13 @@ module _ (g h : List ℕ) (n : ℕ) (diary : history.Accepted h) where
         }
 
     -- left is the length of the unheard list
-    pub left-length : leftOf g h (plainly n) ≡ length (unheard g h (plainly n))
-    left-length = omega (arith, heard-length, unheard-all g h n)
+    pub left-length : leftOf g h a ≡ length (unheard g h a)
+    left-length = omega (arith, heard-length, unheard-all g h a)
 
     -- so "left = T - heard" is no cut-off difference
-    pub heard-left : heardOf g h (plainly n) + leftOf g h (plainly n) ≡ totalOf g n
-    heard-left = omega (arith, heard-length, unheard-all g h n)
+    pub heard-left : heardOf g h a + leftOf g h a ≡ totalOf g (a .length)
+    heard-left = omega (arith, heard-length, unheard-all g h a)
 
-    pub left-at : (q : ℕ) → q < leftOf g h (plainly n)
-        → drawn g h (plainly n) q ≡ entry (skip q (barred g h (plainly n)), getD (fullList g n) (skip q (barred g h (plainly n))) (leaf 0 0))
-    left-at q l = unheard-at g h n q (omega (arith, left-length))
+    pub left-at : (q : ℕ) → q < leftOf g h a
+        → drawn g h a q ≡ entry (skip q (barred g h a), getD (fullList g (a .length)) (skip q (barred g h a)) (leaf 0 0))
+    left-at q l = unheard-at g h a q (omega (arith, left-length))

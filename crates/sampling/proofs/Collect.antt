@@ -22,11 +22,14 @@ use Rattle.ranking.specs.declared.unrank.DerivationNumber.{DerivationNumber}
 use Rattle.history.specs.Layout.{recordsOf, headOf, recordWords}
 use Rattle.history.specs.Chain.{numbersFrom}
 use Rattle.history.specs.Refusals.{Accepted}
+use Rattle.history.specs.Inner.Checks.{Inside}
 use Rattle.history.specs.Inner.Reading.{sentenceAt, nextAt}
-use Rattle.history.specs.Heard.{sentencesIn}
-use Rattle.history.proofs.Chain.{chained}
-use Rattle.history.proofs.Reading.{read-end, read-record}
-use Rattle.sampling.specs.Inner.Collect.{numbersIn, manyIn, ambiguousIn, HeardSought, Adds, HeardFoundAs, CollectedIs, CollectedAs}
+use Rattle.history.specs.Heard.{makesHeard, sentencesIn}
+use Rattle.history.proofs.Acceptance.{known}
+use Rattle.history.proofs.Chain.{chained, numbers-zero}
+use Rattle.history.proofs.Reading.{read-words, read-next, read-step}
+use Rattle.sampling.specs.Question.{Question}
+use Rattle.sampling.specs.Inner.Collect.{numbersIn, manyIn, ambiguousIn, allNumbersIn, HeardSought, Adds, HeardFoundAs, CollectedIs, CollectedAs}
 use Rattle.sampling.specs.declared.heard.Collected.{Collected}
 use Rattle.sampling.specs.declared.heard.Collected.the-variants.{Numbers, Ambiguous}
 
@@ -89,60 +92,61 @@ many-ambiguous rules n (s ∷ l) = go (eqb (length s) n) (many-ambiguous rules n
     go true ih = rw ih
     go false ih = ih
 
--- the sentences that a walk from the number r still tells
-abbrev pub toCome : (h : List ℕ) (r : ℕ) → List (List ℕ)
-toCome h r = map (recordWords h) (numbersFrom h r)
+-- the sentences, heard in the voice, that a walk from the number r still tells
+abbrev pub toCome : (h : List ℕ) (a : Question) (r : ℕ) → List (List ℕ)
+toCome h a r = map (recordWords h) (keep (makesHeard h (a .voice)) (numbersFrom h r))
+
+-- the numbers that they add, and whether one of them has two or more derivations
+abbrev pub numbersDue : (rules : List (List ℕ)) (h : List ℕ) (a : Question) (r : ℕ) → List ℕ
+numbersDue rules h a r = concatMap (numbersIn rules (a .length)) (toCome h a r)
+
+abbrev pub manyDue : (rules : List (List ℕ)) (h : List ℕ) (a : Question) (r : ℕ) → Bool
+manyDue rules h a r = someOf (manyIn rules (a .length)) (toCome h a r)
 
 -- before the record `at`, with the first `count` numbers found
-pub record Collecting (rules : List (List ℕ)) (h : List ℕ) (n : ℕ) (numbers : List ℕ) (at count : ℕ) : Type 0 where
-  pub due : take count numbers ++ concatMap (numbersIn rules n) (toCome h at) ≡ concatMap (numbersIn rules n) (sentencesIn h)
-  pub many : someOf (manyIn rules n) (toCome h at) ≡ ambiguousIn rules h n
+pub record Collecting (rules : List (List ℕ)) (h : List ℕ) (a : Question) (numbers : List ℕ) (at count : ℕ) : Type 0 where
+  pub due : take count numbers ++ numbersDue rules h a at ≡ allNumbersIn rules h a
+  pub many : manyDue rules h a at ≡ ambiguousIn rules h a
   pub room : count + length (numbersFrom h at) ≤ recordsOf h
   pub long : recordsOf h ≤ length numbers
+  pub low : at ≤ recordsOf h
 
--- s was read there, and it is not the end
-pub record Read (h : List ℕ) (at : ℕ) (s : List ℕ) : Type 0 where
-  pub diary : Accepted h
-  pub same : s ≡ sentenceAt h at
-  pub more : length s ≡ 0 → ⊥
-
-pub collect-start : (rules : List (List ℕ)) (h : List ℕ) (n : ℕ) (numbers : List ℕ) → Accepted h → recordsOf h ≤ length numbers → {at : ℕ} → at ≡ headOf h
-    → Collecting rules h n numbers at 0
-collect-start rules h n numbers diary long e =
+pub collect-start : (rules : List (List ℕ)) (h : List ℕ) (a : Question) (numbers : List ℕ) → Accepted h → recordsOf h ≤ length numbers → {at : ℕ}
+    → at ≡ headOf h → Collecting rules h a numbers at 0
+collect-start rules h a numbers diary long e =
     let all = chained h diary .many in
     rw e
     (record {
       due = refl;
-      many = many-ambiguous rules n (sentencesIn h);
+      many = many-ambiguous rules (a .length) (sentencesIn h (a .voice));
       room = omega (arith, all);
       long = long;
+      low = known h diary .head;
     })
 
-module _ (plan : List (List ℕ)) {rules : List (List ℕ)} {h : List ℕ} {numbers : List ℕ} {at count : ℕ} (w : Collecting rules h (lengthIn plan) numbers at count) where
+module _ {rules : List (List ℕ)} {h : List ℕ} {a : Question} {numbers : List ℕ} {at count : ℕ} (w : Collecting rules h a numbers at count) (diary : Accepted h) where
   -- at the end
-  pub collect-end : {s : List ℕ} → Accepted h → s ≡ sentenceAt h at → length s ≡ 0 → CollectedAs rules plan h numbers (Numbers count)
-  collect-end diary same z =
-      let n = lengthIn plan in
-      let e = read-end h at diary (ap length (sym same) ∙ z) in
+  pub collect-end : at ≡ 0 → CollectedAs rules h a numbers (Numbers count)
+  collect-end z =
+      let e : toCome h a at ≡ [] = ap (λ (l : List ℕ). map (recordWords h) (keep (makesHeard h (a .voice)) l)) (numbers-zero h diary at z) in
       record {
         holds = (
-          sym (w .many) ∙ ap (λ (l : List ℕ). someOf (manyIn rules n) (map (recordWords h) l)) e,
+          sym (w .many) ∙ ap (someOf (manyIn rules (a .length))) e,
           omega (arith, w .room),
-          sym (append-nil (take count numbers)) ∙ ap (λ (l : List ℕ). take count numbers ++ concatMap (numbersIn rules n) (map (recordWords h) l)) (sym e) ∙ w .due,
+          sym (append-nil (take count numbers)) ∙ ap (λ (l : List (List ℕ)). take count numbers ++ concatMap (numbersIn rules (a .length)) l) (sym e) ∙ w .due,
         );
       }
 
-  -- a sentence more
-  module _ {s : List ℕ} (r : Read h at s) where
-    -- it is the first of those to come
-    step : (s ≡ recordWords h at) × (numbersFrom h at ≡ at ∷ numbersFrom h (nextAt h at))
-    step = let q = read-record h at (r .diary) (λ z. r .more (ap length (r .same) ∙ z)) in (r .same ∙ q .0, q .1)
+  -- a record more
+  module _ (more : at ≡ 0 → ⊥) where
+    pub collect-inside : Inside h at
+    collect-inside = record { low = omega arith; high = w .low }
 
-    comes : toCome h at ≡ s ∷ toCome h (nextAt h at)
-    comes = ap (map (recordWords h)) (step .1) ∙ ap (λ (x : List ℕ). x ∷ toCome h (nextAt h at)) (sym (step .0))
+    step : numbersFrom h at ≡ at ∷ numbersFrom h (nextAt h at)
+    step = read-step h at diary (collect-inside .low) (w .low)
 
     fewer : length (numbersFrom h at) ≡ suc (length (numbersFrom h (nextAt h at)))
-    fewer = ap length (step .1)
+    fewer = ap length step
 
     pub collect-less : {next : ℕ} → next ≡ nextAt h at → length (numbersFrom h next) < length (numbersFrom h at)
     collect-less e = rw e (omega (arith, fewer))
@@ -151,42 +155,85 @@ module _ (plan : List (List ℕ)) {rules : List (List ℕ)} {h : List ℕ} {numb
     pub collect-room : count < recordsOf h
     collect-room = omega (arith, w .room, fewer)
 
-    module _ {map : List (List ℕ)} {sets : List ℕ} {totals : List (List ℕ)} {f : Found} (told : HeardFoundAs rules plan map s sets totals f) where
-      pub collect-many : {k : ℕ} {d : DerivationNumber} → f ≡ Some k d → 2 ≤ k → {numbers′ : List ℕ} → CollectedAs rules plan h numbers′ Ambiguous
-      collect-many case many = let q = rw case at told in record { holds = sym (w .many) ∙ rw (comes, q .adds .0 many) }
+    -- the one after it is a record, or the end
+    next-low : nextAt h at ≤ recordsOf h
+    next-low = omega (arith, read-next h at diary (collect-inside .low) (w .low), known h diary .nexts at (collect-inside .low) (w .low))
 
-      -- the numbers that it adds stand behind those so far
-      behind : (k : List ℕ) → manyIn rules (lengthIn plan) s ≡ false → numbersIn rules (lengthIn plan) s ≡ k → length k ≤ 1
+    -- its sentence is the first to come if it makes it heard
+    first : {b : Bool} → b ≡ makesHeard h (a .voice) at → toCome h a at ≡ cond b (recordWords h at ∷ toCome h a (nextAt h at)) (toCome h a (nextAt h at))
+    first {b} e =
+        ap (λ (l : List ℕ). map (recordWords h) (keep (makesHeard h (a .voice)) l)) step
+        ∙ rw (← e) (go b)
+      where
+        rest : List ℕ
+        rest = keep (makesHeard h (a .voice)) (numbersFrom h (nextAt h at))
+
+        go : (b : Bool) → map (recordWords h) (cond b (at ∷ rest) rest) ≡ cond b (recordWords h at ∷ toCome h a (nextAt h at)) (toCome h a (nextAt h at))
+        go true = refl
+        go false = refl
+
+    -- the numbers that it adds stand behind those so far
+    behind : (k : List ℕ) → manyDue rules h a at ≡ manyDue rules h a (nextAt h at) → numbersDue rules h a at ≡ k ++ numbersDue rules h a (nextAt h at)
+        → length k ≤ 1 → {next count′ : ℕ} {numbers′ : List ℕ} → next ≡ nextAt h at → count′ ≡ count + length k
+        → take count′ numbers′ ≡ take count numbers ++ k → length numbers′ ≡ length numbers
+        → Collecting rules h a numbers′ next count′
+    behind k many adds few e c front kept =
+        rw e
+        (record {
+          due = ap (λ (l : List ℕ). l ++ numbersDue rules h a (nextAt h at)) front
+              ∙ append-assoc (take count numbers) k (numbersDue rules h a (nextAt h at))
+              ∙ ap (λ (l : List ℕ). take count numbers ++ l) (sym adds)
+              ∙ w .due;
+          many = sym many ∙ w .many;
+          room = omega (arith, few, w .room, fewer);
+          long = omega (arith, w .long);
+          low = next-low;
+        })
+
+    -- it makes nothing heard
+    pub collect-unheard : {b : Bool} → b ≡ makesHeard h (a .voice) at → b ≡ false → {next : ℕ} → next ≡ nextAt h at → Collecting rules h a numbers next count
+    collect-unheard makes fails e =
+        let f = first (sym fails ∙ makes) in
+        behind [] (ap (someOf (manyIn rules (a .length))) f) (ap (concatMap (numbersIn rules (a .length))) f) (omega arith) e (omega arith)
+        (sym (append-nil (take count numbers))) refl
+
+    -- it makes its sentence heard, which was read
+    module _ {b : Bool} (makes : b ≡ makesHeard h (a .voice) at) (passes : b ≡ true) {s : List ℕ} (read : s ≡ sentenceAt h at) {plan map : List (List ℕ)} {sets : List ℕ}
+        {totals : List (List ℕ)} {f : Found} (long : lengthIn plan ≡ a .length) (told : HeardFoundAs rules plan map s sets totals f) where
+      comes : toCome h a at ≡ s ∷ toCome h a (nextAt h at)
+      comes =
+          first (sym passes ∙ makes)
+          ∙ ap (λ (x : List ℕ). x ∷ toCome h a (nextAt h at)) (sym (read ∙ read-words h at diary (collect-inside .low) (w .low)))
+
+      adds : {f′ : Found} → f ≡ f′ → Adds rules (a .length) s f′
+      adds case = rw (long, case) at (told .adds)
+
+      pub collect-many : {k : ℕ} {d : DerivationNumber} → f ≡ Some k d → 2 ≤ k → {numbers′ : List ℕ} → CollectedAs rules h a numbers′ Ambiguous
+      collect-many case many = record { holds = sym (w .many) ∙ rw (comes, adds case .0 many) }
+
+      -- the sentence adds these
+      added : (k : List ℕ) → manyIn rules (a .length) s ≡ false → numbersIn rules (a .length) s ≡ k → length k ≤ 1
           → {next count′ : ℕ} {numbers′ : List ℕ} → next ≡ nextAt h at → count′ ≡ count + length k
           → take count′ numbers′ ≡ take count numbers ++ k → length numbers′ ≡ length numbers
-          → Collecting rules h (lengthIn plan) numbers′ next count′
-      behind k many adds few {next} {count′} {numbers′} e c front kept =
-          let n = lengthIn plan in
-          rw e
-          (record {
-            due = ap (λ (l : List ℕ). l ++ concatMap (numbersIn rules n) (toCome h (nextAt h at))) (front ∙ ap (λ (l : List ℕ). take count numbers ++ l) (sym adds))
-                ∙ append-assoc (take count numbers) (numbersIn rules n s) (concatMap (numbersIn rules n) (toCome h (nextAt h at)))
-                ∙ ap (λ (l : List (List ℕ)). take count numbers ++ concatMap (numbersIn rules n) l) (sym comes)
-                ∙ w .due;
-            many = ap (λ (b : Bool). b || someOf (manyIn rules n) (toCome h (nextAt h at))) (sym many)
-                ∙ ap (someOf (manyIn rules n)) (sym comes)
-                ∙ w .many;
-            room = omega (arith, few, w .room, fewer);
-            long = omega (arith, w .long);
-          })
+          → Collecting rules h a numbers′ next count′
+      added k single numbers-are few =
+          behind k
+          (ap (someOf (manyIn rules (a .length))) comes ∙ ap (λ (b : Bool). b || manyDue rules h a (nextAt h at)) single)
+          (ap (concatMap (numbersIn rules (a .length))) comes ∙ ap (λ (l : List ℕ). l ++ numbersDue rules h a (nextAt h at)) numbers-are)
+          few
 
-      pub collect-none : f ≡ None → {next : ℕ} → next ≡ nextAt h at → Collecting rules h (lengthIn plan) numbers next count
+      pub collect-none : f ≡ None → {next : ℕ} → next ≡ nextAt h at → Collecting rules h a numbers next count
       collect-none case e =
-          let q = rw case at told in
-          behind [] (q .adds .0) (q .adds .1) (omega arith) e (omega arith) (sym (append-nil (take count numbers))) refl
+          let q = adds case in
+          added [] (q .0) (q .1) (omega arith) e (omega arith) (sym (append-nil (take count numbers))) refl
 
       pub collect-one : {k : ℕ} {d : DerivationNumber} → f ≡ Some k d → k < 2 → {next : ℕ} → next ≡ nextAt h at
-          → Collecting rules h (lengthIn plan) (set numbers count (d .0)) next (count + 1)
+          → Collecting rules h a (set numbers count (d .0)) next (count + 1)
       collect-one {d = d} case few e =
-          let q = (rw case at told) .adds .1 few in
-          behind (d .0 ∷ []) (q .0) (q .1) (omega arith) e refl (rw (add-one, take-suc-set numbers count (d .0) (omega (arith, collect-room, w .long))) refl) (length-set numbers count (d .0))
+          let q = adds case .1 few in
+          added (d .0 ∷ []) (q .0) (q .1) (omega arith) e refl (rw (add-one, take-suc-set numbers count (d .0) (omega (arith, collect-room, w .long))) refl) (length-set numbers count (d .0))
 
 -- what is collected, once its case is known
-pub collect-case : {rules plan : List (List ℕ)} {h : List ℕ} {numbers : List ℕ} {c d : Collected} → CollectedAs rules plan h numbers c → c ≡ d
-    → CollectedIs rules h (lengthIn plan) numbers d
+pub collect-case : {rules : List (List ℕ)} {h : List ℕ} {a : Question} {numbers : List ℕ} {c d : Collected} → CollectedAs rules h a numbers c → c ≡ d
+    → CollectedIs rules h a numbers d
 collect-case q e = (rw e at q) .holds

@@ -29,13 +29,13 @@ use Rattle.counting.proofs.Ten.{needed-within}
 use Rattle.ranking.specs.Answers.{entryOf, unrankRows, unrankOf, rankOf}
 use Rattle.history.specs.Layout.{twoAt, recordWords}
 use Rattle.history.specs.Chain.{numbersFrom}
-use Rattle.history.specs.Heard.{heard}
+use Rattle.history.specs.Heard.{makesHeard, heard}
 use Rattle.history.specs.Refusals as history
 use Rattle.sampling.specs.Question.{plainly}
 use Rattle.sampling.specs.Unheard.{unheard, heardOf, leftOf, ambiguous}
 use Rattle.sampling.specs.Answers.{remainingRows, remainingOf, drawn, drawRows, drawOf, remainingTo, drawTo}
 use Rattle.sampling.specs.Demand3.{Premises, SameBarred}
-use Rattle.sampling.specs.Examples.{F, G, heard01, heardTwice, Examples}
+use Rattle.sampling.specs.Examples.{F, G, heard01, heardTwice, heardInFive, Examples}
 use Rattle.sampling.proofs.Premises.{prepared-pass, heard-single, premises-pass}
 
 -- ---- the grammar F, and any other with its rules of nonterminals 0 and 1
@@ -131,71 +131,90 @@ heard01-accepted : history.Accepted heard01
 unfolding firstThatApplies history.badSize history.misfit history.badRecord history.badLink history.badChain badLength someBelow twoAt numbersFrom metFrom
 heard01-accepted = refl
 
-heard01-clear : ambiguous F heard01 (plainly 2) ≡ false
-unfolding ambiguous twoAt recordWords numbersFrom trees treesTo metFrom rest
+heard01-clear : ambiguous F heard01 (plainly 2 0) ≡ false
+unfolding ambiguous makesHeard twoAt recordWords numbersFrom trees treesTo metFrom rest
 heard01-clear = refl
 
--- the premises of demand 3 hold of F, this history and length 2
-pub example-premises : Premises F heard01 (plainly 2)
-example-premises =
+-- the premises of demand 3 hold of F, length 2 and a history that has no ambiguous sentence
+two-premises : (h : List ℕ) (v : ℕ) → v ≤ 15 → history.Accepted h → ambiguous F h (plainly 2 v) ≡ false → Premises F h (plainly 2 v)
+two-premises h v l ok clear =
     record {
       bank = F-accepted;
       some = omega arith;
       short = omega arith;
+      voiced = l;
       counts = F-fits 2 (omega arith) (omega arith);
-      diary = heard01-accepted;
-      single = heard-single F heard01 2 heard01-accepted .0 heard01-clear;
+      diary = ok;
+      single = heard-single F h (plainly 2 v) ok .0 clear;
     }
 
-heard-one : heardOf F heard01 (plainly 2) ≡ 1
-unfolding heardOf twoAt recordWords numbersFrom trees treesTo metFrom rest
+pub example-premises : Premises F heard01 (plainly 2 0)
+example-premises = two-premises heard01 0 (omega arith) heard01-accepted heard01-clear
+
+in-five-accepted : history.Accepted heardInFive
+unfolding firstThatApplies history.badSize history.misfit history.badRecord history.badLink history.badChain badLength someBelow twoAt numbersFrom metFrom
+in-five-accepted = refl
+
+in-five-clear : ambiguous F heardInFive (plainly 2 5) ≡ false
+unfolding ambiguous makesHeard twoAt recordWords numbersFrom trees treesTo metFrom rest
+in-five-clear = refl
+
+in-five-heard : heard heardInFive 5 (0 ∷ 1 ∷ []) ≡ true
+unfolding heard makesHeard someBelow twoAt recordWords
+in-five-heard = refl
+
+pub example-voiced : Premises F heardInFive (plainly 2 5) × (heard heardInFive 5 (0 ∷ 1 ∷ []) ≡ true)
+example-voiced = (two-premises heardInFive 5 (omega arith) in-five-accepted in-five-clear, in-five-heard)
+
+heard-one : heardOf F heard01 (plainly 2 0) ≡ 1
+unfolding heardOf makesHeard twoAt recordWords numbersFrom trees treesTo metFrom rest
 heard-one = refl
 
-left-three : leftOf F heard01 (plainly 2) ≡ 3
+left-three : leftOf F heard01 (plainly 2 0) ≡ 3
 left-three = omega (arith, heard-one, T-doubled 0)
 
-unheard-three : unheard F heard01 (plainly 2)
+unheard-three : unheard F heard01 (plainly 2 0)
     ≡ record { number = 0; tree = node 0 (leaf 0 0) (leaf 0 0) }
     ∷ record { number = 2; tree = node 0 (leaf 1 1) (leaf 0 0) }
     ∷ record { number = 3; tree = node 0 (leaf 1 1) (leaf 1 1) }
     ∷ []
-unfolding unheard heard someBelow twoAt recordWords trees treesTo metFrom rest
+unfolding unheard heard makesHeard someBelow twoAt recordWords trees treesTo metFrom rest
 unheard-three = refl
 
-passes : firstThatApplies (remainingRows F heard01 (plainly 2)) ≡ 0
-passes = premises-pass F heard01 2 example-premises
+passes : firstThatApplies (remainingRows F heard01 (plainly 2 0)) ≡ 0
+passes = premises-pass F heard01 (plainly 2 0) example-premises
 
-left-of-two : remainingOf F heard01 2 ≡ given (4 ∷ 1 ∷ 3 ∷ []) []
+left-of-two : remainingOf F heard01 2 0 ≡ given (4 ∷ 1 ∷ 3 ∷ []) []
 unfolding remainingTo
 left-of-two =
-    answer-accepted (T (chain F) 0 2 ∷ heardOf F heard01 (plainly 2) ∷ leftOf F heard01 (plainly 2) ∷ []) [] [] passes
-    ∙ ap (λ (x : ℕ). given (x ∷ heardOf F heard01 (plainly 2) ∷ leftOf F heard01 (plainly 2) ∷ []) []) (T-doubled 0)
-    ∙ ap (λ (x : ℕ). given (4 ∷ x ∷ leftOf F heard01 (plainly 2) ∷ []) []) heard-one
+    answer-accepted (T (chain F) 0 2 ∷ heardOf F heard01 (plainly 2 0) ∷ leftOf F heard01 (plainly 2 0) ∷ []) [] [] passes
+    ∙ ap (λ (x : ℕ). given (x ∷ heardOf F heard01 (plainly 2 0) ∷ leftOf F heard01 (plainly 2 0) ∷ []) []) (T-doubled 0)
+    ∙ ap (λ (x : ℕ). given (4 ∷ x ∷ leftOf F heard01 (plainly 2 0) ∷ []) []) heard-one
     ∙ ap (λ (x : ℕ). given (4 ∷ 1 ∷ x ∷ []) []) left-three
 
 draw-below : (q : ℕ) (out : List ℕ) → q < 3 → 2 ≤ length out
-    → drawOf F heard01 2 q out ≡ given (3 ∷ drawn F heard01 (plainly 2) q .number ∷ []) (sentence (drawn F heard01 (plainly 2) q .tree) ++ drop 2 out)
+    → drawOf F heard01 2 0 q out ≡ given (3 ∷ drawn F heard01 (plainly 2 0) q .number ∷ []) (sentence (drawn F heard01 (plainly 2 0) q .tree) ++ drop 2 out)
 unfolding drawTo firstThatApplies
 draw-below q out h l =
-    answer-accepted (leftOf F heard01 (plainly 2) ∷ drawn F heard01 (plainly 2) q .number ∷ []) out (sentence (drawn F heard01 (plainly 2) q .tree) ++ drop 2 out)
-    (rows-pass (remainingRows F heard01 (plainly 2)) ((leb (leftOf F heard01 (plainly 2)) q, 16) ∷ (ltb (length out) 2, 20) ∷ []) refl passes
-    ∙ row-passed 16 ((ltb (length out) 2, 20) ∷ []) (lt-leb (leftOf F heard01 (plainly 2)) q (omega (arith, left-three)))
+    answer-accepted (leftOf F heard01 (plainly 2 0) ∷ drawn F heard01 (plainly 2 0) q .number ∷ []) out (sentence (drawn F heard01 (plainly 2 0) q .tree) ++ drop 2 out)
+    (rows-pass (remainingRows F heard01 (plainly 2 0)) ((leb (leftOf F heard01 (plainly 2 0)) q, 16) ∷ (ltb (length out) 2, 20) ∷ []) refl passes
+    ∙ row-passed 16 ((ltb (length out) 2, 20) ∷ []) (lt-leb (leftOf F heard01 (plainly 2 0)) q (omega (arith, left-three)))
     ∙ row-passed 20 [] (le-ltb (length out) 2 l))
-    ∙ ap (λ (x : ℕ). given (x ∷ drawn F heard01 (plainly 2) q .number ∷ []) (sentence (drawn F heard01 (plainly 2) q .tree) ++ drop 2 out)) left-three
+    ∙ ap (λ (x : ℕ). given (x ∷ drawn F heard01 (plainly 2 0) q .number ∷ []) (sentence (drawn F heard01 (plainly 2 0) q .tree) ++ drop 2 out)) left-three
 
 draws-three : (out : List ℕ) → 2 ≤ length out
-    → map (λ q. drawOf F heard01 2 q out) (upFrom 0 3)
+    → map (λ q. drawOf F heard01 2 0 q out) (upFrom 0 3)
     ≡ given (3 ∷ 0 ∷ []) (0 ∷ 0 ∷ drop 2 out) ∷ given (3 ∷ 2 ∷ []) (1 ∷ 0 ∷ drop 2 out) ∷ given (3 ∷ 3 ∷ []) (1 ∷ 1 ∷ drop 2 out) ∷ []
 draws-three out l =
     rw (draw-below 0 out (omega arith) l, draw-below 1 out (omega arith) l, draw-below 2 out (omega arith) l, unheard-three)
 
-draw-beyond : (out : List ℕ) → drawOf F heard01 2 3 out ≡ refused 16 2 out
+draw-beyond : (out : List ℕ) → drawOf F heard01 2 0 3 out ≡ refused 16 2 out
 unfolding drawTo
 draw-beyond out =
-    let e : firstThatApplies (drawRows F heard01 (plainly 2) 3 out) ≡ 16
-    = rows-pass (remainingRows F heard01 (plainly 2)) ((leb (leftOf F heard01 (plainly 2)) 3, 16) ∷ (ltb (length out) 2, 20) ∷ []) refl passes
-    ∙ row-applies 16 ((ltb (length out) 2, 20) ∷ []) (le-leb (leftOf F heard01 (plainly 2)) 3 (omega (arith, left-three))) in
-    rw e (answer-refused 16 (leftOf F heard01 (plainly 2) ∷ drawn F heard01 (plainly 2) 3 .number ∷ []) out (sentence (drawn F heard01 (plainly 2) 3 .tree) ++ drop 2 out) (omega arith))
+    let e : firstThatApplies (drawRows F heard01 (plainly 2 0) 3 out) ≡ 16
+    = rows-pass (remainingRows F heard01 (plainly 2 0)) ((leb (leftOf F heard01 (plainly 2 0)) 3, 16) ∷ (ltb (length out) 2, 20) ∷ []) refl passes
+    ∙ row-applies 16 ((ltb (length out) 2, 20) ∷ []) (le-leb (leftOf F heard01 (plainly 2 0)) 3 (omega (arith, left-three))) in
+    rw e (answer-refused 16 (leftOf F heard01 (plainly 2 0) ∷ drawn F heard01 (plainly 2 0) 3 .number ∷ []) out (sentence (drawn F heard01 (plainly 2 0) 3 .tree) ++ drop 2 out) (omega arith))
 
 -- ---- the grammar G
 
@@ -253,12 +272,12 @@ examples =
 -- ---- two histories that bar the same
 
 -- a sentence is heard in either exactly if it is 0 1
-heard-once : (s : List ℕ) → heard heard01 s ≡ same (0 ∷ 1 ∷ []) s
-unfolding heard someBelow twoAt recordWords
+heard-once : (s : List ℕ) → heard heard01 0 s ≡ same (0 ∷ 1 ∷ []) s
+unfolding heard makesHeard someBelow twoAt recordWords
 heard-once s = or-false (same (0 ∷ 1 ∷ []) s)
 
-heard-twice : (s : List ℕ) → heard heardTwice s ≡ same (0 ∷ 1 ∷ []) s
-unfolding heard someBelow twoAt recordWords
+heard-twice : (s : List ℕ) → heard heardTwice 0 s ≡ same (0 ∷ 1 ∷ []) s
+unfolding heard makesHeard someBelow twoAt recordWords
 heard-twice s = go (same (0 ∷ 1 ∷ []) s)
   where
     go : (b : Bool) → (b || (b || false)) ≡ b
@@ -269,11 +288,11 @@ twice-accepted : history.Accepted heardTwice
 unfolding firstThatApplies history.badSize history.misfit history.badRecord history.badLink history.badChain badLength someBelow twoAt numbersFrom metFrom
 twice-accepted = refl
 
-pub logged-twice : history.Accepted heard01 × history.Accepted heardTwice × SameBarred F heard01 heardTwice (plainly 2)
+pub logged-twice : history.Accepted heard01 × history.Accepted heardTwice × SameBarred F heard01 heardTwice (plainly 2 0)
 logged-twice = (
   example-premises .diary,
   twice-accepted,
   λ s l.
-      let e : heard heard01 s ≡ heard heardTwice s = heard-once s ∙ sym (heard-twice s) in
+      let e : heard heard01 0 s ≡ heard heardTwice 0 s = heard-once s ∙ sym (heard-twice s) in
       (λ b. (sym e ∙ b .0, b .1), λ b. (e ∙ b .0, b .1)),
 )

@@ -3,6 +3,7 @@ pub mod Barred
 pub mod Skipping
 pub mod Collect
 pub mod Readying
+pub mod Asking
 pub mod Answering
 pub mod Premises
 pub mod Demand3

@@ -1,4 +1,4 @@
--- What demand 3 asks of a grammar, a history and a length is just what *Left* needs to accept them: line by line, a refusal that doesn't
+-- What demand 3 asks of a grammar, a history and a question is just what *Left* needs to accept them: line by line, a refusal that doesn't
 -- apply says one of the premises, and the other way round. Line 15 doesn't apply exactly if no heard sentence of the length has two
 -- derivations, as the derivations of a sentence can be listed, each once.
 -- Assumes nothing.
@@ -10,11 +10,12 @@ use Prim.Native.Nat.{ℕ, _≤_, _<_}
 use native.Mathlib.Omega.{arith}
 use lib.ListN.{length}
 use lib.Dec.{leb}
-use borrow.Author.Tests.{leb-true, le-leb, lt-leb}
+use borrow.Author.Tests.{ltb-false, leb-true, le-leb, lt-leb, le-ltb}
 use Rattle.lists.proofs.Orders.{few-same, same-few}
 use Rattle.lists.proofs.Tests.{within-facts, within-both, some-∈, ∈-some, some-clear}
-use Rattle.answers.specs.Answer.{firstThatApplies}
+use Rattle.answers.specs.Answer.{Row, firstThatApplies}
 use Rattle.answers.specs.Length.{badLength}
+use Rattle.answers.specs.Voice.{badVoice}
 use Rattle.answers.proofs.Refusals.{row-passed, row-clear, rows-pass, rows-clear, answer-number}
 use Rattle.grammar.specs.Layout.{start}
 use Rattle.grammar.specs.Chains.{chain}
@@ -26,9 +27,9 @@ use Rattle.ranking.specs.Answers.{totalOf, readingsOf}
 use Rattle.ranking.proofs.Demand2.{exactly-readings, figure-readings}
 use Rattle.history.specs.Refusals as history
 use Rattle.history.specs.Heard.{heard}
-use Rattle.sampling.specs.Question.{plainly}
+use Rattle.sampling.specs.Question.{Question}
 use Rattle.sampling.specs.Unheard.{ofLength, heardOf, leftOf, ambiguous, derivationsGiven, Fifteen}
-use Rattle.sampling.specs.Answers.{remainingRows, remainingOf, remainingTo}
+use Rattle.sampling.specs.Answers.{askedRows, remainingRows, remainingTo}
 use Rattle.sampling.specs.Demand3.{Single, Premises}
 use Rattle.sampling.proofs.Barred.{length-∈, ∈-length, few-readings}
 
@@ -47,6 +48,17 @@ prepared-pass g n ok l u c =
     ∙ row-passed 9 ((tooLarge g n, 10) ∷ []) (length-within n .1 (l, u))
     ∙ row-passed 10 [] (counts-small g n .1 c)
 
+-- nor any of 1 to 9, 22 and 10
+pub asked-pass : (g : List ℕ) (a : Question) → Accepted g → 1 ≤ a .length → a .length ≤ 16 → a .voice ≤ 15 → AllFit (chain g) (λ p w. 1) (start g) (a .length)
+    → firstThatApplies (askedRows g a) ≡ 0
+unfolding firstThatApplies
+asked-pass g a ok l u v c =
+    let rest : List Row = (badVoice (a .voice), 22) ∷ (tooLarge g (a .length), 10) ∷ [] in
+    rows-pass (grammarRows g) ((badLength (a .length), 9) ∷ rest) refl ok
+    ∙ row-passed 9 rest (length-within (a .length) .1 (l, u))
+    ∙ row-passed 22 ((tooLarge g (a .length), 10) ∷ []) (le-ltb 15 (a .voice) v)
+    ∙ row-passed 10 [] (counts-small g (a .length) .1 c)
+
 -- ---- 15
 
 -- two derivations of one sentence are one, where fewer than two are counted
@@ -59,66 +71,82 @@ single-readings g s =
     )
 
 -- 15, by what *Number* says of a heard sentence
-pub fifteen : (g h : List ℕ) (n : ℕ) → countOf g n .refusal ≡ 0 → history.Accepted h → Fifteen g h (plainly n)
+pub fifteen : (g h : List ℕ) (a : Question) → countOf g (a .length) .refusal ≡ 0 → history.Accepted h → Fifteen g h a
 unfolding ambiguous
-fifteen g h n ok diary =
-    let given : (s : List ℕ) → length s ≡ n → derivationsGiven g s ≡ readingsOf g s = λ s l. figure-readings g s (rw l ok) in (
+fifteen g h a ok diary =
+    let given : (s : List ℕ) → length s ≡ a .length → derivationsGiven g s ≡ readingsOf g s = λ s l. figure-readings g s (rw l ok) in (
       λ e.
-          let q = ∈-some (λ s. leb 2 (readingsOf g s)) (ofLength n h) e in
-          let r = length-∈ g h n diary (q .0) (q .1) in
+          let q = ∈-some (λ s. leb 2 (readingsOf g s)) (ofLength h a) e in
+          let r = length-∈ g h a diary (q .0) (q .1) in
           (q .0, r .1, r .0, omega (arith, given (q .0) (r .1), leb-true 2 (readingsOf g (q .0)) (q .2))),
       λ q.
-          some-∈ (λ s. leb 2 (readingsOf g s)) (q .0) (ofLength n h) (∈-length g h n diary (q .0) (q .2) (q .1))
+          some-∈ (λ s. leb 2 (readingsOf g s)) (q .0) (ofLength h a) (∈-length g h a diary (q .0) (q .2) (q .1))
           (le-leb 2 (readingsOf g (q .0)) (omega (arith, given (q .0) (q .1), q .3))),
     )
 
 -- with an accepted history
-module _ (g h : List ℕ) (n : ℕ) (diary : history.Accepted h) where
-  clear-single : ambiguous g h (plainly n) ≡ false → (s : List ℕ) → length s ≡ n → heard h s ≡ true → Single g s
-  clear-single e s l k = single-readings g s .1 (few-readings g h n diary e s (∈-length g h n diary s k l))
+module _ (g h : List ℕ) (a : Question) (diary : history.Accepted h) where
+  clear-single : ambiguous g h a ≡ false → (s : List ℕ) → length s ≡ a .length → heard h (a .voice) s ≡ true → Single g s
+  clear-single e s l k = single-readings g s .1 (few-readings g h a diary e s (∈-length g h a diary s k l))
 
-  single-clear : ((s : List ℕ) → length s ≡ n → heard h s ≡ true → Single g s) → ambiguous g h (plainly n) ≡ false
+  single-clear : ((s : List ℕ) → length s ≡ a .length → heard h (a .voice) s ≡ true → Single g s) → ambiguous g h a ≡ false
   unfolding ambiguous
   single-clear f =
-      some-clear (λ s. leb 2 (readingsOf g s)) (ofLength n h)
-      (λ s m. let q = length-∈ g h n diary s m in lt-leb 2 (readingsOf g s) (single-readings g s .0 (f s (q .1) (q .0))))
+      some-clear (λ s. leb 2 (readingsOf g s)) (ofLength h a)
+      (λ s m. let q = length-∈ g h a diary s m in lt-leb 2 (readingsOf g s) (single-readings g s .0 (f s (q .1) (q .0))))
 
-  pub heard-single : (ambiguous g h (plainly n) ≡ false) ↔ ((s : List ℕ) → length s ≡ n → heard h s ≡ true → Single g s)
+  pub heard-single : (ambiguous g h a ≡ false) ↔ ((s : List ℕ) → length s ≡ a .length → heard h (a .voice) s ≡ true → Single g s)
   heard-single = (clear-single, single-clear)
 
 -- ---- all lines
 
-module _ (g h : List ℕ) (n : ℕ) where
-  pub remaining-refusal : remainingOf g h n .refusal ≡ firstThatApplies (remainingRows g h (plainly n))
-  unfolding remainingTo
-  remaining-refusal = answer-number (firstThatApplies (remainingRows g h (plainly n))) (totalOf g n ∷ heardOf g h (plainly n) ∷ leftOf g h (plainly n) ∷ []) [] []
+-- what the lines 1 to 9, 22 and 10 leave of a grammar and a question
+record Asked (g : List ℕ) (a : Question) : Type 0 where
+  pub bank : Accepted g
+  pub some : 1 ≤ a .length
+  pub short : a .length ≤ 16
+  pub voiced : a .voice ≤ 15
+  pub counts : AllFit (chain g) (λ p w. 1) (start g) (a .length)
 
-  pub premises-pass : Premises g h (plainly n) → firstThatApplies (remainingRows g h (plainly n)) ≡ 0
+asked-clear : (g : List ℕ) (a : Question) → firstThatApplies (askedRows g a) ≡ 0 → Asked g a
+asked-clear g a e =
+    let v : List Row = (badVoice (a .voice), 22) ∷ (tooLarge g (a .length), 10) ∷ [] in
+    let b = rows-clear (grammarRows g) ((badLength (a .length), 9) ∷ v) refl e in
+    let c = row-clear 9 v (badLength (a .length)) (omega arith) (b .1) in
+    let d = row-clear 22 ((tooLarge g (a .length), 10) ∷ []) (badVoice (a .voice)) (omega arith) (c .1) in
+    let f = row-clear 10 [] (tooLarge g (a .length)) (omega arith) (d .1) in
+    let l = length-within (a .length) .0 (c .0) in
+    record { bank = b .0; some = l .0; short = l .1; voiced = ltb-false 15 (a .voice) (d .0); counts = counts-small g (a .length) .0 (f .0) }
+
+module _ (g h : List ℕ) (a : Question) where
+  pub remaining-refusal : remainingTo g h a .refusal ≡ firstThatApplies (remainingRows g h a)
+  unfolding remainingTo
+  remaining-refusal = answer-number (firstThatApplies (remainingRows g h a)) (totalOf g (a .length) ∷ heardOf g h a ∷ leftOf g h a ∷ []) [] []
+
+  pub premises-pass : Premises g h a → firstThatApplies (remainingRows g h a) ≡ 0
   unfolding firstThatApplies
   premises-pass p =
-      rows-pass (preparedRows g n) (history.historyRows h ++ ((ambiguous g h (plainly n), 15) ∷ [])) refl
-      (prepared-pass g n (p .bank) (p .some) (p .short) (p .counts))
-      ∙ rows-pass (history.historyRows h) ((ambiguous g h (plainly n), 15) ∷ []) refl (p .diary)
-      ∙ row-passed 15 [] (heard-single g h n (p .diary) .1 (p .single))
+      rows-pass (askedRows g a) (history.historyRows h ++ ((ambiguous g h a, 15) ∷ [])) refl
+      (asked-pass g a (p .bank) (p .some) (p .short) (p .voiced) (p .counts))
+      ∙ rows-pass (history.historyRows h) ((ambiguous g h a, 15) ∷ []) refl (p .diary)
+      ∙ row-passed 15 [] (heard-single g h a (p .diary) .1 (p .single))
 
-  pub pass-premises : firstThatApplies (remainingRows g h (plainly n)) ≡ 0 → Premises g h (plainly n)
+  pub pass-premises : firstThatApplies (remainingRows g h a) ≡ 0 → Premises g h a
   pass-premises e =
-      let a = rows-clear (preparedRows g n) (history.historyRows h ++ ((ambiguous g h (plainly n), 15) ∷ [])) refl e in
-      let b = rows-clear (grammarRows g) ((badLength n, 9) ∷ (tooLarge g n, 10) ∷ []) refl (a .0) in
-      let c = rows-clear (history.historyRows h) ((ambiguous g h (plainly n), 15) ∷ []) refl (a .1) in
-      let d = row-clear 9 ((tooLarge g n, 10) ∷ []) (badLength n) (omega arith) (b .1) in
-      let f = row-clear 10 [] (tooLarge g n) (omega arith) (d .1) in
-      let k = row-clear 15 [] (ambiguous g h (plainly n)) (omega arith) (c .1) in
-      let l = length-within n .0 (d .0) in
+      let b = rows-clear (askedRows g a) (history.historyRows h ++ ((ambiguous g h a, 15) ∷ [])) refl e in
+      let c = rows-clear (history.historyRows h) ((ambiguous g h a, 15) ∷ []) refl (b .1) in
+      let d = asked-clear g a (b .0) in
+      let k = row-clear 15 [] (ambiguous g h a) (omega arith) (c .1) in
       record {
-        bank = b .0;
-        some = l .0;
-        short = l .1;
-        counts = counts-small g n .0 (f .0);
+        bank = d .bank;
+        some = d .some;
+        short = d .short;
+        voiced = d .voiced;
+        counts = d .counts;
         diary = c .0;
-        single = heard-single g h n (c .0) .0 (k .0);
+        single = heard-single g h a (c .0) .0 (k .0);
       }
 
   -- the premises of demand 3 hold exactly where *Left* isn't refused
-  pub premises : Premises g h (plainly n) ↔ (remainingOf g h n .refusal ≡ 0)
+  pub premises : Premises g h a ↔ (remainingTo g h a .refusal ≡ 0)
   premises = (λ p. remaining-refusal ∙ premises-pass p, λ e. pass-premises (sym remaining-refusal ∙ e))

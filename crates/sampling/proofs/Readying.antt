@@ -15,12 +15,12 @@ use Rattle.grammar.specs.Inner.Rules.{startIn, ruled}
 use Rattle.grammar.proofs.Kept.{ruled-same, ruled-kept}
 use Rattle.counting.specs.Inner.Counted.{Counted}
 use Rattle.counting.proofs.Asking.{counted-copied, counted-kept}
-use Rattle.charts.specs.Inner.Maps.{Everywhere}
 use Rattle.charts.specs.Inner.Plan.{lengthIn}
 use Rattle.charts.specs.Inner.Ready.{Readies, ReadiedAs}
 use Rattle.ranking.specs.Inner.Inside.{readingsIn}
 use Rattle.ranking.specs.Inner.Ranking.{Roomy}
 use Rattle.history.specs.Heard.{sentencesIn}
+use Rattle.sampling.specs.Question.{Question}
 use Rattle.sampling.specs.Unheard.{ofLength}
 use Rattle.sampling.specs.Inner.Collect.{numbersIn, ambiguousIn, Collects, CollectedIs, CollectedAs}
 use Rattle.sampling.specs.Inner.Preparing.{NumbersSought}
@@ -32,15 +32,15 @@ use Rattle.sampling.proofs.Collect.{collect-case}
 abbrev bare : List (List ℕ)
 bare = replicate 13 (replicate 256 0)
 
-module _ {rules totals : List (List ℕ)} {h : List ℕ} {n : ℕ} {numbers : List ℕ} {chart : List (List ℕ)} (w : NumbersSought rules totals h n numbers) (t : Roomy n chart) where
-  pub counts-asked : (n ≤ 16) × (17 ≤ length totals) × (17 ≤ length chart)
+module _ {rules totals : List (List ℕ)} {h : List ℕ} {a : Question} {numbers : List ℕ} {chart : List (List ℕ)} (w : NumbersSought rules totals h a numbers) (t : Roomy (a .length) chart) where
+  pub counts-asked : (a .length ≤ 16) × (17 ≤ length totals) × (17 ≤ length chart)
   counts-asked = (w .counted .short, w .counted .long, omega (arith, t .counts))
 
-  module _ {copied linked : List (List ℕ)} (c : CopiedAs (n + 1) totals chart copied) (k : CopiedAs 4 rules bare linked) where
-    counts : Counted rules copied n
+  module _ {copied linked : List (List ℕ)} (c : CopiedAs (a .length + 1) totals chart copied) (k : CopiedAs 4 rules bare linked) where
+    counts : Counted rules copied (a .length)
     counts = counted-copied (w .counted) (counts-asked .2) (t .wide) c
 
-    none : (r A : ℕ) → n + 1 ≤ r → entry copied r A ≡ 0
+    none : (r A : ℕ) → a .length + 1 ≤ r → entry copied r A ≡ 0
     none r A l = ap (λ (q : List ℕ). getD q A 0) (c .rest r l) ∙ t .zeros r A
 
     linked-long : length linked ≡ 13
@@ -52,8 +52,8 @@ module _ {rules totals : List (List ℕ)} {h : List ℕ} {n : ℕ} {numbers : Li
     clear : (r i : ℕ) → 4 ≤ r → entry linked r i ≡ 0
     clear r i l = ap (λ (q : List ℕ). getD q i 0) (k .rest r l) ∙ made-entry 13 256 r i
 
-    pub asks-ready : {plan map : List (List ℕ)} → length plan ≡ 4 → length map ≡ 17 → Wide map 16 → Readies linked copied n plan map
-    asks-ready a b d =
+    pub asks-ready : {plan map : List (List ℕ)} → length plan ≡ 4 → length map ≡ 17 → Wide map 16 → Readies linked copied (a .length) plan map
+    asks-ready p m d =
         let long : 4 ≤ length linked = omega (arith, linked-long) in
         record {
           blank = record {
@@ -67,19 +67,19 @@ module _ {rules totals : List (List ℕ)} {h : List ℕ} {n : ℕ} {numbers : Li
             no-words = λ x l. clear 4 x (omega arith);
             no-pairs = λ x l. clear (9 + x / 256) (x % 256) (omega arith);
           };
-          plan-long = a;
-          map-long = b;
+          plan-long = p;
+          map-long = m;
           map-wide = d;
         }
 
-    module _ {after plan map : List (List ℕ)} (r : ReadiedAs linked after plan map copied n) where
-      length-is : lengthIn plan ≡ n
+    module _ {after plan map : List (List ℕ)} (r : ReadiedAs linked after plan map copied (a .length)) where
+      length-is : lengthIn plan ≡ a .length
       length-is = r .ready .planned .length
 
-      pub asks-collect : {counts : List (List ℕ)} → Everywhere counts → Collects after plan map counts h copied numbers
-      asks-collect e = record {
+      pub asks-collect : Collects after plan map h a copied numbers
+      asks-collect = record {
+        planned = length-is;
         ready = rw length-is (r .ready);
-        everywhere = e;
         zeros = λ q A l. none q A (omega (arith, w .counted .short));
         diary = w .diary;
         room = w .room;
@@ -89,20 +89,20 @@ module _ {rules totals : List (List ℕ)} {h : List ℕ} {n : ℕ} {numbers : Li
       same : (q : ℕ) → q < 4 → getD after q [] ≡ getD rules q []
       same q l = r .kept q l ∙ k .rows q l
 
-      pub collected-is : {numbers′ : List ℕ} {c d : Collected} → CollectedAs after plan h numbers′ c → c ≡ d → CollectedIs rules h n numbers′ d
+      pub collected-is : {numbers′ : List ℕ} {c d : Collected} → CollectedAs after h a numbers′ c → c ≡ d → CollectedIs rules h a numbers′ d
       collected-is {numbers′} {d = d} q e =
           let start-is : startIn after ≡ startIn rules = ap (λ (l : List ℕ). getD l 128 0) (same 3 (omega arith)) in
-          kept (ruled-same rules after same) start-is d (rw length-is at (collect-case q e))
+          kept (ruled-same rules after same) start-is d (collect-case q e)
         where
           readings : ruled after ≡ ruled rules → startIn after ≡ startIn rules → (s : List ℕ) → readingsIn after s ≡ readingsIn rules s
           readings f g s = rw (f, g)
 
-          added : ruled after ≡ ruled rules → startIn after ≡ startIn rules → (s : List ℕ) → numbersIn after n s ≡ numbersIn rules n s
+          added : ruled after ≡ ruled rules → startIn after ≡ startIn rules → (s : List ℕ) → numbersIn after (a .length) s ≡ numbersIn rules (a .length) s
           added f g s = rw (f, g)
 
-          ambiguity : ruled after ≡ ruled rules → startIn after ≡ startIn rules → ambiguousIn after h n ≡ ambiguousIn rules h n
-          ambiguity f g = some-ext (λ s. leb 2 (readingsIn after s)) (λ s. leb 2 (readingsIn rules s)) (ofLength n h) (λ s m. ap (leb 2) (readings f g s))
+          ambiguity : ruled after ≡ ruled rules → startIn after ≡ startIn rules → ambiguousIn after h a ≡ ambiguousIn rules h a
+          ambiguity f g = some-ext (λ s. leb 2 (readingsIn after s)) (λ s. leb 2 (readingsIn rules s)) (ofLength h a) (λ s m. ap (leb 2) (readings f g s))
 
-          kept : ruled after ≡ ruled rules → startIn after ≡ startIn rules → (d : Collected) → CollectedIs after h n numbers′ d → CollectedIs rules h n numbers′ d
-          kept f g (Numbers k) x = (sym (ambiguity f g) ∙ x .0, x .1, x .2 ∙ concat-ext (numbersIn after n) (numbersIn rules n) (sentencesIn h) (λ s m. added f g s))
+          kept : ruled after ≡ ruled rules → startIn after ≡ startIn rules → (d : Collected) → CollectedIs after h a numbers′ d → CollectedIs rules h a numbers′ d
+          kept f g (Numbers k) x = (sym (ambiguity f g) ∙ x .0, x .1, x .2 ∙ concat-ext (numbersIn after (a .length)) (numbersIn rules (a .length)) (sentencesIn h (a .voice)) (λ s m. added f g s))
           kept f g Ambiguous x = sym (ambiguity f g) ∙ x

@@ -5,8 +5,9 @@ use Prim.Native.Nat.{ℕ}
 use lib.ListN.{length, getD, drop}
 use lib.Dec.{ltb, leb}
 use Rattle.answers.specs.Answer.{Row, Answer, answer}
+use Rattle.answers.specs.Voice.{badVoice}
 use Rattle.grammar.specs.Trees.{leaf, sentence}
-use Rattle.counting.specs.Refusals.{preparedRows}
+use Rattle.counting.specs.Refusals.{tooLarge, openRows}
 use Rattle.history.specs.Refusals.{historyRows}
 use Rattle.ranking.specs.Answers.{totalOf}
 use Rattle.sampling.specs.Question.{Question, plainly}
@@ -14,16 +15,20 @@ use Rattle.sampling.specs.Unheard.{Entry, unheard, heardOf, leftOf, ambi
 
 -- ---- *Left*
 
--- the lines 1 to 8, 9, 10, 11 to 14 and 15, in their order
+-- the lines 1 to 9, 22 and 10, in their order: "22, the voice is above 15, after 9" (document 02, U4)
+abbrev pub askedRows : (g : List ℕ) (a : Question) → List Row
+askedRows g a = openRows g (a .length) ++ ((badVoice (a .voice), 22) ∷ (tooLarge g (a .length), 10) ∷ [])
+
+-- and 11 to 14 and 15
 abbrev pub remainingRows : (g h : List ℕ) (a : Question) → List Row
-remainingRows g h a = preparedRows g (a .length) ++ (historyRows h ++ ((ambiguous g h a, 15) ∷ []))
+remainingRows g h a = askedRows g a ++ (historyRows h ++ ((ambiguous g h a, 15) ∷ []))
 
 -- "*Left* (bank, diary, length) gives T, heard (distinct heard sentences of that length with one derivation) and left = T - heard."
 unfoldable pub remainingTo : (g h : List ℕ) (a : Question) → Answer
 remainingTo g h a = answer (remainingRows g h a) (totalOf g (a .length) ∷ heardOf g h a ∷ leftOf g h a ∷ []) [] []
 
-abbrev pub remainingOf : (g h : List ℕ) (n : ℕ) → Answer
-remainingOf g h n = remainingTo g h (plainly n)
+abbrev pub remainingOf : (g h : List ℕ) (n v : ℕ) → Answer
+remainingOf g h n v = remainingTo g h (plainly n v)
 
 -- ---- *Draw*
 
@@ -40,5 +45,5 @@ unfoldable pub drawTo : (g h : List ℕ) (a : Question) (q : ℕ) (out : List �
 drawTo g h a q out =
     answer (drawRows g h a q out) (leftOf g h a ∷ drawn g h a q .number ∷ []) out (sentence (drawn g h a q .tree) ++ drop (a .length) out)
 
-abbrev pub drawOf : (g h : List ℕ) (n q : ℕ) (out : List ℕ) → Answer
-drawOf g h n q out = drawTo g h (plainly n) q out
+abbrev pub drawOf : (g h : List ℕ) (n v q : ℕ) (out : List ℕ) → Answer
+drawOf g h n v q out = drawTo g h (plainly n v) q out

@@ -1,6 +1,6 @@
 -- Demand 3 (document 01, section 'The draws as one list') as one claim about the list of draws, for every grammar, history and length
--- that it names. The answers are `remainingTo` (*Left*) and `drawTo` (*Draw*) to a question; the calls put the question of a length, and the
--- code's contracts say that it answers just these.
+-- that it names and every single voice, "with heard and barred meant in that voice" (document 02, U4). The answers are `remainingTo` (*Left*) and
+-- `drawTo` (*Draw*) to a question; the calls put the question of a length and a voice, and the code's contracts say that it answers just these.
 -- Assumes nothing: these are definitions.
 use mathlib.Core.Path.{_≡_}
 use mathlib.Core.Logic.{_↔_}
@@ -28,15 +28,17 @@ use Rattle.sampling.specs.Answers.{remainingTo, drawTo}
 abbrev pub Single : (g : List ℕ) (s : List ℕ) → Type 0
 Single g s = (t u : Tree) → Derivation g (length s) t → Derivation g (length s) u → sentence t ≡ s → sentence u ≡ s → t ≡ u
 
--- What demand 3 names: an accepted grammar, a length of 1 to 16 of which no needed count is 2^64 or more, and an accepted history with no
--- heard sentence of that length that has two derivations. proofs/Premises.antt: they hold exactly where *Left* isn't refused.
+-- What demand 3 names: an accepted grammar, a length of 1 to 16 of which no needed count is 2^64 or more, "each single voice from 0 to 15", and
+-- an accepted history with no sentence of that length, heard in that voice, that has two derivations. proofs/Premises.antt: they hold exactly
+-- where *Left* isn't refused.
 pub record Premises (g h : List ℕ) (a : Question) : Type 0 where
   pub bank : Accepted g
   pub some : 1 ≤ a .length
   pub short : a .length ≤ 16
+  pub voiced : a .voice ≤ 15
   pub counts : AllFit (chain g) (λ p w. 1) (start g) (a .length)
   pub diary : history.Accepted h
-  pub single : (s : List ℕ) → length s ≡ a .length → heard h s ≡ true → Single g s
+  pub single : (s : List ℕ) → length s ≡ a .length → heard h (a .voice) s ≡ true → Single g s
 
 -- ---- what a draw answers, and the unheard list's entries, as derivation number and sentence
 
@@ -58,10 +60,10 @@ asShown e = record { number = e .number; words = sentence (e .tree) }
 
 pub record Demand3 (g h : List ℕ) (a : Question) : Type 0 where
   -- the unheard list has just the derivations whose sentence is unheard, each with its derivation number, in the order above
-  pub entries : (e : Entry) → (e ∈ unheard g h a) ↔ (HasNumber g (a .length) (e .tree) (e .number) × (heard h (sentence (e .tree)) ≡ false))
+  pub entries : (e : Entry) → (e ∈ unheard g h a) ↔ (HasNumber g (a .length) (e .tree) (e .number) × (heard h (a .voice) (sentence (e .tree)) ≡ false))
   pub ordered : Pairwise (λ (e f : Entry). Before (e .tree) (f .tree)) (unheard g h a)
   -- "heard (distinct heard sentences of that length with one derivation)": so many there are, and no more than T
-  pub heard-are : Exactly (heardOf g h a) (λ s. (length s ≡ a .length) × (heard h s ≡ true) × ((t : Tree) × OneDerivation g s t))
+  pub heard-are : Exactly (heardOf g h a) (λ s. (length s ≡ a .length) × (heard h (a .voice) s ≡ true) × ((t : Tree) × OneDerivation g s t))
   pub heard-few : heardOf g h a ≤ totalOf g (a .length)
   -- "Left, as *Left* and every accepted *Draw* give it, is the length of the unheard list."
   pub left : remainingTo g h a ≡ given (totalOf g (a .length) ∷ heardOf g h a ∷ length (unheard g h a) ∷ []) []
@@ -85,20 +87,20 @@ Derivable g s = (t : Tree) × Reading g s t
 -- Where no sentence of length n has two derivations, each derivable sentence that is unheard is drawn by exactly one number below left,
 -- and nothing else is drawn.
 pub record Once (g h : List ℕ) (a : Question) (out : ℕ → List ℕ) : Type 0 where
-  pub each : (s : List ℕ) → length s ≡ a .length → Derivable g s → heard h s ≡ false
+  pub each : (s : List ℕ) → length s ≡ a .length → Derivable g s → heard h (a .voice) s ≡ false
       → Exactly 1 (λ q. (q < length (unheard g h a)) × (take (a .length) (drawTo g h a q (out q) .buffer) ≡ s))
   pub other : (q : ℕ) → q < length (unheard g h a)
-      → (s : List ℕ) × (take (a .length) (drawTo g h a q (out q) .buffer) ≡ s) × (length s ≡ a .length) × Derivable g s × (heard h s ≡ false)
+      → (s : List ℕ) × (take (a .length) (drawTo g h a q (out q) .buffer) ≡ s) × (length s ≡ a .length) × Derivable g s × (heard h (a .voice) s ≡ false)
 
 -- ---- two histories
 
--- "A diary bars the heard sentences that have a derivation of S."
-abbrev pub Bars : (g h s : List ℕ) → Type 0
-Bars g h s = (heard h s ≡ true) × Derivable g s
+-- "A diary bars the heard sentences that have a derivation of S." In the voice v.
+abbrev pub Bars : (g h : List ℕ) (v : ℕ) (s : List ℕ) → Type 0
+Bars g h v s = (heard h v s ≡ true) × Derivable g s
 
 -- two diaries "that bar the same sentences of length n"
 abbrev pub SameBarred : (g h h′ : List ℕ) (a : Question) → Type 0
-SameBarred g h h′ a = (s : List ℕ) → length s ≡ a .length → (Bars g h s ↔ Bars g h′ s)
+SameBarred g h h′ a = (s : List ℕ) → length s ≡ a .length → (Bars g h (a .voice) s ↔ Bars g h′ (a .voice) s)
 
 -- "*Left* gives the same figures. For every q, *Draw* gives the same refusal or the same figures, and from equal buffers it leaves equal
 -- buffers."

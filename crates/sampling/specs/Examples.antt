@@ -44,6 +44,13 @@ heardTwice =
     1 ∷ 0 ∷ 2 ∷ 0 ∷ 0 ∷ 1 ∷
     0 ∷ 0 ∷ 0 ∷ 0 ∷ 0 ∷ 0 ∷ 0 ∷ 0 ∷ 0 ∷ 0 ∷ 0 ∷ 0 ∷ 0 ∷ 0 ∷ []
 
+-- the same sentence logged in voice 5: the fourth byte is 16 times that
+abbrev pub heardInFive : List ℕ
+heardInFive =
+    1 ∷ 0 ∷ 1 ∷ 0 ∷
+    0 ∷ 0 ∷ 2 ∷ 80 ∷ 0 ∷ 1 ∷
+    0 ∷ 0 ∷ 0 ∷ 0 ∷ 0 ∷ 0 ∷ 0 ∷ 0 ∷ 0 ∷ 0 ∷ 0 ∷ 0 ∷ 0 ∷ 0 ∷ []
+
 pub record Examples : Type 0 where
   -- "P1: F, length 1: T 0. P2: length 2: T 4. P3: length 16: T 65,536."
   pub p1 : countOf F 1 ≡ given (0 ∷ []) []
@@ -53,13 +60,13 @@ pub record Examples : Type 0 where
   pub p4 : (out : List ℕ) → 3 ≤ length out → unrankOf F 3 5 out ≡ given (8 ∷ []) (1 ∷ 0 ∷ 1 ∷ drop 3 out)
   pub p5 : (out : List ℕ) → unrankOf F 3 8 out ≡ refused 16 1 out
   pub p6 : rankOf F (1 ∷ 0 ∷ 1 ∷ []) ≡ given (5 ∷ 8 ∷ 1 ∷ []) []
-  -- P7, the first line's figures: T 4, heard 1, left 3; then those of the draws 0 to 2
-  pub p7 : remainingOf F heard01 2 ≡ given (4 ∷ 1 ∷ 3 ∷ []) []
+  -- P7, the first line's figures: T 4, heard 1, left 3; then those of the draws 0 to 2. "the listing program uses voice 0" (document 02, U4).
+  pub p7 : remainingOf F heard01 2 0 ≡ given (4 ∷ 1 ∷ 3 ∷ []) []
   pub p7-draws : (out : List ℕ) → 2 ≤ length out
-      → map (λ q. drawOf F heard01 2 q out) (upFrom 0 3)
+      → map (λ q. drawOf F heard01 2 0 q out) (upFrom 0 3)
       ≡ given (3 ∷ 0 ∷ []) (0 ∷ 0 ∷ drop 2 out) ∷ given (3 ∷ 2 ∷ []) (1 ∷ 0 ∷ drop 2 out) ∷ given (3 ∷ 3 ∷ []) (1 ∷ 1 ∷ drop 2 out) ∷ []
   -- "P8: same diary, draw 3: refused 16."
-  pub p8 : (out : List ℕ) → drawOf F heard01 2 3 out ≡ refused 16 2 out
+  pub p8 : (out : List ℕ) → drawOf F heard01 2 0 3 out ≡ refused 16 2 out
   -- "P9: T at 3 is 2, at 4 is 5." P10, sentence 0 0 0: "P10 becomes 2 derivations, lowest number 0" (document 02, U6)
   pub p9 : countOf G 3 ≡ given (2 ∷ []) []
   pub p9-four : countOf G 4 ≡ given (5 ∷ []) []

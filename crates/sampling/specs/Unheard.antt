@@ -1,5 +1,6 @@
 -- The full list with derivation numbers and the unheard list (document 01, section 'The draws as one list'), and the heard sentences
--- that *Left* counts. They come from the bytes of grammar and history, not from T and not from any call's answer.
+-- that *Left* counts, each in the voice that is asked for. They come from the bytes of grammar and history, not from T and not from any call's
+-- answer.
 -- Assumes nothing: these are definitions.
 use mathlib.Core.Path.{_≡_}
 use mathlib.Core.Logic.{_↔_}
@@ -24,14 +25,14 @@ abbrev pub entriesFrom : (d : ℕ) → List Tree → List Entry
 entriesFrom d [] = []
 entriesFrom d (t ∷ l) = record { number = d; tree = t } ∷ entriesFrom (suc d) l
 
--- the derivation's sentence is unheard: outside the diary
-abbrev pub outside : (h : List ℕ) → Tree → Bool
-outside h t = not (heard h (sentence t))
+-- the derivation's sentence is unheard in the voice v: outside the diary
+abbrev pub outside : (h : List ℕ) (v : ℕ) → Tree → Bool
+outside h v t = not (heard h v (sentence t))
 
 -- "The full list holds every derivation of S with length n, each once, in the order above. Its entry d, counted from 0, so has derivation
 -- number d. Strike each entry whose sentence is heard. What remains, in the same order, is the unheard list."
 unfoldable pub unheard : (g h : List ℕ) (a : Question) → List Entry
-unheard g h a = keep (λ e. outside h (e .tree)) (entriesFrom 0 (fullList g (a .length)))
+unheard g h a = keep (λ e. outside h (a .voice) (e .tree)) (entriesFrom 0 (fullList g (a .length)))
 
 -- ---- what *Left* counts
 
@@ -40,21 +41,22 @@ abbrev pub distinct : List (List ℕ) → List (List ℕ)
 distinct [] = []
 distinct (s ∷ l) = cond (someOf (same s) l) (distinct l) (s ∷ distinct l)
 
--- the sentences of a history that have n words
-abbrev pub ofLength : (n : ℕ) (h : List ℕ) → List (List ℕ)
-ofLength n h = keep (λ s. eqb (length s) n) (sentencesIn h)
+-- the sentences of a history, in the voice, that have the length
+abbrev pub ofLength : (h : List ℕ) (a : Question) → List (List ℕ)
+ofLength h a = keep (λ s. eqb (length s) (a .length)) (sentencesIn h (a .voice))
 
 -- "heard (distinct heard sentences of that length with one derivation)"
 unfoldable pub heardOf : (g h : List ℕ) (a : Question) → ℕ
-heardOf g h a = length (distinct (keep (λ s. eqb (readingsOf g s) 1) (ofLength (a .length) h)))
+heardOf g h a = length (distinct (keep (λ s. eqb (readingsOf g s) 1) (ofLength h a)))
 
 -- "left = T - heard"
 abbrev pub leftOf : (g h : List ℕ) (a : Question) → ℕ
 leftOf g h a = totalOf g (a .length) - heardOf g h a
 
--- "15. A diary sentence of the named length has two or more derivations from S (*Left*, *Draw*)."
+-- "15. A diary sentence of the named length has two or more derivations from S (*Left*, *Draw*)." It "reads only records of the given voice"
+-- (document 02, U4).
 unfoldable pub ambiguous : (g h : List ℕ) (a : Question) → Bool
-ambiguous g h a = someOf (λ s. leb 2 (readingsOf g s)) (ofLength (a .length) h)
+ambiguous g h a = someOf (λ s. leb 2 (readingsOf g s)) (ofLength h a)
 
 -- how many derivations *Number* says that a sentence has: its third figure, 0 on a refusal
 abbrev pub derivationsGiven : (g s : List ℕ) → ℕ
@@ -62,4 +64,4 @@ derivationsGiven g s = getD (rankOf g s .figures) 2 0
 
 -- "Refusal 15 is returned for the same diaries, by way of the new figure." (document 02, U6)
 abbrev pub Fifteen : (g h : List ℕ) (a : Question) → Type 0
-Fifteen g h a = (ambiguous g h a ≡ true) ↔ ((s : List ℕ) × (length s ≡ a .length) × (heard h s ≡ true) × (2 ≤ derivationsGiven g s))
+Fifteen g h a = (ambiguous g h a ≡ true) ↔ ((s : List ℕ) × (length s ≡ a .length) × (heard h (a .voice) s ≡ true) × (2 ≤ derivationsGiven g s))

@@ -1,6 +1,7 @@
 // *Draw*: the unheard derivation that has so many unheard ones before it.
 ghost use mathlib.Core.Path.{_≡_};
-ghost use Rattle.sampling.specs.Answers.{drawOf};
+ghost use Rattle.sampling.specs.Answers.{drawTo};
+ghost use Rattle.sampling.specs.Question.{asked};
 ghost use Rattle.sampling.specs.Inner.Says.{drawSays};
 ghost use Rattle.sampling.specs.Inner.Drawing.{DrawSought, drawSkipping};
 ghost use Rattle.sampling.specs.Inner.Preparing.{Room};
@@ -46,34 +47,40 @@ pub fn draw_prepared(
 fn draw_in(
     g: &[u8],
     h: &[u8],
-    n: u64,
+    question: Question,
     q: DrawNumber,
     numbers: &mut [u64],
     out: &mut [u8],
 ) -> DrawAnswer
     requires { ⌜ Room (now h) (now numbers) ⌝ }
-    ensures { λ r. ⌜ drawSays r (now (out .exit)) ≡ drawOf (now (g .entry)) (now (h .entry)) n (q .0) (now (out .entry)) ⌝ }
+    ensures { λ r. ⌜ drawSays r (now (out .exit)) ≡ drawTo (now (g .entry)) (now (h .entry)) (asked question) (q .0) (now (out .entry)) ⌝ }
 {
     let byte_row = [0u8; 256];
     let mut rules = [byte_row; 4];
     let row = [0u64; 32];
     let mut totals = [row; 17];
-    let question = Question { length: n };
     let p = prepare::prepare(g, h, question, &mut rules, &mut totals, numbers);
     match p {
         Sampled::Refused(r) => DrawAnswer::Refused(r),
-        Sampled::Ready(k) => draw_prepared(&rules, &totals, n as usize, &numbers[0..k], q, out),
+        Sampled::Ready(k) => draw_prepared(
+            &rules,
+            &totals,
+            question.length as usize,
+            &numbers[0..k],
+            q,
+            out,
+        ),
     }
 }
 
 // The room as for *Left*.
-pub fn draw(g: &[u8], h: &[u8], n: u64, q: DrawNumber, out: &mut [u8]) -> DrawAnswer
-    ensures { λ r. ⌜ drawSays r (now (out .exit)) ≡ drawOf (now (g .entry)) (now (h .entry)) n (q .0) (now (out .entry)) ⌝ }
+pub fn draw(g: &[u8], h: &[u8], question: Question, q: DrawNumber, out: &mut [u8]) -> DrawAnswer
+    ensures { λ r. ⌜ drawSays r (now (out .exit)) ≡ drawTo (now (g .entry)) (now (h .entry)) (asked question) (q .0) (now (out .entry)) ⌝ }
 {
     if h.len() <= 2004 {
         let mut numbers = [0u64; 100];
-        return draw_in(g, h, n, q, &mut numbers, out);
+        return draw_in(g, h, question, q, &mut numbers, out);
     }
     let mut numbers = [0u64; 1000];
-    draw_in(g, h, n, q, &mut numbers, out)
+    draw_in(g, h, question, q, &mut numbers, out)
 }

@@ -3,13 +3,13 @@ ghost use Prim.Native.Nat.{_≤_};
 ghost use lib.ListN.{length};
 ghost use Rattle.sorting.specs.Inner.Sorted.{SortedAs};
 ghost use Rattle.sampling.specs.Question.{asked};
+ghost use Rattle.counting.specs.Inner.Preparing as tables;
 ghost use Rattle.ranking.specs.Inner.Ranking.{Roomy};
-ghost use Rattle.sampling.specs.Inner.Preparing.{Lent, NumbersSought, NumbersAs, RecordsSought, RecordedAs, SampledAs};
+ghost use Rattle.sampling.specs.Inner.Preparing.{AskedAs, Lent, NumbersSought, NumbersAs, RecordsSought, RecordedAs, SampledAs};
 use crate::heard;
 use crate::heard::Collected;
 use crate::question::Question;
 use answers::refusal::Refusal;
-use charts::maps;
 use charts::ready;
 use counting::prepare;
 use counting::prepare::Prepared;
@@ -42,13 +42,14 @@ fn heard_numbers_in(
     rules: &[[u8; 256]],
     totals: &[[u64; 32]],
     h: &[u8],
-    n: usize,
+    question: Question,
     numbers: &mut [u64],
     chart: &mut [[u64; 32]],
 ) -> Sampled
-    requires { ⌜ NumbersSought (now rules) (now totals) (now h) n (now numbers) × Roomy n (now chart) ⌝ }
-    ensures { λ s. ⌜ NumbersAs (now (rules .entry)) (now (h .entry)) n (now (numbers .exit)) s ⌝ }
+    requires { ⌜ NumbersSought (now rules) (now totals) (now h) (asked question) (now numbers) × Roomy (question .length) (now chart) ⌝ }
+    ensures { λ s. ⌜ NumbersAs (now (rules .entry)) (now (h .entry)) (asked question) (now (numbers .exit)) s ⌝ }
 {
+    let n = question.length as usize;
     tallies::copy(totals, n, chart);
     let row = [0u8; 256];
     let mut linked = [row; 13];
@@ -58,8 +59,7 @@ fn heard_numbers_in(
     let map_row = [0u16; 16];
     let mut map = [map_row; 17];
     ready::ready(&mut linked, chart, n, &mut plan, &mut map);
-    let counts = maps::EVERYWHERE;
-    let c = heard::collect(&linked, &plan, &mut map, &counts, h, chart, numbers);
+    let c = heard::collect(&linked, &plan, &mut map, h, question, chart, numbers);
     match c {
         Collected::Ambiguous => Sampled::Refused(Refusal::HeardAmbiguous),
         Collected::Numbers(k) => {
@@ -74,19 +74,19 @@ fn heard_numbers(
     rules: &[[u8; 256]],
     totals: &[[u64; 32]],
     h: &[u8],
-    n: usize,
+    question: Question,
     numbers: &mut [u64],
 ) -> Sampled
-    requires { ⌜ NumbersSought (now rules) (now totals) (now h) n (now numbers) ⌝ }
-    ensures { λ s. ⌜ NumbersAs (now (rules .entry)) (now (h .entry)) n (now (numbers .exit)) s ⌝ }
+    requires { ⌜ NumbersSought (now rules) (now totals) (now h) (asked question) (now numbers) ⌝ }
+    ensures { λ s. ⌜ NumbersAs (now (rules .entry)) (now (h .entry)) (asked question) (now (numbers .exit)) s ⌝ }
 {
     let row = [0u64; 32];
-    if n <= 5 {
+    if question.length <= 5 {
         let mut chart = [row; 33];
-        return heard_numbers_in(rules, totals, h, n, numbers, &mut chart);
+        return heard_numbers_in(rules, totals, h, question, numbers, &mut chart);
     }
     let mut chart = [row; 154];
-    heard_numbers_in(rules, totals, h, n, numbers, &mut chart)
+    heard_numbers_in(rules, totals, h, question, numbers, &mut chart)
 }
 
 // 11 to 15. No chart is made for a history without records.
@@ -94,11 +94,11 @@ fn records(
     rules: &[[u8; 256]],
     totals: &[[u64; 32]],
     h: &[u8],
-    n: usize,
+    question: Question,
     numbers: &mut [u64],
 ) -> Sampled
-    requires { ⌜ RecordsSought (now rules) (now totals) (now h) n (now numbers) ⌝ }
-    ensures { λ s. ⌜ RecordedAs (now (rules .entry)) (now (h .entry)) n (now (numbers .exit)) s ⌝ }
+    requires { ⌜ RecordsSought (now rules) (now totals) (now h) (asked question) (now numbers) ⌝ }
+    ensures { λ s. ⌜ RecordedAs (now (rules .entry)) (now (h .entry)) (asked question) (now (numbers .exit)) s ⌝ }
 {
     let a = checks::check(h);
     match a {
@@ -107,12 +107,31 @@ fn records(
             if k == 0 {
                 return Sampled::Ready(0);
             }
-            heard_numbers(rules, totals, h, n, numbers)
+            heard_numbers(rules, totals, h, question, numbers)
         }
     }
 }
 
-// 1 to 10, then 11 to 15.
+// 1 to 9, 22 and 10.
+fn ask(g: &[u8], question: Question, rules: &mut [[u8; 256]], totals: &mut [[u64; 32]]) -> Prepared
+    requires { ⌜ tables.Lent (now rules) (now totals) ⌝ }
+    ensures { λ r. ⌜ AskedAs (now (g .entry)) (asked question) (now (rules .exit)) (now (totals .exit)) r ⌝ }
+{
+    let opened = prepare::open(g, question.length, rules);
+    match opened {
+        Prepared::Refused(r) => return Prepared::Refused(r),
+        Prepared::Ready => {}
+    }
+    if 15 < question.voice {
+        return Prepared::Refused(Refusal::BadVoice);
+    }
+    if tallies::fill(rules, question.length as usize, totals) {
+        return Prepared::Ready;
+    }
+    Prepared::Refused(Refusal::TooManyDerivations)
+}
+
+// 1 to 9, 22 and 10, then 11 to 15.
 pub fn prepare(
     g: &[u8],
     h: &[u8],
@@ -124,9 +143,9 @@ pub fn prepare(
     requires { ⌜ Lent (now h) (now rules) (now totals) (now numbers) ⌝ }
     ensures { λ s. ⌜ SampledAs (now (g .entry)) (now (h .entry)) (asked question) (now (rules .exit)) (now (totals .exit)) (now (numbers .exit)) s ⌝ }
 {
-    let p = prepare::prepare(g, question.length, rules, totals);
+    let p = ask(g, question, rules, totals);
     match p {
         Prepared::Refused(r) => Sampled::Refused(r),
-        Prepared::Ready => records(rules, totals, h, question.length as usize, numbers),
+        Prepared::Ready => records(rules, totals, h, question, numbers),
     }
 }

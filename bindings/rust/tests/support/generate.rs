@@ -1,4 +1,4 @@
-//! Cases from a seed: grammars of several families, histories, numbers, and damage of every kind.
+//! Cases from a seed: grammars of several families, histories, voices, numbers, and damage of every kind.
 use super::case::{Call, Case};
 use super::reference::{Full, Grammar, next, read_grammar, totals};
 
@@ -388,23 +388,27 @@ pub fn damage_grammar(rng: &mut Rng, bytes: &mut Vec<u8>, aim: u8) {
 
 // ---- Histories
 
+/// A voice, and the words of a sentence heard in it.
+pub type Spoken = (u8, Vec<u8>);
+
 /// The bytes of a history with these sentences along its chain. Numbered backward it is what *Log* leaves.
-pub fn history(sentences: &[Vec<u8>], numbers: &[usize], slack: &[u8]) -> Vec<u8> {
+pub fn history(sentences: &[Spoken], numbers: &[usize], slack: &[u8]) -> Vec<u8> {
     let k = sentences.len();
     let mut bytes = vec![0; 4 + 20 * k];
     bytes[..2].copy_from_slice(&(k as u16).to_le_bytes());
     let mut link = 2;
-    for (sentence, &number) in sentences.iter().zip(numbers) {
+    for ((voice, words), &number) in sentences.iter().zip(numbers) {
         bytes[link..link + 2].copy_from_slice(&(number as u16).to_le_bytes());
         link = 4 + 20 * (number - 1);
-        bytes[link + 2] = sentence.len() as u8;
-        bytes[link + 4..link + 4 + sentence.len()].copy_from_slice(sentence);
+        bytes[link + 2] = words.len() as u8;
+        bytes[link + 3] = 16 * voice;
+        bytes[link + 4..link + 4 + words.len()].copy_from_slice(words);
     }
     bytes.extend(slack);
     bytes
 }
 
-fn random_history(rng: &mut Rng, sentences: &[Vec<u8>]) -> Vec<u8> {
+fn random_history(rng: &mut Rng, sentences: &[Spoken]) -> Vec<u8> {
     let k = sentences.len();
     let mut numbers: Vec<usize> = match rng.below(3) {
         0 => (1..=k).collect(),
@@ -464,11 +468,14 @@ pub fn damage_history(rng: &mut Rng, bytes: &mut Vec<u8>, aim: u8) {
         12 if k > 0 => {
             let at = 4 + 20 * rng.below(k);
             let length = usize::from(bytes[at + 2]);
-            match rng.below(4) {
+            match rng.below(6) {
                 0 => bytes[at + 2] = rng.pick(&[0, 17, 18, 32, 128, 255]),
-                1 => bytes[at + 3] = rng.pick(&[1, 16, 128, 255]),
-                2 if length < 16 => bytes[at + 4 + length] = 1 + rng.below(255) as u8,
-                3 if length < 16 => bytes[at + 19] = 1 + rng.below(255) as u8,
+                // Low bits beside the voice, low bits alone, and voices that do no harm.
+                1 => bytes[at + 3] |= 1 + rng.below(15) as u8,
+                2 => bytes[at + 3] = 1 + rng.below(15) as u8,
+                3 => bytes[at + 3] = rng.pick(&[1, 8, 15, 16, 17, 128, 136, 240, 241, 255]),
+                4 if length < 16 => bytes[at + 4 + length] = 1 + rng.below(255) as u8,
+                5 if length < 16 => bytes[at + 19] = 1 + rng.below(255) as u8,
                 _ => bytes[at + 2] = (length as u8).saturating_sub(1),
             }
         }
@@ -488,6 +495,36 @@ pub fn damage_history(rng: &mut Rng, bytes: &mut Vec<u8>, aim: u8) {
 /// Lengths that 9 refuses; several are right in their low byte or low half.
 const BAD_LENGTHS: [u64; 12] =
     [0, 17, 18, 32, 255, 256, 256 + 3, 65536 + 5, (1 << 32) + 2, (1 << 32) + 5, 1 << 63, u64::MAX];
+
+/// Voices that 22 refuses.
+pub const BAD_VOICES: [u64; 12] = [16, 17, 31, 32, 128, 255, 256, 65536, 1 << 32, (1 << 32) + 256, 1 << 63, u64::MAX];
+
+/// A voice from 0 to 15.
+fn voice(rng: &mut Rng) -> u8 {
+    let (small, any) = (1 + rng.below(3) as u8, rng.below(16) as u8);
+    rng.pick(&[0, 0, small, any, 15])
+}
+
+/// The voice that a call is handed: mostly the one that is meant, else one above 15, often with the same low bits.
+fn voice_asked(rng: &mut Rng, voice: u8) -> u64 {
+    if !rng.once_in(30) {
+        return u64::from(voice);
+    }
+    let bad = if rng.once_in(4) { rng.next() | 16 } else { rng.pick(&BAD_VOICES) };
+    if rng.once_in(2) { bad | u64::from(voice) } else { bad }
+}
+
+/// The voices of a history: mostly the one that is meant and perhaps another, so that sentences are heard in it;
+/// sometimes all sixteen, sometimes another alone.
+fn voices(rng: &mut Rng, voice: u8) -> Vec<u8> {
+    let other = rng.below(16) as u8;
+    match rng.below(12) {
+        0..=4 => vec![voice],
+        5..=8 => vec![voice, voice, other],
+        9 => vec![other],
+        _ => (0..16).collect(),
+    }
+}
 
 /// A length from 1 to 16, often one that has derivations.
 fn length(rng: &mut Rng, grammar: &Grammar) -> usize {
@@ -550,28 +587,50 @@ fn buffer(rng: &mut Rng, length: usize) -> Vec<u8> {
     rng.bytes(size)
 }
 
-/// The sentences of a history for a grammar: derivable ones of the named length and of others, repeats, strangers.
-fn sentences(rng: &mut Rng, grammar: &Grammar, length: usize, count: usize) -> Vec<Vec<u8>> {
+/// Adds a sentence's words again, in all these voices or in some, in one perhaps several times.
+fn again(rng: &mut Rng, sentences: &mut Vec<Spoken>, voices: &[u8]) {
+    if sentences.is_empty() {
+        return;
+    }
+    let words = sentences[rng.below(sentences.len())].1.clone();
+    if rng.once_in(3) {
+        sentences.extend(voices.iter().map(|&voice| (voice, words.clone())));
+    }
+    for _ in 0..1 + rng.below(5) {
+        sentences.push((rng.pick(voices), words.clone()));
+    }
+    rng.shuffle(sentences);
+    sentences.truncate(1000);
+}
+
+/// The sentences of a history for a grammar, heard in the named voice and in others: derivable ones of the named length
+/// and of others, repeats, strangers.
+fn sentences(rng: &mut Rng, grammar: &Grammar, length: usize, voice: u8, count: usize) -> Vec<Spoken> {
     let full = Full::new(grammar, length).ok();
     let total = full.as_ref().map_or(0, Full::total);
     let other_length = 1 + rng.below(6);
     let other = if rng.once_in(3) { Full::new(grammar, other_length).ok() } else { None };
-    let mut sentences: Vec<Vec<u8>> = vec![];
+    let (all, voices): (Vec<u8>, Vec<u8>) = ((0..16).collect(), voices(rng, voice));
+    let others: Vec<u8> = (0..16).filter(|&other| other != voice).collect();
+    let mut sentences: Vec<Spoken> = vec![];
     if (1..=60).contains(&total) && rng.once_in(8) {
         // All of them, or all but one.
-        sentences = (0..total).map(|d| full.as_ref().unwrap().sentence(d)).collect();
+        sentences = (0..total).map(|d| (voice, full.as_ref().unwrap().sentence(d))).collect();
         if rng.once_in(2) {
             let out = rng.below(sentences.len());
             sentences.remove(out);
+        }
+        if rng.once_in(3) {
+            sentences.iter_mut().for_each(|sentence| sentence.0 = rng.pick(&voices));
         }
         rng.shuffle(&mut sentences);
         return sentences;
     }
     let from = rng.below_u64(total.max(1)); // a run of neighbours begins there
-    let ambiguous_too = rng.once_in(4);
+    let ambiguous = rng.below(5); // 0: ambiguous ones too, 1: in other voices only
     for i in 0..count {
         let next = match (rng.below(12), &full) {
-            (0, _) if i > 0 => sentences[rng.below(i)].clone(),
+            (0, _) if i > 0 => sentences[rng.below(i)].1.clone(),
             (1, _) => {
                 let length = 1 + rng.below(16);
                 random_sentence(rng, usize::from(grammar.words), length)
@@ -597,9 +656,20 @@ fn sentences(rng: &mut Rng, grammar: &Grammar, length: usize, count: usize) -> V
             (_, Some(full)) if total > 0 => full.sentence(rng.below_u64(total)),
             _ => random_sentence(rng, usize::from(grammar.words), length),
         };
-        let one =
-            ambiguous_too || next.len() != length || full.as_ref().is_none_or(|full| full.readings(&next).count < 2);
-        sentences.push(if one { next } else { rng.bytes(length) });
+        let many = next.len() == length && full.as_ref().is_some_and(|full| full.readings(&next).count > 1);
+        let spoken = rng.pick(&voices);
+        sentences.push(match ambiguous {
+            0 if many => (spoken, next),
+            1 if many => (rng.pick(&others), next),
+            _ if many => (spoken, rng.bytes(length)),
+            _ => (spoken, next),
+        });
+    }
+    match rng.below(9) {
+        0 => again(rng, &mut sentences, &others),
+        1 if ambiguous != 1 => again(rng, &mut sentences, &voices),
+        2 if ambiguous != 1 => again(rng, &mut sentences, &all),
+        _ => {}
     }
     sentences
 }
@@ -652,14 +722,17 @@ fn history_case(rng: &mut Rng, call: Call) -> Case {
     let mut case = Case::new(call);
     let count = size(rng, 100);
     let words = rng.pick(&[2, 5, 50, 255]);
-    let sentences: Vec<Vec<u8>> = (0..count)
+    let voice = voice(rng);
+    let voices = voices(rng, voice);
+    let sentences: Vec<Spoken> = (0..count)
         .map(|_| {
             let length = 1 + rng.below(16);
-            random_sentence(rng, words, length)
+            (rng.pick(&voices), random_sentence(rng, words, length))
         })
         .collect();
     case.history = random_history(rng, &sentences);
     if call == Call::Append {
+        case.voice = voice_asked(rng, voice);
         let length = if rng.once_in(12) { rng.pick(&[0, 17, 18, 20, 255, 256, 257, 272]) } else { 1 + rng.below(16) };
         case.sentence = random_sentence(rng, words, length);
         // Room for the record, often just so; what stands there is junk.
@@ -702,10 +775,12 @@ pub fn case(rng: &mut Rng, call: Call) -> Case {
     }
     let mut heard = 0;
     if call.takes_history() {
+        let voice = voice(rng);
+        case.voice = voice_asked(rng, voice);
         let large = if read.chains.len() > 12 { 1500 } else { 250 };
         let count = size(rng, large);
-        let sentences = sentences(rng, &read, n, count);
-        heard = sentences.iter().filter(|sentence| sentence.len() == n).count() as u64;
+        let sentences = sentences(rng, &read, n, voice, count);
+        heard = sentences.iter().filter(|(spoken, words)| *spoken == voice && words.len() == n).count() as u64;
         case.history = random_history(rng, &sentences);
         if rng.once_in(8) {
             spoil_history(rng, &mut case.history);

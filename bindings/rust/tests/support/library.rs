@@ -80,7 +80,7 @@ fn through_c(case: &Case) -> Result<Answer, String> {
     let mut loan = Loan::new(case, 0xa5);
     let mut figures = [JUNK; 7];
     let [_, first, _, second, _, third, _] = &mut figures;
-    let Case { length, number, .. } = *case;
+    let Case { length, voice, number, .. } = *case;
     let (g, h, s) = (loan.grammar.slice(), loan.history.slice(), loan.sentence.slice());
     let (gp, gl, hp, hl, sp, sl) = (g.as_ptr(), g.len(), h.as_ptr(), h.len(), s.as_ptr(), s.len());
     // SAFETY: slices with their lengths, figures of this function; what is written is borrowed just before.
@@ -94,14 +94,14 @@ fn through_c(case: &Case) -> Result<Answer, String> {
                 ffi::pumpfennel_unrank(gp, gl, length, number, out, sl, first)
             }
             Call::Rank => ffi::pumpfennel_rank(gp, gl, sp, sl, first, second, third),
-            Call::Remaining => ffi::pumpfennel_remaining(gp, gl, hp, hl, length, first, second, third),
+            Call::Remaining => ffi::pumpfennel_remaining(gp, gl, hp, hl, length, voice, first, second, third),
             Call::Draw => {
                 let out = loan.sentence.slice_mut().as_mut_ptr();
-                ffi::pumpfennel_draw(gp, gl, hp, hl, length, number, out, sl, first, second)
+                ffi::pumpfennel_draw(gp, gl, hp, hl, length, voice, number, out, sl, first, second)
             }
             Call::Append => {
                 let out = loan.history.slice_mut().as_mut_ptr();
-                ffi::pumpfennel_append(out, hl, sp, sl, first)
+                ffi::pumpfennel_append(out, hl, sp, sl, voice, first)
             }
         }
     };
@@ -117,7 +117,7 @@ fn through_c(case: &Case) -> Result<Answer, String> {
 /// Through the safe function, with other guard bytes and in other places.
 fn through_rust(case: &Case) -> Result<Answer, String> {
     let mut loan = Loan::new(case, 0x5a);
-    let length = case.length;
+    let Case { length, voice, .. } = *case;
     let (g, h) = (loan.grammar.slice(), loan.history.slice());
     let result: Result<Vec<u64>, Refusal> = match case.call {
         Call::CheckGrammar => pumpfennel::check_grammar(g).map(|c| vec![c.nonterminals, c.words]),
@@ -128,13 +128,13 @@ fn through_rust(case: &Case) -> Result<Answer, String> {
             pumpfennel::unrank(g, length, DerivationNumber(case.number), out).map(|total| vec![total])
         }
         Call::Rank => pumpfennel::rank(g, loan.sentence.slice()).map(|r| vec![r.number.0, r.total, r.derivations]),
-        Call::Remaining => pumpfennel::remaining(g, h, length).map(|r| vec![r.total, r.heard, r.remaining]),
+        Call::Remaining => pumpfennel::remaining(g, h, length, voice).map(|r| vec![r.total, r.heard, r.remaining]),
         Call::Draw => {
             let out = loan.sentence.slice_mut();
-            pumpfennel::draw(g, h, length, DrawNumber(case.number), out).map(|d| vec![d.remaining, d.number.0])
+            pumpfennel::draw(g, h, length, voice, DrawNumber(case.number), out).map(|d| vec![d.remaining, d.number.0])
         }
         Call::Append => {
-            pumpfennel::append(loan.history.slice_mut(), loan.sentence.slice()).map(|records| vec![records])
+            pumpfennel::append(loan.history.slice_mut(), loan.sentence.slice(), voice).map(|records| vec![records])
         }
     };
     let buffer = loan.back(case)?;

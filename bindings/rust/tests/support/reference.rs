@@ -1,5 +1,6 @@
-//! Document 01, with document 02's U2, once more in plain Rust, for the tests alone: slow, and written from the documents' text. Where there
-//! are few derivations they are written down one by one; else the answers come from exact counts.
+//! Document 01, with document 02's U2, U4 and U6, once more in plain Rust, for the tests alone: slow, and written from
+//! the documents' text. Where there are few derivations they are written down one by one; else the answers come from
+//! exact counts.
 use super::case::{Answer, Call, Case};
 use std::collections::BTreeSet;
 
@@ -324,8 +325,9 @@ fn two_bytes(bytes: &[u8], at: usize) -> usize {
     usize::from(bytes[at]) + 256 * usize::from(bytes[at + 1])
 }
 
-/// "Diary bytes", and 11 to 14: the sentences along the chain.
-pub fn read_history(bytes: &[u8]) -> Result<Vec<&[u8]>, u8> {
+/// "Diary bytes", and 11 to 14: the sentences along the chain, each with its voice. Document 02, U4: "The high four bits
+/// of a record's fourth byte hold it."
+pub fn read_history(bytes: &[u8]) -> Result<Vec<(u8, &[u8])>, u8> {
     if bytes.len() < 4 || two_bytes(bytes, 0) > 1000 || bytes.len() < 4 + 20 * two_bytes(bytes, 0) {
         return Err(11);
     }
@@ -333,7 +335,8 @@ pub fn read_history(bytes: &[u8]) -> Result<Vec<&[u8]>, u8> {
     let records: Vec<&[u8]> = bytes[4..4 + 20 * k].chunks(20).collect();
     for record in &records {
         let length = usize::from(record[2]);
-        if !(1..=16).contains(&length) || record[3] != 0 || record[4 + length..].iter().any(|&byte| byte != 0) {
+        let low = record[3] & 0x0f;
+        if !(1..=16).contains(&length) || low != 0 || record[4 + length..].iter().any(|&byte| byte != 0) {
             return Err(12);
         }
     }
@@ -347,7 +350,7 @@ pub fn read_history(bytes: &[u8]) -> Result<Vec<&[u8]>, u8> {
         }
         met[at - 1] = true;
         let record = records[at - 1];
-        sentences.push(&record[4..4 + usize::from(record[2])]);
+        sentences.push((record[3] >> 4, &record[4..4 + usize::from(record[2])]));
         at = two_bytes(record, 0);
     }
     if met.contains(&false) {
@@ -361,9 +364,20 @@ fn fitting(length: u64) -> Result<usize, u8> {
     if (1..=16).contains(&length) { Ok(length as usize) } else { Err(9) }
 }
 
-/// The heard sentences of that length, and the derivation numbers of those that have a derivation; or 15.
-fn heard<'a>(sentences: &[&'a [u8]], length: usize, full: &Full) -> Result<(BTreeSet<&'a [u8]>, BTreeSet<u64>), u8> {
-    let heard: BTreeSet<&[u8]> = sentences.iter().copied().filter(|sentence| sentence.len() == length).collect();
+/// 22.
+fn fitting_voice(voice: u64) -> Result<u8, u8> {
+    if voice <= 15 { Ok(voice as u8) } else { Err(22) }
+}
+
+/// The sentences of that length heard in that voice, and the derivation numbers of those that have a derivation; or 15.
+fn heard<'a>(
+    sentences: &[(u8, &'a [u8])],
+    length: usize,
+    voice: u8,
+    full: &Full,
+) -> Result<(BTreeSet<&'a [u8]>, BTreeSet<u64>), u8> {
+    let asked = sentences.iter().filter(|(spoken, words)| *spoken == voice && words.len() == length);
+    let heard: BTreeSet<&[u8]> = asked.map(|&(_, words)| words).collect();
     let mut struck = BTreeSet::new();
     for sentence in &heard {
         match full.readings(sentence) {
@@ -411,9 +425,10 @@ fn attempt(case: &Case) -> Result<(Vec<u64>, Vec<u8>), u8> {
         Call::Remaining => {
             let grammar = read_grammar(&case.grammar)?;
             let length = fitting(case.length)?;
+            let voice = fitting_voice(case.voice)?;
             let full = Full::new(&grammar, length)?;
             let sentences = read_history(&case.history)?;
-            let (heard, struck) = heard(&sentences, length, &full)?;
+            let (heard, struck) = heard(&sentences, length, voice, &full)?;
             let (left, _) = full.unheard(&heard, &struck, 0);
             assert_eq!(left, full.total() - struck.len() as u64);
             Ok((vec![full.total(), struck.len() as u64, left], vec![]))
@@ -421,9 +436,10 @@ fn attempt(case: &Case) -> Result<(Vec<u64>, Vec<u8>), u8> {
         Call::Draw => {
             let grammar = read_grammar(&case.grammar)?;
             let length = fitting(case.length)?;
+            let voice = fitting_voice(case.voice)?;
             let full = Full::new(&grammar, length)?;
             let sentences = read_history(&case.history)?;
-            let (heard, struck) = heard(&sentences, length, &full)?;
+            let (heard, struck) = heard(&sentences, length, voice, &full)?;
             let (left, entry) = full.unheard(&heard, &struck, case.number);
             let number = entry.ok_or(16)?;
             if case.sentence.len() < length {
@@ -433,6 +449,7 @@ fn attempt(case: &Case) -> Result<(Vec<u64>, Vec<u8>), u8> {
         }
         Call::Append => {
             let length = fitting(case.sentence.len() as u64)?;
+            let voice = fitting_voice(case.voice)?;
             let k = read_history(&case.history)?.len();
             if k == 1000 || case.history.len() < 4 + 20 * (k + 1) {
                 return Err(19);
@@ -444,6 +461,7 @@ fn attempt(case: &Case) -> Result<(Vec<u64>, Vec<u8>), u8> {
             record.fill(0);
             record[..2].copy_from_slice(&case.history[2..4]);
             record[2] = length as u8;
+            record[3] = voice << 4;
             record[4..4 + length].copy_from_slice(&case.sentence);
             Ok((vec![k as u64 + 1], after))
         }

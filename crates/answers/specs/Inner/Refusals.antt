@@ -1,8 +1,8 @@
--- Document 01's number of each refusal (section 'Why a call says no'). Written by tools/generate from refusals.txt.
+-- The number of each refusal (document 01, section 'Why a call says no'; document 02, 'Answers'). Written by tools/generate from refusals.txt.
 -- Assumes nothing: these are definitions.
 use Prim.Native.Nat.{ℕ}
 use Rattle.answers.specs.declared.refusal.Refusal.{Refusal}
-use Rattle.answers.specs.declared.refusal.Refusal.the-variants.{GrammarTooShort, GrammarOutOfRange, GrammarWrongSize, GrammarBadRule, GrammarBadLink, GrammarRuleMetTwice, GrammarRuleOnNoChain, GrammarEqualRules, BadLength, TooManyDerivations, HistoryWrongSize, HistoryBadRecord, HistoryBadLink, HistoryBadChain, HeardAmbiguous, NumberBeyond, SentenceUnderivable, HistoryFull, BufferTooShort}
+use Rattle.answers.specs.declared.refusal.Refusal.the-variants.{GrammarTooShort, GrammarOutOfRange, GrammarWrongSize, GrammarBadRule, GrammarBadLink, GrammarRuleMetTwice, GrammarRuleOnNoChain, GrammarEqualRules, BadLength, TooManyDerivations, HistoryWrongSize, HistoryBadRecord, HistoryBadLink, HistoryBadChain, HeardAmbiguous, NumberBeyond, SentenceUnderivable, HistoryFull, BufferTooShort, BadVoice}
 
 abbrev pub refusalNumber : Refusal → ℕ
 -- the grammar has fewer than 4 bytes
@@ -27,13 +27,13 @@ refusalNumber BadLength = 9
 refusalNumber TooManyDerivations = 10
 -- the history has fewer than 4 bytes, K is above 1,000, or it has fewer than 4 + 20K bytes
 refusalNumber HistoryWrongSize = 11
--- some record has a wrong length, a fourth byte that is not 0, or a non-zero byte beyond its words
+-- some record has a wrong length, a fourth byte whose low four bits are not 0, or a non-zero byte beyond its words
 refusalNumber HistoryBadRecord = 12
 -- the history's head or some next is above K
 refusalNumber HistoryBadLink = 13
 -- the history's chain meets a record twice or misses one
 refusalNumber HistoryBadChain = 14
--- a heard sentence of the length has two or more derivations
+-- a sentence of the length, heard in the voice, has two or more derivations
 refusalNumber HeardAmbiguous = 15
 -- the number is not below how many there are to choose from
 refusalNumber NumberBeyond = 16
@@ -43,3 +43,5 @@ refusalNumber SentenceUnderivable = 17
 refusalNumber HistoryFull = 19
 -- the sentence's buffer is shorter than the length
 refusalNumber BufferTooShort = 20
+-- the voice is above 15
+refusalNumber BadVoice = 22

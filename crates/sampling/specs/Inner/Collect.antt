@@ -28,7 +28,7 @@ use Rattle.sampling.specs.declared.heard.Collected.the-variants.{Numbers
 
 -- the places of the full list that are struck, rising: the heard derivation numbers
 abbrev pub barred : (g h : List ℕ) (a : Question) → List ℕ
-barred g h a = struck (outside h) (fullList g (a .length))
+barred g h a = struck (outside h (a .voice)) (fullList g (a .length))
 
 -- the number of a sentence with n words and one derivation; of any other none
 abbrev pub numbersIn : (rules : List (List ℕ)) (n : ℕ) (s : List ℕ) → List ℕ
@@ -38,9 +38,13 @@ numbersIn rules n s = cond (eqb (length s) n && eqb (readingsIn rules s) 1) (num
 abbrev pub manyIn : (rules : List (List ℕ)) (n : ℕ) (s : List ℕ) → Bool
 manyIn rules n s = eqb (length s) n && leb 2 (readingsIn rules s)
 
--- some sentence of a history with n words has two or more derivations
-abbrev pub ambiguousIn : (rules : List (List ℕ)) (h : List ℕ) (n : ℕ) → Bool
-ambiguousIn rules h n = someOf (λ s. leb 2 (readingsIn rules s)) (ofLength n h)
+-- some sentence of a history, in the voice and of the length asked for, has two or more derivations
+abbrev pub ambiguousIn : (rules : List (List ℕ)) (h : List ℕ) (a : Question) → Bool
+ambiguousIn rules h a = someOf (λ s. leb 2 (readingsIn rules s)) (ofLength h a)
+
+-- the numbers of the sentences of a history, in the voice and of the length asked for, along the chain
+abbrev pub allNumbersIn : (rules : List (List ℕ)) (h : List ℕ) (a : Question) → List ℕ
+allNumbersIn rules h a = concatMap (numbersIn rules (a .length)) (sentencesIn h (a .voice))
 
 -- ---- one sentence
 
@@ -63,17 +67,18 @@ pub record HeardFoundAs (rules plan map : List (List ℕ)) (s sets : List ℕ) (
 
 -- ---- all sentences
 
-pub record Collects (rules plan map counts : List (List ℕ)) (h : List ℕ) (totals : List (List ℕ)) (numbers : List ℕ) : Type 0 where
+-- the tables for the length asked for, an accepted history, and room for its numbers
+pub record Collects (rules plan map : List (List ℕ)) (h : List ℕ) (a : Question) (totals : List (List ℕ)) (numbers : List ℕ) : Type 0 where
+  pub planned : lengthIn plan ≡ a .length
   pub ready : Ready rules plan map totals (lengthIn plan)
-  pub everywhere : Everywhere counts
   pub zeros : (r A : ℕ) → chartRow ≤ r → entry totals r A ≡ 0
   pub diary : Accepted h
   pub room : recordsOf h ≤ length numbers
 
 -- the numbers along the chain, or that a sentence has two or more derivations
-abbrev pub CollectedIs : (rules : List (List ℕ)) (h : List ℕ) (n : ℕ) (numbers : List ℕ) → Collected → Type 0
-CollectedIs rules h n numbers (Numbers k) = (ambiguousIn rules h n ≡ false) × (k ≤ recordsOf h) × (take k numbers ≡ concatMap (numbersIn rules n) (sentencesIn h))
-CollectedIs rules h n numbers Ambiguous = ambiguousIn rules h n ≡ true
+abbrev pub CollectedIs : (rules : List (List ℕ)) (h : List ℕ) (a : Question) (numbers : List ℕ) → Collected → Type 0
+CollectedIs rules h a numbers (Numbers k) = (ambiguousIn rules h a ≡ false) × (k ≤ recordsOf h) × (take k numbers ≡ allNumbersIn rules h a)
+CollectedIs rules h a numbers Ambiguous = ambiguousIn rules h a ≡ true
 
-pub record CollectedAs (rules plan : List (List ℕ)) (h : List ℕ) (numbers : List ℕ) (c : Collected) : Type 0 where
-  pub holds : CollectedIs rules h (lengthIn plan) numbers c
+pub record CollectedAs (rules : List (List ℕ)) (h : List ℕ) (a : Question) (numbers : List ℕ) (c : Collected) : Type 0 where
+  pub holds : CollectedIs rules h a numbers c

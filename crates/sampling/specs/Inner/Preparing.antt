@@ -1,5 +1,5 @@
--- What *Left* and every *Draw* have at hand once the refusals 1 to 15 are passed: first the tables, by 1 to 10, then the heard numbers, by 11
--- to 15, which know the grammar through its tables alone.
+-- What *Left* and every *Draw* have at hand once the refusals 1 to 15 and 22 are passed: first the tables, by 1 to 9, 22 and 10, then the heard
+-- numbers, by 11 to 15, which know the grammar through its tables alone.
 -- Assumes nothing: these are definitions.
 use mathlib.Core.Path.{_≡_}
 use mathlib.Core.Logic.{_↔_}
@@ -7,22 +7,30 @@ use mathlib.Core.Bool.{true, false}
 use mathlib.Core.List.{List, [], _∷_, _++_}
 use Prim.Native.Nat.{ℕ, _≤_, _<_}
 use lib.ListN.{length, take}
-use Rattle.lists.specs.Joined.{_∈_, concatMap}
+use Rattle.lists.specs.Joined.{_∈_}
 use Rattle.lists.specs.Ordered.{Pairwise}
 use Rattle.answers.specs.Answer.{firstThatApplies}
 use Rattle.answers.specs.Inner.Refusals.{refusalNumber}
 use Rattle.counting.specs.Inner.Counted.{Counted}
 use Rattle.counting.specs.Inner.Preparing as tables
-use Rattle.counting.specs.Inner.Preparing.{Tabled}
+use Rattle.counting.specs.Inner.Preparing.{preparedNumber, Tabled}
+use Rattle.counting.specs.declared.prepare.Prepared.{Prepared}
+use Rattle.counting.specs.declared.prepare.Prepared.the-variants.{Ready as Tables}
 use Rattle.history.specs.Layout.{recordsOf}
 use Rattle.history.specs.Refusals.{historyRows, Accepted}
-use Rattle.history.specs.Heard.{sentencesIn}
 use Rattle.sampling.specs.Question.{Question}
-use Rattle.sampling.specs.Inner.Collect.{barred, numbersIn, ambiguousIn}
+use Rattle.sampling.specs.Inner.Collect.{barred, ambiguousIn, allNumbersIn}
 use Rattle.sampling.specs.Unheard.{ambiguous}
-use Rattle.sampling.specs.Answers.{remainingRows}
+use Rattle.sampling.specs.Answers.{askedRows, remainingRows}
 use Rattle.sampling.specs.declared.prepare.Sampled.{Sampled}
 use Rattle.sampling.specs.declared.prepare.Sampled.the-variants.{Ready, Refused}
+
+-- ---- 1 to 9, 22 and 10
+
+-- what the grammar and the question are answered: the refusal, or the tables
+pub record AskedAs (g : List ℕ) (a : Question) (rules totals : List (List ℕ)) (r : Prepared) : Type 0 where
+  pub refusal : preparedNumber r ≡ firstThatApplies (askedRows g a)
+  pub ready : r ≡ Tables → Tabled g (a .length) rules totals
 
 -- ---- 11 to 15, by the tables
 
@@ -30,38 +38,38 @@ use Rattle.sampling.specs.declared.prepare.Sampled.the-variants.{Ready, 
 abbrev pub Room : (h numbers : List ℕ) → Type 0
 Room h numbers = Accepted h → recordsOf h ≤ length numbers
 
--- the counts of the length n, and room for the numbers of a history
-pub record RecordsSought (rules totals : List (List ℕ)) (h : List ℕ) (n : ℕ) (numbers : List ℕ) : Type 0 where
-  pub counted : Counted rules totals n
+-- the counts of the length asked for, and room for the numbers of a history
+pub record RecordsSought (rules totals : List (List ℕ)) (h : List ℕ) (a : Question) (numbers : List ℕ) : Type 0 where
+  pub counted : Counted rules totals (a .length)
   pub room : Room h numbers
 
 -- and an accepted history
-pub record NumbersSought (rules totals : List (List ℕ)) (h : List ℕ) (n : ℕ) (numbers : List ℕ) : Type 0 where
-  pub counted : Counted rules totals n
+pub record NumbersSought (rules totals : List (List ℕ)) (h : List ℕ) (a : Question) (numbers : List ℕ) : Type 0 where
+  pub counted : Counted rules totals (a .length)
   pub diary : Accepted h
   pub room : recordsOf h ≤ length numbers
 
 -- the numbers of a history's sentences, rising, each once
-pub record Heard (rules : List (List ℕ)) (h : List ℕ) (n : ℕ) (heard : List ℕ) : Type 0 where
-  pub clear : ambiguousIn rules h n ≡ false
+pub record Heard (rules : List (List ℕ)) (h : List ℕ) (a : Question) (heard : List ℕ) : Type 0 where
+  pub clear : ambiguousIn rules h a ≡ false
   pub rising : Pairwise _<_ heard
-  pub just : (d : ℕ) → (d ∈ heard) ↔ (d ∈ concatMap (numbersIn rules n) (sentencesIn h))
+  pub just : (d : ℕ) → (d ∈ heard) ↔ (d ∈ allNumbersIn rules h a)
 
 -- these; or that line 15 applies
-abbrev pub Hold : (rules : List (List ℕ)) (h : List ℕ) (n : ℕ) (numbers : List ℕ) → Sampled → Type 0
-Hold rules h n numbers (Ready k) = (k ≤ recordsOf h) × Heard rules h n (take k numbers)
-Hold rules h n numbers (Refused r) = (ambiguousIn rules h n ≡ true) × (refusalNumber r ≡ 15)
+abbrev pub Hold : (rules : List (List ℕ)) (h : List ℕ) (a : Question) (numbers : List ℕ) → Sampled → Type 0
+Hold rules h a numbers (Ready k) = (k ≤ recordsOf h) × Heard rules h a (take k numbers)
+Hold rules h a numbers (Refused r) = (ambiguousIn rules h a ≡ true) × (refusalNumber r ≡ 15)
 
-pub record NumbersAs (rules : List (List ℕ)) (h : List ℕ) (n : ℕ) (numbers : List ℕ) (s : Sampled) : Type 0 where
-  pub hold : Hold rules h n numbers s
+pub record NumbersAs (rules : List (List ℕ)) (h : List ℕ) (a : Question) (numbers : List ℕ) (s : Sampled) : Type 0 where
+  pub hold : Hold rules h a numbers s
 
 -- these of an accepted history; or the first of 11 to 15 that applies
-abbrev pub Recorded : (rules : List (List ℕ)) (h : List ℕ) (n : ℕ) (numbers : List ℕ) → Sampled → Type 0
-Recorded rules h n numbers (Ready k) = Accepted h × (k ≤ recordsOf h) × Heard rules h n (take k numbers)
-Recorded rules h n numbers (Refused r) = refusalNumber r ≡ firstThatApplies (historyRows h ++ ((ambiguousIn rules h n, 15) ∷ []))
+abbrev pub Recorded : (rules : List (List ℕ)) (h : List ℕ) (a : Question) (numbers : List ℕ) → Sampled → Type 0
+Recorded rules h a numbers (Ready k) = Accepted h × (k ≤ recordsOf h) × Heard rules h a (take k numbers)
+Recorded rules h a numbers (Refused r) = refusalNumber r ≡ firstThatApplies (historyRows h ++ ((ambiguousIn rules h a, 15) ∷ []))
 
-pub record RecordedAs (rules : List (List ℕ)) (h : List ℕ) (n : ℕ) (numbers : List ℕ) (s : Sampled) : Type 0 where
-  pub recorded : Recorded rules h n numbers s
+pub record RecordedAs (rules : List (List ℕ)) (h : List ℕ) (a : Question) (numbers : List ℕ) (s : Sampled) : Type 0 where
+  pub recorded : Recorded rules h a numbers s
 
 -- ---- all, for the grammar
 

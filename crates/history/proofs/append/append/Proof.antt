@@ -8,14 +8,14 @@ use denote.Ref.{now}
 use Rattle.history.specs.Layout.{recordsOf}
 use Rattle.history.specs.Refusals.{Accepted}
 use Rattle.history.proofs.Acceptance.{known}
-use Rattle.history.proofs.Outcome.{log-low, log-high, log-history, log-room, log-accepted, room-full, room-short, room-there, check-accepted, check-refused}
+use Rattle.history.proofs.Outcome.{log-low, log-high, log-voice, log-history, log-room, log-accepted, room-full, room-short, room-there, check-accepted, check-refused}
 use Rattle.answers.proofs.Numbers.{number-some}
 use borrow.Author.Needs.{needs}
 use Rattle.history.proofs.append.append.Statement.{statement}
 use Rattle.history.proofs.append.append.Tie as tie
 
 abbrev bytes : tie.After-a2 → List ℕ
-bytes c = now (c .before .before .before .before .before .before .before .before .args .h)
+bytes c = now (c .before .before .before .before .before .before .before .before .before .args .h)
 
 -- what an accepted check has shown
 ok : (c : tie.After-a2) → Accepted (bytes c)
@@ -25,45 +25,48 @@ count : (c : tie.After-a2) → c .a2 .given .0 .0 ≡ recordsOf (bytes c)
 count c = check-accepted (bytes c) (c .before .before .check .ensures) (c .a2 .given .1) .1
 
 returns : tie.Need-returns
-returns c = log-low _ _ (c .if1 .taken)
+returns c = log-low _ _ _ (c .if1 .taken)
 
 returns-2 : tie.Need-returns-2
-returns-2 c = log-high _ _ (c .if2 .taken)
+returns-2 c = log-high _ _ _ (c .if2 .taken)
 
 returns-3 : tie.Need-returns-3
-returns-3 c =
-    let a = c .before .before in log-room _ _ (omega arith) (omega arith) (ok a) (room-full _ (omega (arith, count a)))
+returns-3 c = log-voice _ _ _ (omega arith) (omega arith) (c .if3 .taken)
+
+returns-4 : tie.Need-returns-4
+returns-4 c =
+    let a = c .before .before in log-room _ _ _ (omega arith) (omega arith) (omega arith) (ok a) (room-full _ (omega (arith, count a)))
 
 add-new : tie.Need-add-new
 add-new c = let k = known _ (ok (c .before .before)) .sized in omega (arith, count (c .before .before))
 
-mul-if4 : tie.Need-mul-if4
-mul-if4 c = let k = known _ (ok (c .before .before)) .sized in omega (arith, count (c .before .before))
+mul-if5 : tie.Need-mul-if5
+mul-if5 c = let k = known _ (ok (c .before .before)) .sized in omega (arith, count (c .before .before))
 
-add-if4 : tie.Need-add-if4
-add-if4 c = let k = known _ (ok (c .before .before)) .sized in omega (arith, count (c .before .before))
+add-if5 : tie.Need-add-if5
+add-if5 c = let k = known _ (ok (c .before .before)) .sized in omega (arith, count (c .before .before))
 
-returns-4 : tie.Need-returns-4
-returns-4 c =
-    let a = c .before .before .before in log-room _ _ (omega arith) (omega arith) (ok a) (room-short _ (omega (arith, count a)))
+returns-5 : tie.Need-returns-5
+returns-5 c =
+    let a = c .before .before .before in log-room _ _ _ (omega arith) (omega arith) (omega arith) (ok a) (room-short _ (omega (arith, count a)))
 
 write-requires : tie.Need-write-requires
 write-requires c κs =
     let a = c .before .before .before .before in
     let k = known _ (ok a) .sized in
-    (record { number = omega (arith, count a); few = omega (arith, count a); size = omega (arith, count a) }, omega arith)
-
-returns-5 : tie.Need-returns-5
-returns-5 c =
-    let a = c .before in
-    let s = a .before .before .before .before .before .before .before .before in
-    log-history (now (s .args .h)) (now (s .args .sentence)) (omega arith) (omega arith) _ (check-refused _ (a .before .before .check .ensures) (a .a .given .1)) (number-some (a .a .given .0 .0))
+    (record { number = omega (arith, count a); few = omega (arith, count a); size = omega (arith, count a) }, omega arith, omega arith)
 
 returns-6 : tie.Need-returns-6
 returns-6 c =
+    let a = c .before in
+    let s = a .before .before .before .before .before .before .before .before .before in
+    log-history (now (s .args .h)) (now (s .args .sentence)) (s .args .voice) (omega arith) (omega arith) (omega arith) _ (check-refused _ (a .before .before .check .ensures) (a .a .given .1)) (number-some (a .a .given .0 .0))
+
+returns-7 : tie.Need-returns-7
+returns-7 c =
     let w = c .before .before in
     let a = w .before .before .before .before .before in
-    log-accepted _ _ (omega arith) (omega arith) (ok a) (room-there _ (λ e. omega (arith, count a)) (omega (arith, count a))) (omega (arith, count a)) (w .write .ensures)
+    log-accepted _ _ _ (omega arith) (omega arith) (omega arith) (ok a) (room-there _ (λ e. omega (arith, count a)) (omega (arith, count a))) (omega (arith, count a)) (w .write .ensures)
 
 pub append-spec : {M : Type 1} → statement M
 append-spec =
@@ -71,19 +74,21 @@ append-spec =
     (tie.spec
     returns
     returns-2
+    returns-3
     (λ c κs. search needs)
     (λ c. search needs)
     (λ c. search needs)
     (λ c. search needs)
-    returns-3
-    add-new
-    mul-if4
-    add-if4
-    (λ c. search needs)
     returns-4
-    write-requires
-    (λ c. search needs)
+    add-new
+    mul-if5
+    add-if5
     (λ c. search needs)
     returns-5
     (λ c. search needs)
-    returns-6)
+    write-requires
+    (λ c. search needs)
+    (λ c. search needs)
+    returns-6
+    (λ c. search needs)
+    returns-7)

@@ -14,10 +14,10 @@ use Rattle.history.proofs.append.put_record.Statement.{statement}
 use Rattle.history.proofs.append.put_record.Tie as tie
 
 abbrev Inv-loop : tie.InvT-loop
-Inv-loop h₀ at next s i₀ h i = (i ≤ 20) × (h ≡ paste h₀ at (recordBytes next s) i) × (length h ≡ length h₀)
+Inv-loop h₀ at next fourth s i₀ h i = (i ≤ 20) × (h ≡ paste h₀ at (recordBytes next fourth s) i) × (length h ≡ length h₀)
 
 abbrev μ-loop : tie.MeasureT-loop
-μ-loop h₀ at next s i₀ h i = 20 - i
+μ-loop h₀ at next fourth s i₀ h i = 20 - i
 
 -- one byte more
 copied : (h : List ℕ) (at : ℕ) (bs : List ℕ) (i : ℕ) {l : List ℕ} {b : ℕ} → at + i < length h → i < length bs → l ≡ paste h at bs i → b ≡ getD bs i 0
@@ -26,14 +26,14 @@ copied h at bs i m n e f = rw (e, f) (paste-suc h at bs i 0 m n ∙ ap (paste h 
 
 loop-holds : tie.Need-loop-holds Inv-loop μ-loop
 loop-holds c =
-    let a = c .before .before .args in (omega arith, paste-zero (now (a .h)) (a .at) (recordBytes (a .next) (now (a .s))), refl)
+    let a = c .before .before .args in (omega arith, paste-zero (now (a .h)) (a .at) (recordBytes (a .next) (a .fourth) (now (a .s))), refl)
 
 loop-again : tie.Need-loop-again Inv-loop μ-loop
 loop-again c =
     let l = c .before .before in
     let a = l .before .before .before .args in
-    let m = record-length (a .next) (now (a .s)) (omega arith) in
-    let bs = recordBytes (a .next) (now (a .s)) in (
+    let m = record-length (a .next) (a .fourth) (now (a .s)) (omega arith) in
+    let bs = recordBytes (a .next) (a .fourth) (now (a .s)) in (
       omega arith,
       copied (now (a .h)) (a .at) bs (l .loop .i) (omega arith) (omega arith) (l .loop .inv .1) (c .record-byte .ensures),
       length-set (l .loop .h) (a .at + l .loop .i) (c .record-byte .result) ∙ l .loop .inv .2,
@@ -46,9 +46,9 @@ returns : tie.Need-returns Inv-loop μ-loop
 returns c =
     let l = c .before in
     let a = l .before .before .before .args in
-    let bs = recordBytes (a .next) (now (a .s)) in
+    let bs = recordBytes (a .next) (a .fourth) (now (a .s)) in
     let end : l .loop .i ≡ 20 = omega arith in
-    l .loop .inv .1 ∙ ap (paste (now (a .h)) (a .at) bs) end ∙ paste-put (now (a .h)) (a .at) bs 20 (record-length _ _ (omega arith))
+    l .loop .inv .1 ∙ ap (paste (now (a .h)) (a .at) bs) end ∙ paste-put (now (a .h)) (a .at) bs 20 (record-length _ _ _ (omega arith))
 
 pub put-record-spec : {M : Type 1} → statement M
 put-record-spec =

@@ -30,12 +30,12 @@ returns-4 c = rw (c .if4 .taken)
 returns-5 : tie.Need-returns-5
 returns-5 c =
     let s = c .before .before .before .before .before .before in
-    sym (record-word (s .args .next) (now (s .args .s)) (s .args .i) (omega arith))
+    sym (record-word (s .args .next) (s .args .fourth) (now (s .args .s)) (s .args .i) (omega arith))
 
 returns-6 : tie.Need-returns-6
 returns-6 c =
     let s = c .before .before .before .before .before in
-    sym (record-word (s .args .next) (now (s .args .s)) (s .args .i) (omega arith) ∙ List·getD-eq-default (now (s .args .s)) 0 {n = s .args .i - 4} (omega arith))
+    sym (record-word (s .args .next) (s .args .fourth) (now (s .args .s)) (s .args .i) (omega arith) ∙ List·getD-eq-default (now (s .args .s)) 0 {n = s .args .i - 4} (omega arith))
 
 pub record-byte-spec : {M : Type 1} → statement M
 record-byte-spec =

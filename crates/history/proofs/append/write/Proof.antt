@@ -14,7 +14,7 @@ returns c =
     let r = p .before in
     let t = r .before .before in
     let s = t .before .before .before .before in
-    written (now (s .args .h)) (now (s .args .sentence)) (s .args .new) (r .record-at .result) (t .two-at .result) (s .pre .0 .number)
+    written (now (s .args .h)) (now (s .args .sentence)) (s .args .voice) (s .args .new) (r .record-at .result) (t .two-at .result) (s .pre .0 .number)
     (r .record-at .ensures) (t .two-at .ensures .0) (p .put-record .ensures) (k .put-two .ensures) (b .put-two2 .ensures)
 
 pub write-spec : {M : Type 1} → statement M
@@ -23,6 +23,7 @@ write-spec =
     (tie.spec
     (λ c κs. search needs)
     (λ c κs. search needs)
+    (λ c. search needs)
     (λ c κs. search needs)
     (λ c κs. search needs)
     (λ c κs. search needs)

@@ -17,10 +17,10 @@ returns-2 : tie.Need-returns-2
 returns-2 c = misfit-high _ _ (omega arith)
 
 returns-3 : tie.Need-returns-3
-returns-3 c = misfit-fourth _ _ (omega arith) (omega arith) (c .if3 .taken)
+returns-3 c = misfit-fourth _ _ (omega arith) (omega arith) (λ e. omega (arith, c .if3 .taken))
 
 returns-4 : tie.Need-returns-4
-returns-4 c = misfit-full _ _ (omega arith) (c .before .if3 .left)
+returns-4 c = misfit-full _ _ (omega arith) (omega (arith, c .before .if3 .left))
 
 returns-5 : tie.Need-returns-5
 returns-5 c =
@@ -29,7 +29,7 @@ returns-5 c =
     let a = w .before .before .before .args in
     c .some-nonzero .ensures
     ∙ ap (λ (n : ℕ). someNonzero (now (a .h)) (a .at + 4 + n) (16 - n)) (w .wide .ensures .0)
-    ∙ misfit-beyond _ _ (omega arith) (omega arith) (e .before .if3 .left)
+    ∙ misfit-beyond _ _ (omega arith) (omega arith) (omega (arith, e .before .if3 .left))
 
 pub misfit-spec : {M : Type 1} → statement M
 misfit-spec =

@@ -10,7 +10,7 @@ use lib.ListN.{length}
 use Rattle.lists.proofs.Tables.{wide-made}
 use Rattle.history.specs.Layout.{recordsOf}
 use Rattle.history.proofs.Acceptance.{known}
-use Rattle.charts.proofs.Mapping.{counts-map}
+use Rattle.sampling.specs.Question.{asked}
 use Rattle.sampling.specs.Inner.Collect.{CollectedIs}
 use Rattle.sampling.specs.declared.heard.Collected.the-variants.{Numbers}
 use Rattle.sampling.proofs.Readying.{counts-asked, asks-ready, asks-collect, collected-is}
@@ -28,7 +28,7 @@ abbrev copies : tie.After-ready → tie.After-copy2
 copies c = c .before .before .before .before .before .before
 
 abbrev readied : tie.After-collect → tie.After-ready
-readied c = c .before .before .before .before .before .before .before .before
+readied c = c .before .before .before .before .before .before .before
 
 abbrev collected : tie.After-slice-known2 → tie.After-collect
 collected c = c .before .before .before
@@ -40,7 +40,7 @@ found c = c .collect .last .1 .1 .1 .1 .1 .1 .0
 numbered : (c : tie.After-known-told)
     → let k = collected (c .before .before .before) in
     let a = start (counts (copies (readied k))) .args in
-    CollectedIs (now (a .rules)) (now (a .h)) (a .n) (found k) (Numbers (c .before .c .given .0 .0))
+    CollectedIs (now (a .rules)) (now (a .h)) (asked (a .question)) (found k) (Numbers (c .before .c .given .0 .0))
 numbered c =
     let k = collected (c .before .before .before) in
     let r = readied k in
@@ -67,11 +67,11 @@ ready-requires c κs =
 
 collect-requires : tie.Need-collect-requires
 collect-requires c κs =
-    let r = c .before .before .before .before .before .before .before in
+    let r = c .before .before .before .before .before .before in
     let p = copies r in
     let a = counts p in
     let s = start a .pre in
-    asks-collect (s .0) (s .1) (a .copy .ensures) (p .copy2 .ensures) (r .ready .ensures) counts-map
+    asks-collect (s .0) (s .1) (a .copy .ensures) (p .copy2 .ensures) (r .ready .ensures)
 
 part-order-end : tie.Need-part-order-end
 part-order-end c = let n = numbered c in let l = lengthy (collected (c .before .before .before)) in omega (arith, n .1, l)

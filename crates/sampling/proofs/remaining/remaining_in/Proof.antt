@@ -2,7 +2,7 @@
 -- Assumes nothing.
 use borrow.Author.Needs.{needs}
 use denote.Ref.{now}
-use Rattle.sampling.specs.Question.{plainly}
+use Rattle.sampling.specs.Question.{asked}
 use Rattle.sampling.specs.Inner.Preparing.{Drawable}
 use Rattle.sampling.proofs.Answering.{heard-few, left-counted, left-refused, lent-made, prepared-case}
 use Rattle.answers.proofs.Numbers.{number-some}
@@ -18,7 +18,7 @@ called c = c .before .before .before .before .before .before
 drawable : (c : tie.After-p2)
     → let s = start (called c) .args in
     let last = called c .prepare .last in
-    Drawable (now (s .g)) (now (s .h)) (plainly (s .n)) (last .1 .1 .1 .0) (last .1 .1 .1 .1 .0) (last .1 .1 .1 .1 .1 .0) (c .p2 .given .0 .0)
+    Drawable (now (s .g)) (now (s .h)) (asked (s .question)) (last .1 .1 .1 .0) (last .1 .1 .1 .1 .0) (last .1 .1 .1 .1 .1 .0) (c .p2 .given .0 .0)
 drawable c = prepared-case (called c .prepare .ensures) (c .p2 .given .1)
 
 prepare-requires : tie.Need-prepare-requires
@@ -27,8 +27,8 @@ prepare-requires c κs = lent-made _ _ (c .before .before .before .before .befor
 total-requires : tie.Need-total-requires
 total-requires c κs = drawable (c .before .before .before) .tabled .counted
 
-sub-t27 : tie.Need-sub-t27
-sub-t27 c =
+sub-left : tie.Need-sub-left
+sub-left c =
     let p = c .before .before .before .before in
     heard-few _ _ _ (drawable p) (called p .prepare .ensures .room) _ (c .total .ensures)
 
@@ -54,7 +54,7 @@ remaining-in-spec =
     (λ c. search needs)
     (λ c. search needs)
     total-requires
-    sub-t27
+    sub-left
     (λ c. search needs)
     returns
     (λ c. search needs)
