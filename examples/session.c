@@ -1,5 +1,6 @@
 /*
- * A session: draws sentences that the patient hasn't heard in the talker's voice, and logs each in the diary.
+ * A session: draws sentences that the patient hasn't heard in the talker's voice, and logs each in the diary as played in
+ * full.
  *
  *   session BANK DIARY LENGTH COUNT [VOICE [SOURCE]]
  *
@@ -105,7 +106,8 @@ int main(int argc, char **argv) {
         uint64_t draw = below(left, source);
         accepted("draw", pumpfennel_draw(bank, bank_size, diary, sizeof diary, length, voice, draw, sentence,
                                          sizeof sentence, &left, &number));
-        uint8_t refusal = pumpfennel_append(diary, sizeof diary, sentence, length, voice, &records);
+        const uint64_t played = 0; /* in full; where playback was broken off, how many words were played */
+        uint8_t refusal = pumpfennel_append(diary, sizeof diary, sentence, length, voice, played, &records);
         if (refusal == PUMPFENNEL_HISTORY_FULL) {
             fprintf(stderr, "session: %s: %s\n", argv[2], pumpfennel_refusal_text(refusal));
             return 1;

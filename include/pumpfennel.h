@@ -27,10 +27,10 @@
 
 /* version: from VERSION, by tools/generate */
 /* The version, as text and as one number: major * 10,000 + minor * 100 + patch. */
-#define PUMPFENNEL_VERSION "0.4.0"
-#define PUMPFENNEL_VERSION_NUMBER 400
+#define PUMPFENNEL_VERSION "0.5.0"
+#define PUMPFENNEL_VERSION_NUMBER 500
 /* A name that the archive has for this interface alone: it changes with major and minor. */
-#define PUMPFENNEL_INTERFACE pumpfennel_interface_0_4
+#define PUMPFENNEL_INTERFACE pumpfennel_interface_0_5
 /* end of version */
 
 /* The most words of a sentence, and the most bytes of a grammar: 32 nonterminals and 255 rules. */
@@ -76,7 +76,7 @@ enum pumpfennel_refusal {
     PUMPFENNEL_TOO_MANY_DERIVATIONS = 10,
     /* The history has fewer than 4 bytes, K is above 1,000, or it has fewer than 4 + 20K bytes. */
     PUMPFENNEL_HISTORY_WRONG_SIZE = 11,
-    /* Some record has a wrong length, a fourth byte whose low four bits are not 0, or a non-zero byte beyond its words. */
+    /* Some record has a wrong length, a count of words played that is its length or more, or a non-zero byte beyond its words. */
     PUMPFENNEL_HISTORY_BAD_RECORD = 12,
     /* The history's head or some next is above K. */
     PUMPFENNEL_HISTORY_BAD_LINK = 13,
@@ -95,7 +95,9 @@ enum pumpfennel_refusal {
     /* The sentence's buffer is shorter than the length. */
     PUMPFENNEL_BUFFER_TOO_SHORT = 20,
     /* The voice is above 15. */
-    PUMPFENNEL_BAD_VOICE = 22
+    PUMPFENNEL_BAD_VOICE = 22,
+    /* The count of words played is the sentence's length or more. */
+    PUMPFENNEL_BAD_PLAYED = 23
 };
 
 /* What a call returned, in words: a sentence without its first capital and its full stop. */
@@ -126,7 +128,7 @@ static inline const char *pumpfennel_refusal_text(uint8_t refusal) {
     case PUMPFENNEL_HISTORY_WRONG_SIZE:
         return "the history has fewer than 4 bytes, K is above 1,000, or it has fewer than 4 + 20K bytes";
     case PUMPFENNEL_HISTORY_BAD_RECORD:
-        return "some record has a wrong length, a fourth byte whose low four bits are not 0, or a non-zero byte beyond its words";
+        return "some record has a wrong length, a count of words played that is its length or more, or a non-zero byte beyond its words";
     case PUMPFENNEL_HISTORY_BAD_LINK:
         return "the history's head or some next is above K";
     case PUMPFENNEL_HISTORY_BAD_CHAIN:
@@ -145,6 +147,8 @@ static inline const char *pumpfennel_refusal_text(uint8_t refusal) {
         return "the sentence's buffer is shorter than the length";
     case PUMPFENNEL_BAD_VOICE:
         return "the voice is above 15";
+    case PUMPFENNEL_BAD_PLAYED:
+        return "the count of words played is the sentence's length or more";
     default:
         return "no such refusal";
     }
@@ -203,7 +207,7 @@ uint8_t pumpfennel_rank(const uint8_t *grammar, size_t grammar_len, const uint8_
 
 /*
  * Left: gives the total, how many different sentences of that length with one derivation were heard in that voice, and how
- * many derivations remain. Refusals 1 to 9, 22, 10 to 15.
+ * many derivations remain. A sentence was heard where a record of it was played in full. Refusals 1 to 9, 22, 10 to 15.
  */
 uint8_t pumpfennel_remaining(const uint8_t *grammar, size_t grammar_len, const uint8_t *history, size_t history_len,
                              uint64_t length, uint64_t voice, uint64_t *total, uint64_t *heard, uint64_t *remaining);
@@ -218,12 +222,13 @@ uint8_t pumpfennel_draw(const uint8_t *grammar, size_t grammar_len, const uint8_
                         uint64_t *remaining, uint64_t *number);
 
 /*
- * Log: writes the sentence, heard in that voice, as the history's newest record into the buffer, which has
+ * Log: writes the sentence, played in that voice, as the history's newest record into the buffer, which has
  * PUMPFENNEL_HISTORY_SIZE bytes for the records and this one, and gives how many records there are now. Any bytes are
- * words here. Refusals 9, 22, 11 to 14, 19.
+ * words here. `played` is how many of the words were played: 0 means all, and the sentence is heard then; where playback
+ * was broken off it is fewer than the sentence has, and the sentence may be drawn again. Refusals 9, 22, 23, 11 to 14, 19.
  */
 uint8_t pumpfennel_append(uint8_t *history, size_t history_len, const uint8_t *sentence, size_t sentence_len,
-                          uint64_t voice, uint64_t *records);
+                          uint64_t voice, uint64_t played, uint64_t *records);
 
 #ifdef __cplusplus
 }

@@ -5,7 +5,7 @@
  *   count GRAMMAR LENGTH              unrank GRAMMAR LENGTH NUMBER BUFFER
  *   rank GRAMMAR SENTENCE             remaining GRAMMAR HISTORY LENGTH VOICE
  *   draw GRAMMAR HISTORY LENGTH VOICE DRAW BUFFER
- *   append BUFFER SENTENCE VOICE
+ *   append BUFFER SENTENCE VOICE PLAYED
  *
  * Bytes are in hex after an x, which stands alone where there are none; null is NULL with length 0. An answer is the
  * refusal and the figures; after a call with a buffer, the buffer too. Figures held other numbers before. What a call may
@@ -35,7 +35,7 @@ struct bytes {
 };
 
 static const char *const names[] = {"check_grammar", "check_history", "count", "unrank", "rank", "remaining", "draw", "append"};
-static const char *const kinds[] = {"r", "r", "rn", "rnnw", "rr", "rrnn", "rrnnnw", "wrn"};
+static const char *const kinds[] = {"r", "r", "rn", "rnnw", "rr", "rrnn", "rrnnnw", "wrnn"};
 static struct bytes data[3];
 static uint64_t numbers[3], figures[3];
 static uint8_t answer;
@@ -54,7 +54,7 @@ static void *make_call(void *unused) {
     case 4: figure_count = 3, answer = pumpfennel_rank(a.at, a.size, b.at, b.size, f, g, h); break;
     case 5: figure_count = 3, answer = pumpfennel_remaining(a.at, a.size, b.at, b.size, m, n, f, g, h); break;
     case 6: figure_count = 2, answer = pumpfennel_draw(a.at, a.size, b.at, b.size, m, n, q, c.at, c.size, f, g); break;
-    case 7: figure_count = 1, answer = pumpfennel_append(a.at, a.size, b.at, b.size, m, f); break;
+    case 7: figure_count = 1, answer = pumpfennel_append(a.at, a.size, b.at, b.size, m, n, f); break;
     }
     return unused;
 }

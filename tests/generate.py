@@ -76,16 +76,18 @@ def low_high(number):
     return bytes([number % 256, number // 256])
 
 
-def history(sentences, numbers=None, slack=b'', voices=None):
+def history(sentences, numbers=None, slack=b'', voices=None, played=None):
     """The bytes of a history from its sentences in chain order, which take their record numbers in turn
-    from numbers, or 1, 2, 3 and so on, and their voices from voices, or 0."""
+    from numbers, or 1, 2, 3 and so on, their voices from voices, or 0, and their words played from played, or
+    0, which means all."""
     numbers = list(numbers or range(1, len(sentences) + 1))
     voices = list(voices or [0] * len(sentences))
+    played = list(played or [0] * len(sentences))
     heads, nexts = link([sentences], numbers)
     data = bytearray(low_high(len(sentences)) + low_high(heads[0])) + bytearray(20 * len(sentences))
-    for number, sentence, voice in zip(numbers, sentences, voices, strict=True):
+    for number, sentence, voice, figure in zip(numbers, sentences, voices, played, strict=True):
         at = 4 + 20 * (number - 1)
-        data[at:at + 20] = low_high(nexts[number]) + bytes([len(sentence), 16 * voice]) + sentence + bytes(16 - len(sentence))
+        data[at:at + 20] = low_high(nexts[number]) + bytes([len(sentence), 16 * voice + figure]) + sentence + bytes(16 - len(sentence))
     return bytes(data) + slack
 
 

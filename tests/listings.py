@@ -51,6 +51,11 @@ def examples():
     for voice in (1, 8, 15):
         yield f'P7 in voice {voice}', framed(2, F, history([bytes([0, 1])], voices=[voice]))
         yield f'G in voice {voice}', framed(3, G, history([bytes(3)], voices=[voice]))
+    for played in ([1], [1, 0], [0, 1]):
+        yield f'P7 with {played} played', framed(2, F, history([bytes([0, 1])] * len(played), played=played))
+        yield f'G with {played} played', framed(3, G, history([bytes(3)] * len(played), played=played))
+    for figure in range(16):
+        yield f'P7 with {figure} played', framed(2, F, history([bytes([0, 1])], played=[figure]))
     for length in range(1, 13):
         yield f'F, length {length}', framed(length, F, heard)
     for length in range(1, 8):
@@ -245,7 +250,8 @@ def random_listings(rng, count):
             sentences = heard_sentences(rng, bank, length)
         slack = bytes(rng.below(256) for _ in range(rng.choice([0, 0, 1, 30])))
         voices = [rng.choice([0, 0, 0, 0, 0, rng.below(16)]) for _ in sentences]
-        yield length, bank, history(sentences, rng.shuffled(range(1, len(sentences) + 1)), slack, voices)
+        played = [rng.choice([0, 0, 0, 0, rng.below(len(sentence))]) for sentence in sentences]
+        yield length, bank, history(sentences, rng.shuffled(range(1, len(sentences) + 1)), slack, voices, played)
         made += 1
 
 

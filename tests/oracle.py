@@ -1,6 +1,6 @@
 #!/usr/bin/env python3
 """Brute-force answers to every call of document 01, with the requests of document 02 that have landed (U2, U4,
-U6), for the tests.
+U5, U6), for the tests.
 
 Written from the documents alone: the headings below are sections of document 01, and each definition cites its
 sentence. Derivations are enumerated one by one as trees, in the document's order. Where that list
@@ -17,7 +17,7 @@ Log. Every call returns (refusal, figures.., buffer after), where refusal 0 mean
   oracle.py rank GRAMMAR WORD..               number T derivations
   oracle.py remaining GRAMMAR HISTORY LENGTH VOICE   T heard left
   oracle.py draw GRAMMAR HISTORY LENGTH VOICE Q      left number, then the buffer
-  oracle.py append HISTORY VOICE WORD..       K, then the buffer
+  oracle.py append HISTORY VOICE PLAYED WORD..       K, then the buffer
   oracle.py listing INPUT                     what the listing program prints
 
 GRAMMAR, HISTORY and INPUT are files, - is standard input, numbers are decimal. A sentence's buffer
@@ -345,14 +345,20 @@ def records_of(history):
 
 
 def fits_record(record):
-    """Refusal 12, for one record: "one byte length (1 to 16), one byte 0, .. zero beyond the length"; of the fourth
-    byte, document 02, U4: "Refusal 12 no longer minds the high four bits"."""
-    return 1 <= record.length <= 16 and record.fourth & 0b1111 == 0 and not any(record.words[record.length:])
+    """Refusal 12, for one record: "one byte length (1 to 16), .. zero beyond the length"; of the fourth byte, document
+    02, U4: "Refusal 12 no longer minds the high four bits", and U5: it "now covers, in place of low four bits that are
+    not 0, a record whose figure is its length or more"."""
+    return 1 <= record.length <= 16 and played_of(record) < record.length and not any(record.words[record.length:])
 
 
 def voice_of(record):
     """Document 02, U4: "The high four bits of a record's fourth byte hold it"."""
     return record.fourth >> 4
+
+
+def played_of(record):
+    """Document 02, U5: "The low four bits of the fourth byte give the words played; 0 means all"."""
+    return record.fourth & 0b1111
 
 
 def history_chain(history):
@@ -375,16 +381,17 @@ def history_lines(history):
 
 @lru_cache(maxsize=4)
 def sentences_of(history):
-    """The sentences with their voices, "one after another along the chain"."""
+    """The sentences with their voices and words played, "one after another along the chain"."""
     records = [records_of(history)[number] for number in history_chain(history)]
-    return [(voice_of(record), record.words[:record.length]) for record in records]
+    return [(voice_of(record), played_of(record), record.words[:record.length]) for record in records]
 
 
 @lru_cache(maxsize=4)
 def heard_of(history, length, voice):
-    """The heard sentences of the named length: "if a record has its length and words", and "only if words and voice
-    both agree"."""
-    return frozenset(sentence for own, sentence in sentences_of(history) if own == voice and len(sentence) == length)
+    """The heard sentences of the named length: "if a record has its length and words"; document 02, U4: "only if words
+    and voice both agree", and U5: "Only a record played in full makes a sentence heard"."""
+    return frozenset(sentence for own, played, sentence in sentences_of(history)
+                     if own == voice and played == 0 and len(sentence) == length)
 
 
 # ---- Why a call says no: the other lines
@@ -398,13 +405,18 @@ def voice_lines(voice):
     yield 22, voice > 15
 
 
+def played_lines(sentence, played):
+    """Document 02, U5: "23, log's figure is the sentence's length or more, after 22"."""
+    yield 23, played >= len(sentence)
+
+
 def total_lines(grammar, length):
     """Document 02, U2: "10 applies exactly if the count of a needed pair is above 2^64 - 1"."""
     yield 10, any(total > MOST for total in read(grammar).totals(length))
 
 
 def ambiguous_lines(grammar, history, length, voice):
-    """Document 02, U4: "15 reads only records of the given voice"."""
+    """Document 02, U4: "15 reads only records of the given voice", and U5: "15 reads only records played in full"."""
     full = full_list(grammar, length)
     yield 15, any(full.count(sentence) >= 2 for sentence in heard_of(history, length, voice))
 
@@ -505,14 +517,16 @@ def draw(grammar, history, length, voice, q, buffer):
     return 0, full.left(barred), number, written(buffer, sentence)
 
 
-def append(buffer, sentence, voice):
+def append(buffer, sentence, voice, played):
     """Log: the new K and the buffer: "writes record K + 1 in full with next = old head, sets head and K
-    to K + 1". "No other byte changes". Document 02, U4: "The high four bits of a record's fourth byte hold it"."""
-    refusal = first_that_applies(length_lines(len(sentence)), voice_lines(voice), history_lines(buffer), append_lines(buffer))
+    to K + 1". "No other byte changes". Document 02, U4: "The high four bits of a record's fourth byte hold it", and U5:
+    "The low four bits of the fourth byte give the words played"."""
+    refusal = first_that_applies(length_lines(len(sentence)), voice_lines(voice), played_lines(sentence, played),
+                                 history_lines(buffer), append_lines(buffer))
     if refusal:
         return refusal, 0, buffer
     k = two_bytes(buffer, 0) + 1
-    record = buffer[2:4] + bytes([len(sentence), voice << 4]) + sentence + bytes(16 - len(sentence))
+    record = buffer[2:4] + bytes([len(sentence), voice << 4 | played]) + sentence + bytes(16 - len(sentence))
     low_high = bytes([k % 256, k // 256])
     at = 4 + 20 * (k - 1)
     return 0, k, low_high + low_high + buffer[4:at] + record + buffer[at + 20:]
@@ -547,7 +561,7 @@ def listing(data):
 
 # ---- Command line
 
-COMMANDS = {  # each call, how many files it takes, and how many numbers (None: the words of a sentence, behind the voice)
+COMMANDS = {  # each call, how many files it takes, and how many numbers (None: the words of a sentence, with Log behind voice and figure)
     'check_grammar': (check_grammar, 1, 0),
     'check_history': (check_history, 1, 0),
     'count': (count, 1, 1),
@@ -585,7 +599,7 @@ def main(name='', *args):
     if call is rank:
         values = [bytes(numbers)]
     elif call is append:
-        values = [bytes(numbers[1:]), *numbers[:1]]
+        values = [bytes(numbers[2:]), *numbers[:2]]
     if call in (unrank, draw):
         values.append(bytes(16))
     result = call(*map(file_bytes, args[:files]), *values)

@@ -75,11 +75,13 @@ int main(void) {
         /* no longer returned: the sentence is accepted */
         {PUMPFENNEL_SENTENCE_AMBIGUOUS, pumpfennel_rank(TREES, BYTES(0, 0, 0), &f, &g, &h), "the sentence has two"},
         /* no record, and no room for one */
-        {PUMPFENNEL_HISTORY_FULL, pumpfennel_append(history, 4, BYTES(0), 0, &f), "no room"},
+        {PUMPFENNEL_HISTORY_FULL, pumpfennel_append(history, 4, BYTES(0), 0, 0, &f), "no room"},
         /* one word, and room for none */
         {PUMPFENNEL_BUFFER_TOO_SHORT, pumpfennel_unrank(ONE, 1, 0, sentence, 0, &f), "buffer"},
         /* no record, no room for one, and the voice 16 */
-        {PUMPFENNEL_BAD_VOICE, pumpfennel_append(history, 4, BYTES(0), 16, &f), "the voice is above"},
+        {PUMPFENNEL_BAD_VOICE, pumpfennel_append(history, 4, BYTES(0), 16, 0, &f), "the voice is above"},
+        /* no record, no room for one, and both of two words played */
+        {PUMPFENNEL_BAD_PLAYED, pumpfennel_append(history, 4, BYTES(0, 0), 0, 2, &f), "played is the sentence's"},
     };
     const int count = sizeof rows / sizeof rows[0];
     int wrong = 0;

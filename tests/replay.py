@@ -94,15 +94,16 @@ def ranking_lines(library, data):
 def history_lines(library, data):
     at, buffer = 0, Lent(b'')
     while at < len(data):
-        call, voice, size = data[at], number(data[at + 1:at + 9]), number(data[at + 9:at + 11])
-        rest = data[at + 11:at + 11 + size]
-        at += 11 + size
+        call, voice, played = data[at], number(data[at + 1:at + 9]), number(data[at + 9:at + 17])
+        size = number(data[at + 17:at + 19])
+        rest = data[at + 19:at + 19 + size]
+        at += 19 + size
         if call == 0:
             buffer = Lent(rest)
         if call in (0, 3):
             yield library.call('check_history', shared(buffer.data()), 1)
         else:
-            line = library.call('append', (*buffer.arguments(), *shared(rest), ctypes.c_uint64(voice)), 1)
+            line = library.call('append', (*buffer.arguments(), *shared(rest), ctypes.c_uint64(voice), ctypes.c_uint64(played)), 1)
             yield line + shown(buffer) if call == 1 else line
         buffer.data()
 

@@ -7,9 +7,9 @@ import oracle
 
 FIGURES = {'check_grammar': 2, 'check_history': 1, 'count': 1, 'unrank': 1, 'rank': 2, 'remaining': 3, 'draw': 2, 'append': 1}
 LENT = {'unrank': 'sentence', 'draw': 'sentence', 'append': 'history'}  # the buffer that a call writes
-# the order of every call's arguments; a case of these calls without a voice has voice 0
+# the order of every call's arguments; a case of these calls without a voice has voice 0, and one of Log without words played has all
 ORDER = {'remaining': ['grammar', 'history', 'length', 'voice'], 'draw': ['grammar', 'history', 'length', 'voice', 'number', 'sentence'],
-         'append': ['history', 'sentence', 'voice']}
+         'append': ['history', 'sentence', 'voice', 'played']}
 PLAIN = ['grammar', 'history', 'length', 'number', 'sentence']  # of the others
 
 
@@ -19,8 +19,8 @@ def stored(text):
     for line in text.splitlines():
         field, _, value = line.strip().partition(' ')
         if field == 'call':
-            cases.append({'call': value, **({'voice': 0} if value in ORDER else {})})
-        elif field in ('length', 'number', 'voice'):
+            cases.append({'call': value, **({'voice': 0, 'played': 0} if value in ORDER else {})})
+        elif field in ('length', 'number', 'voice', 'played'):
             cases[-1][field] = int(value)
         elif field == 'answer':
             cases[-1][field] = [int(figure) for figure in value.split()]

@@ -63,22 +63,22 @@ class Generate(unittest.TestCase):
         self.assertEqual(self.run_tool(), (0, [], ''))
 
     def test_a_new_refusal_comes_to_every_language(self):
-        self.write('refusals.txt', self.read('refusals.txt') + '23 PatternBadWord: a letter is W or more\n')
+        self.write('refusals.txt', self.read('refusals.txt') + '24 PatternBadWord: a letter is W or more\n')
         self.check_differ(MARKED + CRATES)
         for name, lines in {
                 'include/pumpfennel.h': [
-                    '    /* A letter is W or more. */\n    PUMPFENNEL_PATTERN_BAD_WORD = 23\n};',
+                    '    /* A letter is W or more. */\n    PUMPFENNEL_PATTERN_BAD_WORD = 24\n};',
                     '    case PUMPFENNEL_PATTERN_BAD_WORD:\n        return "a letter is W or more";\n'],
                 'bindings/rust/src/refusal.rs': [
-                    '    /// A letter is W or more.\n    PatternBadWord = 23,\n}',
-                    'ALL: [Refusal; 22] = [\n', '        Refusal::PatternBadWord,\n    ];',
+                    '    /// A letter is W or more.\n    PatternBadWord = 24,\n}',
+                    'ALL: [Refusal; 23] = [\n', '        Refusal::PatternBadWord,\n    ];',
                     '            Refusal::PatternBadWord => "a letter is W or more",\n'],
-                'README.md': ['| 23 | `PatternBadWord` | a letter is W or more |\n\n'],
-                'crates/answers/src/refusal.rt': ['    PatternBadWord,\n}', '        Refusal::PatternBadWord => 23,\n    }'],
+                'README.md': ['| 24 | `PatternBadWord` | a letter is W or more |\n\n'],
+                'crates/answers/src/refusal.rt': ['    PatternBadWord,\n}', '        Refusal::PatternBadWord => 24,\n    }'],
                 'crates/answers/specs/Inner/Refusals.antt': [
-                    ', PatternBadWord}\n', '-- a letter is W or more\nrefusalNumber PatternBadWord = 23\n'],
+                    ', PatternBadWord}\n', '-- a letter is W or more\nrefusalNumber PatternBadWord = 24\n'],
                 'crates/answers/proofs/Numbers.antt': [', PatternBadWord}\n', 'number-some PatternBadWord = lit< tt\n'],
-                'crates/answers/proofs/refusal/number/Proof.antt': ['    (λ c. rw (c .enum-told21 .given .1)))\n'],
+                'crates/answers/proofs/refusal/number/Proof.antt': ['    (λ c. rw (c .enum-told22 .given .1)))\n'],
                 'crates/listing/src/meanings.rt': [
                     '        Refusal::PatternBadWord => say(b"listing: refused: a letter is W or more\\n"),\n    }']}.items():
             for line in lines:
@@ -93,7 +93,7 @@ class Generate(unittest.TestCase):
                     '    /* No longer returned: a rule is on no chain. */\n    PUMPFENNEL_GRAMMAR_RULE_ON_NO_CHAIN = 7,\n',
                     '    case PUMPFENNEL_GRAMMAR_RULE_ON_NO_CHAIN:\n        return "a rule is on no chain";\n'],
                 'bindings/rust/src/refusal.rs': [
-                    '    /// No longer returned: a rule is on no chain.\n    GrammarRuleOnNoChain = 7,\n', 'ALL: [Refusal; 21] = [\n'],
+                    '    /// No longer returned: a rule is on no chain.\n    GrammarRuleOnNoChain = 7,\n', 'ALL: [Refusal; 22] = [\n'],
                 'README.md': ['| 7 | `GrammarRuleOnNoChain` | no longer returned: a rule is on no chain |\n'],
                 'crates/answers/src/refusal.rt': ['    GrammarRuleMetTwice,\n    GrammarEqualRules,\n', 'Refusal::GrammarEqualRules => 8,\n']}.items():
             for line in lines:
@@ -149,14 +149,14 @@ class Generate(unittest.TestCase):
 
     def test_wrong_lists(self):
         good = self.read('refusals.txt')
-        for line in ['23', '23 Name', '23 Name words', '23 name: words', '23 Two Names: words', '23 Name: ',
-                     '23 Name, no longer: words', '23 Name: words.', '23 Name: a "word"', '23 Name: a | b', '23 Name: a */ b', '23 Name: a \\ b', '23 Name: naïve']:
+        for line in ['24', '24 Name', '24 Name words', '24 name: words', '24 Two Names: words', '24 Name: ',
+                     '24 Name, no longer: words', '24 Name: words.', '24 Name: a "word"', '24 Name: a | b', '24 Name: a */ b', '24 Name: a \\ b', '24 Name: naïve']:
             with self.subTest(line):
                 self.write('refusals.txt', good + line + '\n')
                 self.check_refused('is not a number, a name, a colon and plain words')
-        for line, said in [('22 Name: words', 'the number 22, not one from 23 to 255'), ('21 Name: words', 'the number 21, not one from 23 to 255'),
-                           ('256 Name: words', 'the number 256, not one from 23 to 255'), ('23 BadLength: words', 'says what 9 says'),
-                           ('23 Name: a rule is on no chain', 'says what 7 says')]:
+        for line, said in [('23 Name: words', 'the number 23, not one from 24 to 255'), ('21 Name: words', 'the number 21, not one from 24 to 255'),
+                           ('256 Name: words', 'the number 256, not one from 24 to 255'), ('24 BadLength: words', 'says what 9 says'),
+                           ('24 Name: a rule is on no chain', 'says what 7 says')]:
             with self.subTest(line):
                 self.write('refusals.txt', good + line + '\n')
                 self.check_refused(said)

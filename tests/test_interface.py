@@ -182,7 +182,9 @@ def cases_of(length, bank, diary, voice=0):
     for other in (15 - voice, 15, 16, 256 + voice, MOST):
         yield 'remaining', bank, diary, length, other
         yield 'draw', bank, diary, length, other, 0, old
-        yield 'append', diary + b'\7' * 21, b'\1' * min(length, 17), other
+        yield 'append', diary + b'\7' * 21, b'\1' * min(length, 17), other, 0
+    for played in in_64_bits(1, min(length, 17) - 1, length, length + 1, 15, 16, 256, MOST):
+        yield 'append', diary + b'\7' * 21, b'\1' * min(length, 17), voice, played
     refusal, total, _, left = oracle.remaining(bank, diary, length, voice)
     for number in in_64_bits(1, total // 2, total - 1, total, total + 1, MOST):
         yield 'unrank', bank, length, number, old
@@ -194,9 +196,9 @@ def cases_of(length, bank, diary, voice=0):
         sentences += [oracle.unrank(bank, length, number, bytes(length))[2] for number in (0, total // 2, total - 1)]
     for sentence in sentences:
         yield 'rank', bank, sentence
-        yield 'append', diary + b'\7' * 21, sentence, voice
+        yield 'append', diary + b'\7' * 21, sentence, voice, 0
     for slack in (0, 19, 20):
-        yield 'append', diary + b'\7' * slack, b'\1' * 16, voice
+        yield 'append', diary + b'\7' * slack, b'\1' * 16, voice, 0
 
 
 def deep_banks():
@@ -225,7 +227,7 @@ def full_diaries():
         yield 'unrank', bank, 16, numbers[-1], bytes(16)
         yield 'remaining', bank, history(heard), 16, 0
         yield 'draw', bank, history(heard), 16, 0, 60000, bytes(16)
-        yield 'append', history(heard[1:], slack=bytes(20)), heard[0], 0
+        yield 'append', history(heard[1:], slack=bytes(20)), heard[0], 0, 0
 
 
 def voiced_diaries():
@@ -249,6 +251,33 @@ def voiced_diaries():
         yield from (('draw', oracle.matrix(), diary, 5, voice, q, bytes(5)) for q in (0, 50, 99900))
 
 
+def broken_off_diaries():
+    """Sentences broken off and in full side by side, in either order and in two voices; every figure for every length; ambiguous sentences."""
+    said = bytes([0, 1])
+    for played in ([1], [1, 0], [0, 1], [1, 1], [1, 0, 1], [0, 1, 0]):
+        for voice in (0, 9):
+            diary = history([said] * len(played), played=played, voices=[voice] * len(played))
+            yield from cases_of(2, F, diary, voice)
+            yield from cases_of(2, F, diary, 15 - voice)
+    for length in range(1, 17):
+        sentence = bytes([1] * length)
+        for figure in range(16):
+            diary = history([sentence, bytes([0] * length)], [2, 1], played=[figure, 0])
+            yield 'check_history', diary
+            yield 'remaining', F, diary, length, 0
+            yield 'draw', F, diary, length, 0, 2**length - 2, bytes(16)
+            yield 'append', history([bytes([0] * length)], slack=b'\7' * 20), sentence, figure, figure
+    for bank, sentences in ambiguous().values():
+        for sentence in sentences:
+            for played in ([len(sentence) - 1], [len(sentence) - 1, 0], [0, len(sentence) // 2]):
+                yield 'remaining', bank, history([sentence] * len(played), played=played), len(sentence), 0
+    rng = Rng(43)
+    matrix = [oracle.unrank(oracle.matrix(), 5, rng.below(300), bytes(5))[2] for _ in range(1000)]
+    diary = history(matrix, rng.shuffled(range(1, 1001)), played=[rng.below(5) for _ in range(1000)])
+    yield 'remaining', oracle.matrix(), diary, 5, 0
+    yield from (('draw', oracle.matrix(), diary, 5, 0, q, bytes(5)) for q in range(0, 100000, 997))
+
+
 def all_cases():
     for length in (1, 2, 3, 16):
         yield from cases_of(length, F, history([bytes([0, 1])]))
@@ -269,6 +298,7 @@ def all_cases():
         yield from cases_of(5, oracle.matrix(), history(thousand[:many]))
     yield from full_diaries()
     yield from voiced_diaries()
+    yield from broken_off_diaries()
     for bank, diary in [(b'', b''), (F, b''), (b'', bytes(4)), (largest_bank(), full_diary(1000)), (F, full_diary(1001))]:
         yield from cases_of(1, bank, diary)
     for _, _, bank in vectors.TRAPS:
@@ -277,7 +307,9 @@ def all_cases():
         yield from cases_of(2, bank, history([bytes(2)]))
     for _, _, diary in vectors.HISTORY_TRAPS:
         yield 'check_history', diary
-        yield 'append', diary, b'\1\2', 5
+        yield 'append', diary, b'\1\2', 5, 1
+        yield 'remaining', F, diary, 2, 0
+        yield 'draw', F, diary, 2, 0, 1, bytes(2)
     rng = Rng(41)
     for length, bank, diary in listings.random_listings(rng, 40):
         yield from cases_of(length, bank, diary)
@@ -311,7 +343,7 @@ class Calls(unittest.TestCase):
         self.assertEqual(met, {
             'check_grammar': bank, 'check_history': diary, 'count': bank | {9, 10}, 'unrank': bank | {9, 10, 16, 20},
             'rank': bank | {9, 10, 17}, 'remaining': bank | diary | {9, 10, 15, 22},
-            'draw': bank | diary | {9, 10, 15, 16, 20, 22}, 'append': diary | {9, 19, 22}})
+            'draw': bank | diary | {9, 10, 15, 16, 20, 22}, 'append': diary | {9, 19, 22, 23}})
 
     def test_null_with_length_0(self):
         """It stood for every pointer that has a length, and the answer was that for a run of no bytes."""
@@ -416,9 +448,9 @@ class Session(unittest.TestCase):
             q = below(left, source)
             self.assertEqual(oracle.draw(bank, before, length, voice, q, bytes(length)), (0, left, number, sentence))
             self.assertEqual(oracle.rank(bank, sentence), (0, number, total, 1))
-            self.assertNotIn((voice, sentence), oracle.sentences_of(before))
+            self.assertNotIn((voice, 0, sentence), oracle.sentences_of(before))
             records = oracle.two_bytes(before, 0)
-            refusal, now, after = oracle.append(before[:4 + 20 * records] + bytes(20), sentence, voice)
+            refusal, now, after = oracle.append(before[:4 + 20 * records] + bytes(20), sentence, voice, 0)
             self.assertEqual((refusal, now), (0, records + 1))
             before = after
         self.assertEqual(self.diary.read_bytes(), before)
@@ -457,6 +489,16 @@ class Session(unittest.TestCase):
             self.check_drawn(F, 2, source, before, lines, voice)
             before = self.diary.read_bytes()
         self.assertEqual(oracle.check_history(before), (0, 12))
+
+    def test_what_was_broken_off_is_drawn_again(self):
+        """Two of four sentences were broken off, and one of these was played in full in another voice."""
+        said = [bytes([0, 1]), bytes([1, 1]), bytes([0, 1]), bytes([1, 0])]
+        before = history(said, [2, 4, 1, 3], voices=[0, 0, 7, 0], played=[1, 1, 0, 0])
+        self.diary.write_bytes(before)
+        source = random_bytes(61, 40)
+        status, lines, errors = self.session(F, 2, 5, source)
+        self.assertEqual((status, sorted(number for number, _ in lines)), (1, [0, 1, 3]))
+        self.check_drawn(F, 2, source, before, lines)
 
     def test_bytes_that_would_favour_a_draw_are_passed_over(self):
         """Of 15^16 sentences; the numbers from twice that on are passed over."""

@@ -53,22 +53,26 @@ class Inputs(unittest.TestCase):
         self.assertGreater(sum(heard > 500 for *_, heard, _ in self.accepted), 1)
 
     def test_diaries(self):
-        """Repeats, foreign words, 255, other lengths, slack, chains that are not in the order of the records, other voices, which
-        the listing passes over."""
+        """Repeats, foreign words, 255, other lengths, slack, chains that are not in the order of the records; other voices and
+        sentences broken off, in part beside the same in full, which the listing passes over."""
         kinds = collections.Counter()
         for length, bank, diary, *_ in self.accepted:
             said = oracle.sentences_of(diary)
-            sentences = [sentence for _, sentence in said]
+            sentences = [sentence for *_, sentence in said]
+            broken = {sentence for voice, played, sentence in said if voice == 0 and played > 0 and len(sentence) == length}
             kinds.update({
                 'repeats': len(set(said)) < len(said),
                 'voices': any(oracle.remaining(bank, diary, length, voice)[2] > 0 for voice in range(1, 16)),
+                'broken off': not broken <= oracle.heard_of(diary, length, 0),
+                'and in full': not broken.isdisjoint(oracle.heard_of(diary, length, 0)),
                 'foreign': any(bank[1] <= byte < 255 for sentence in sentences for byte in sentence),
                 '255': any(255 in sentence for sentence in sentences),
                 'other': any(len(sentence) != length for sentence in sentences),
                 'slack': len(diary) > 4 + 20 * len(sentences),
                 'mixed': oracle.history_chain(diary) != list(range(1, len(sentences) + 1)),
             })
-        self.assertEqual({kind for kind, count in kinds.items() if count >= 20}, {'repeats', 'voices', 'foreign', '255', 'other', 'slack', 'mixed'})
+        self.assertEqual({kind for kind, count in kinds.items() if count >= 20},
+                         {'repeats', 'voices', 'broken off', 'and in full', 'foreign', '255', 'other', 'slack', 'mixed'})
 
     def test_banks(self):
         """Empty chains, chains that are not in the order of the rules, nonterminals that derive nothing, ambiguous sentences."""

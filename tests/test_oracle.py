@@ -199,10 +199,10 @@ class Histories(unittest.TestCase):
         numbers = Rng(1).shuffled(range(1, 1001))
         full = history([bytes([1])] * 1000, numbers)
         self.assertEqual(oracle.check_history(full), (0, 1000))
-        self.assertEqual(oracle.append(full + bytes(40), b'\1', 0), (19, 0, full + bytes(40)))
+        self.assertEqual(oracle.append(full + bytes(40), b'\1', 0, 0), (19, 0, full + bytes(40)))
 
     def test_record_layout(self):
-        for at, value in [(6, 0), (6, 17), (6, 1), (7, 1), (10, 1), (23, 255)]:
+        for at, value in [(6, 0), (6, 17), (6, 1), (7, 2), (10, 1), (23, 255)]:
             self.assertEqual(oracle.check_history(generate.damaged(HEARD_01, [(at, value)])), (12, 0))
 
     def test_records_before_links_before_the_chain(self):
@@ -218,26 +218,27 @@ class Histories(unittest.TestCase):
     def test_append(self):
         room = b'\11' * 20
         after = bytes([2, 0, 2, 0]) + HEARD_01[4:] + bytes([1, 0, 2, 0, 3, 255]) + bytes(14) + b'\11'
-        self.assertEqual(oracle.append(HEARD_01 + room + b'\11', bytes([3, 255]), 0), (0, 2, after))
-        self.assertEqual(oracle.sentences_of(after), [(0, bytes([3, 255])), (0, bytes([0, 1]))])
+        self.assertEqual(oracle.append(HEARD_01 + room + b'\11', bytes([3, 255]), 0, 0), (0, 2, after))
+        self.assertEqual(oracle.sentences_of(after), [(0, 0, bytes([3, 255])), (0, 0, bytes([0, 1]))])
 
     def test_append_room(self):
-        self.assertEqual(oracle.append(EMPTY + bytes(19), b'\1', 0), (19, 0, EMPTY + bytes(19)))
-        self.assertEqual(oracle.append(EMPTY + bytes(20), b'\1', 0)[:2], (0, 1))
+        self.assertEqual(oracle.append(EMPTY + bytes(19), b'\1', 0, 0), (19, 0, EMPTY + bytes(19)))
+        self.assertEqual(oracle.append(EMPTY + bytes(20), b'\1', 0, 0)[:2], (0, 1))
 
     def test_append_refuses_the_length_first(self):
-        self.assertEqual(oracle.append(b'', b'', 0), (9, 0, b''))
-        self.assertEqual(oracle.append(b'', bytes(17), 0), (9, 0, b''))
-        self.assertEqual(oracle.append(b'', b'\1', 0), (11, 0, b''))
+        self.assertEqual(oracle.append(b'', b'', 0, 0), (9, 0, b''))
+        self.assertEqual(oracle.append(b'', bytes(17), 0, 0), (9, 0, b''))
+        self.assertEqual(oracle.append(b'', b'\1', 0, 0), (11, 0, b''))
 
     def test_appends_grow_the_history(self):
         buffer, said, rng = EMPTY + b'\125' * 205, [], Rng(2)
         for k in range(1, 11):
             sentence = bytes(rng.below(256) for _ in range(1 + rng.below(16)))
-            refusal, figure, buffer = oracle.append(buffer, sentence, k)
-            said.insert(0, (k, sentence))
+            played = rng.below(len(sentence))
+            refusal, figure, buffer = oracle.append(buffer, sentence, k, played)
+            said.insert(0, (k, played, sentence))
             self.assertEqual((refusal, figure, oracle.sentences_of(buffer)), (0, k, said))
-        self.assertEqual(oracle.append(buffer, b'\1', 0), (19, 0, buffer))
+        self.assertEqual(oracle.append(buffer, b'\1', 0, 0), (19, 0, buffer))
 
 
 class Voices(unittest.TestCase):
@@ -245,13 +246,13 @@ class Voices(unittest.TestCase):
 
     def test_the_byte_that_log_writes(self):
         for voice in range(16):
-            refusal, k, buffer = oracle.append(EMPTY + b'\7' * 20, b'\5', voice)
+            refusal, k, buffer = oracle.append(EMPTY + b'\7' * 20, b'\5', voice, 0)
             self.assertEqual((refusal, k, buffer), (0, 1, bytes([1, 0, 1, 0, 0, 0, 1, 16 * voice, 5]) + bytes(15)))
 
     def test_every_fourth_byte(self):
         for value in range(256):
             refusal = oracle.check_history(generate.damaged(HEARD_01, [(7, value)]))[0]
-            self.assertEqual(refusal, 0 if value in range(0, 256, 16) else 12)
+            self.assertEqual(refusal, 0 if value in (*range(0, 256, 16), *range(1, 256, 16)) else 12)
 
     def test_a_sentence_in_one_voice(self):
         heard = history([bytes([0, 1])], voices=[9])
@@ -286,12 +287,77 @@ class Voices(unittest.TestCase):
         for voice in (16, 17, 255, 256, 2**32, 2**63, PAST):
             self.assertEqual(oracle.remaining(large, b'', 16, voice), (22, 0, 0, 0))
             self.assertEqual(oracle.draw(large, b'', 16, voice, PAST, b'\7'), (22, 0, 0, b'\7'))
-            self.assertEqual(oracle.append(b'\7', b'\1', voice), (22, 0, b'\7'))
+            self.assertEqual(oracle.append(b'\7', b'\1', voice, 0), (22, 0, b'\7'))
             self.assertEqual(oracle.remaining(large, b'', 17, voice), (9, 0, 0, 0))
             self.assertEqual(oracle.draw(F[:-1], b'', 2, voice, 0, b''), (3, 0, 0, b''))
-            self.assertEqual(oracle.append(b'\7', b'', voice), (9, 0, b'\7'))
+            self.assertEqual(oracle.append(b'\7', b'', voice, 0), (9, 0, b'\7'))
         self.assertEqual(oracle.remaining(large, b'', 16, 15), (10, 0, 0, 0))
-        self.assertEqual(oracle.append(b'\7', b'\1', 15), (11, 0, b'\7'))
+        self.assertEqual(oracle.append(b'\7', b'\1', 15, 0), (11, 0, b'\7'))
+
+
+class Playbacks(unittest.TestCase):
+    """Document 02, U5: "Only a record played in full makes a sentence heard"."""
+
+    def test_the_byte_that_log_writes(self):
+        for length in range(1, 17):
+            for voice in (0, 9, 15):
+                for played in range(length):
+                    sentence = bytes([5]) * length
+                    after = bytes([1, 0, 1, 0, 0, 0, length, 16 * voice + played]) + sentence + bytes(16 - length)
+                    self.assertEqual(oracle.append(EMPTY + b'\7' * 20, sentence, voice, played), (0, 1, after))
+
+    def test_every_figure_of_every_length(self):
+        """In a record by 12, handed to Log by 23: the length itself is refused, and one word allows only 0."""
+        for length in range(1, 17):
+            sentence = bytes([5]) * length
+            for figure in range(16):
+                for voice in (0, 7, 15):
+                    diary = history([sentence], voices=[voice], played=[figure])
+                    self.assertEqual(oracle.check_history(diary), (0, 1) if figure < length else (12, 0))
+                    self.assertEqual(oracle.append(EMPTY + bytes(20), sentence, voice, figure)[0], 0 if figure < length else 23)
+        for figure in (16, 17, 255, 256, 2**32, 2**63, PAST):
+            self.assertEqual(oracle.append(EMPTY + bytes(20), bytes(16), 0, figure), (23, 0, EMPTY + bytes(20)))
+
+    def test_a_sentence_broken_off_and_in_full(self):
+        """In either order, and in another voice."""
+        said = bytes([0, 1])
+        for played, count in [([1], 0), ([0], 1), ([1, 0], 1), ([0, 1], 1), ([1, 1], 0), ([1, 0, 1, 0], 1)]:
+            diary = history([said] * len(played), played=played)
+            self.assertEqual(oracle.remaining(F, diary, 2, 0), (0, 4, count, 4 - count))
+            self.assertEqual(oracle.remaining(F, diary, 2, 1), (0, 4, 0, 4))
+        apart = history([said, said], voices=[3, 4], played=[0, 1])
+        self.assertEqual([oracle.remaining(F, apart, 2, voice)[2] for voice in range(16)], [0, 0, 0, 1] + [0] * 12)
+        self.assertEqual(oracle.draw(F, apart, 2, 4, 1, bytes(2)), (0, 4, 1, said))
+        self.assertEqual(oracle.draw(F, apart, 2, 3, 1, bytes(2)), (0, 3, 2, bytes([1, 0])))
+
+    def test_an_ambiguous_sentence_broken_off(self):
+        for played, refusal in [([1], 0), ([2], 0), ([1, 2], 0), ([0], 15), ([1, 0], 15), ([0, 2], 15)]:
+            diary = history([bytes(3)] * len(played), played=played)
+            self.assertEqual(oracle.remaining(G, diary, 3, 0), (15, 0, 0, 0) if refusal else (0, 2, 0, 2))
+            self.assertEqual(oracle.draw(G, diary, 3, 0, 1, bytes(3)), (15, 0, 0, bytes(3)) if refusal else (0, 2, 1, bytes(3)))
+            self.assertEqual(oracle.remaining(G, diary, 3, 1), (0, 2, 0, 2))
+
+    def test_a_broken_off_record_stands_on_the_chain(self):
+        diary = history([bytes([0, 1]), bytes([1, 1]), bytes([1, 0])], [3, 1, 2], played=[1, 0, 1]) + bytes(20)
+        self.assertEqual(oracle.check_history(diary), (0, 3))
+        self.assertEqual(oracle.sentences_of(diary), [(0, 1, bytes([0, 1])), (0, 0, bytes([1, 1])), (0, 1, bytes([1, 0]))])
+        self.assertEqual(oracle.check_history(generate.damaged(diary, [(2, 1)])), (14, 0))
+        refusal, k, after = oracle.append(diary, bytes([0, 0]), 0, 0)
+        self.assertEqual((refusal, k, after[4:64]), (0, 4, diary[4:64]))
+
+    def test_figures_that_are_too_large(self):
+        """23 comes after 9 and 22, and before 11."""
+        for figure in (2, 3, 15, 16, 255, 256, 2**32, 2**63, PAST):
+            self.assertEqual(oracle.append(b'\7', b'\1\1', 15, figure), (23, 0, b'\7'))
+            self.assertEqual(oracle.append(b'\7', b'\1\1', 16, figure), (22, 0, b'\7'))
+            self.assertEqual(oracle.append(b'\7', b'', 0, figure), (9, 0, b'\7'))
+            self.assertEqual(oracle.append(EMPTY, b'\1\1', 0, figure), (23, 0, EMPTY))
+        self.assertEqual(oracle.append(b'\7', b'', 0, 0), (9, 0, b'\7'))
+        self.assertEqual(oracle.append(b'\7', b'\1\1', 0, 1), (11, 0, b'\7'))
+
+    def test_the_listing_passes_over_what_was_broken_off(self):
+        diary = history([bytes([0, 1]), bytes([1, 1])], played=[1, 0])
+        self.assertEqual(oracle.listing(listing_input(2, F, diary)), b'2 4 1 3\n0 0 0 0\n1 1 0 1\n2 2 1 0\n')
 
 
 class Listings(unittest.TestCase):
@@ -477,9 +543,10 @@ class SmallGrammars(unittest.TestCase):
             once = [sentence for sentence in sentences if sentences.count(sentence) == 1]
             records = [rng.choice(once) for _ in range(rng.below(6)) if once] + [b'\377' * length, b'\0' * (length % 16 + 1)]
             voices = [rng.choice([0, 7, 15]) for _ in records]
-            diary = history(records, rng.shuffled(range(1, len(records) + 1)), voices=voices)
+            played = [rng.choice([0, rng.below(len(record))]) for record in records]
+            diary = history(records, rng.shuffled(range(1, len(records) + 1)), voices=voices, played=played)
             for voice in (0, 7, 8):
-                own = [sentence for sentence, said in zip(records, voices) if said == voice]
+                own = [sentence for sentence, said, figure in zip(records, voices, played) if said == voice and figure == 0]
                 unheard = [(d, sentence) for d, sentence in enumerate(sentences) if sentence not in own]
                 left = len(unheard)
                 self.assertEqual(oracle.remaining(grammar, diary, length, voice), (0, len(sentences), len(sentences) - left, left))

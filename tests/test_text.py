@@ -41,11 +41,11 @@ def meaning(bank):
     return bank[0], bank[1], bank[3], [[rules[i][:3] for i in numbers] for numbers in chains]
 
 
-def logged(sentences, room, voices):
+def logged(sentences, room, voices, played):
     """The history after logging these sentences in turn."""
     diary = bytes(4 + 20 * room)
-    for sentence, voice in zip(sentences, voices, strict=True):
-        refusal, _, diary = oracle.append(diary, sentence, voice)
+    for sentence, voice, figure in zip(sentences, voices, played, strict=True):
+        refusal, _, diary = oracle.append(diary, sentence, voice, figure)
         assert refusal == 0
     return diary
 
@@ -56,6 +56,10 @@ def random_sentences(rng):
 
 def random_voices(rng, sentences):
     return [rng.choice([0, 0, rng.below(16)]) for _ in sentences]
+
+
+def random_played(rng, sentences):
+    return [rng.choice([0, rng.below(len(sentence))]) for sentence in sentences]
 
 
 class Examples(unittest.TestCase):
@@ -69,7 +73,7 @@ class Examples(unittest.TestCase):
         lines = (ROOT / 'examples' / 'diary.txt').read_text()
         diary = text.history_bytes(lines)
         self.assertEqual(oracle.remaining(oracle.matrix(), diary, 5, 0), (0, 100000, 4, 99996))
-        numbers = [oracle.rank(oracle.matrix(), sentence)[1] for _, sentence in oracle.sentences_of(diary)]
+        numbers = [oracle.rank(oracle.matrix(), sentence)[1] for *_, sentence in oracle.sentences_of(diary)]
         self.assertEqual(numbers, [5, 31415, 2, 0])
         self.assertEqual(len(diary), 4 + 20 * 40)
 
@@ -84,7 +88,8 @@ class Examples(unittest.TestCase):
                           for part in text.__doc__.split('A history has')]
         chains = [[(1, 1, 1), (1, 0, 1)], [(0, 0, 0), (0, 1, 0), (0, 2, 0)]]
         self.assertEqual(meaning(text.grammar_bytes(grammar)), (2, 3, 0, chains))
-        self.assertEqual(text.history_bytes(diary), logged([bytes([2, 2]), bytes([0, 1, 2]), bytes([0, 1, 2])], 40, [0, 3, 0]))
+        said = [bytes([0, 2, 1]), bytes([2, 2]), bytes([0, 1, 2]), bytes([0, 1, 2])]
+        self.assertEqual(text.history_bytes(diary), logged(said, 40, [3, 0, 3, 0], [2, 1, 0, 0]))
 
 
 class Grammars(unittest.TestCase):
@@ -206,17 +211,19 @@ class Histories(unittest.TestCase):
         rng = Rng(33)
         for _ in range(50):
             sentences = random_sentences(rng)
-            voices = random_voices(rng, sentences)
+            voices, played = random_voices(rng, sentences), random_played(rng, sentences)
             room = len(sentences) + rng.below(3)
-            lines = [' '.join(map(str, sentence)) + (f', voice {voice}' if voice else '') for sentence, voice in zip(sentences, voices)]
-            self.assertEqual(text.history_bytes('\n'.join([*reversed(lines), f'room {room}'])), logged(sentences, room, voices))
+            lines = [' '.join(map(str, sentence)) + (f', voice {voice}' if voice else '') + (f', played {figure}' if figure else '')
+                     for sentence, voice, figure in zip(sentences, voices, played)]
+            self.assertEqual(text.history_bytes('\n'.join([*reversed(lines), f'room {room}'])), logged(sentences, room, voices, played))
 
     def test_random_ones_come_back(self):
         rng = Rng(34)
         for _ in range(200):
             sentences = random_sentences(rng)
             slack = bytes(rng.below(256) for _ in range(rng.choice([0, 0, 1, 19, 20, 45])))
-            self.check(history(sentences, rng.shuffled(range(1, len(sentences) + 1)), slack, random_voices(rng, sentences)))
+            numbers = rng.shuffled(range(1, len(sentences) + 1))
+            self.check(history(sentences, numbers, slack, random_voices(rng, sentences), random_played(rng, sentences)))
 
     def test_voices(self):
         every = history([bytes([7, 8])] * 16, voices=range(16))
@@ -226,6 +233,26 @@ class Histories(unittest.TestCase):
         for line in ('5, voice 3', '5,voice 3', '5 ,  voice   3 # a talker', '5, voice 03'):
             self.assertEqual(text.history_bytes(line), history([b'\5'], voices=[3]), line)
         self.assertEqual(text.history_bytes('5, voice 0'), history([b'\5']))
+
+    def test_words_played(self):
+        every = history([bytes([7] * 16)] * 16, played=range(16))
+        lines = [' '.join(['7'] * 16) + (f', played {figure}' if figure else '') for figure in range(16)]
+        self.assertEqual(text.history_text(every).splitlines(), lines)
+        self.assertEqual(oracle.sentences_of(text.history_bytes('\n'.join(lines))), oracle.sentences_of(every))
+        both = history([b'\5\6\7'], voices=[3], played=[2])
+        self.assertEqual(text.history_text(both), '5 6 7, voice 3, played 2\n')
+        for line in ('5 6 7, voice 3, played 2', '5 6 7,played 2,voice 3', '5 6 7 , played  02 ,  voice   3 # stopped'):
+            self.assertEqual(text.history_bytes(line), both, line)
+        self.assertEqual(text.history_bytes('5 6, played 0'), history([b'\5\6']))
+        self.assertEqual(text.history_bytes('5, played 0'), history([b'\5']))
+        for length in range(1, 17):
+            for figure in range(16):
+                line, diary = '7 ' * length + f', played {figure}', history([bytes([7] * length)], played=[figure])
+                if figure < length:
+                    self.assertEqual(text.history_bytes(line), diary)
+                else:
+                    self.assertRaises(text.Wrong, text.history_bytes, line)
+                    self.assertRaises(text.Wrong, text.history_text, diary)
 
     def test_a_thousand_and_more(self):
         for many in (999, 1000, 1001):
@@ -247,14 +274,22 @@ class Histories(unittest.TestCase):
             ('1 2\n\n1 two', "line 3: a word is not a number: 'two'"),
             ('1 256', 'line 1: a word is above 255: 256'),
             ('# none\n' + '1 ' * 17, 'line 2: the sentence has 17 words, and 16 is the most'),
-            ('1 2, voice 16', 'line 1: the voice is above 15: 16'),
-            ('1 2, voice x', "line 1: the voice is not a number: 'x'"),
-            ('1 2, voice -1', "line 1: the voice is not a number: '-1'"),
-            ('1 2, voice', "line 1: no voice behind the comma: 'voice'"),
-            ('1 2, voice 1 2', "line 1: no voice behind the comma: 'voice 1 2'"),
-            ('1 2, voice 1, voice 1', "line 1: no voice behind the comma: 'voice 1, voice 1'"),
-            ('1\n1, 2', "line 2: no voice behind the comma: '2'"),
-            ('1 2,', "line 1: no voice behind the comma: ''"),
+            ('1 2, voice 16', 'line 1: voice is above 15: 16'),
+            ('1 2, voice x', "line 1: voice is not a number: 'x'"),
+            ('1 2, voice -1', "line 1: voice is not a number: '-1'"),
+            ('1 2, voice', """line 1: neither "voice" nor "played" behind a comma: 'voice'"""),
+            ('1 2, voice 1 2', """line 1: neither "voice" nor "played" behind a comma: 'voice 1 2'"""),
+            ('1 2, voice 1, voice 1', 'line 1: "voice" stands there already'),
+            ('1 2, played 1, voice 1, played 1', 'line 1: "played" stands there already'),
+            ('1 2, voice 1, 2', """line 1: neither "voice" nor "played" behind a comma: '2'"""),
+            ('1 2, played 1,', """line 1: neither "voice" nor "played" behind a comma: ''"""),
+            ('1\n1, 2', """line 2: neither "voice" nor "played" behind a comma: '2'"""),
+            ('1 2,', """line 1: neither "voice" nor "played" behind a comma: ''"""),
+            ('1 2, played x', "line 1: played is not a number: 'x'"),
+            ('1 2, played 16', 'line 1: played is above 15: 16'),
+            ('1 2, played 2', 'line 1: played 2 of 2: a sentence that was broken off has more words'),
+            ('7\n1 2, played 15', 'line 2: played 15 of 2: a sentence that was broken off has more words'),
+            ('1, played 1', 'line 1: played 1 of 1: a sentence that was broken off has more words'),
             (', voice 1', 'line 1: there is no word before the comma'),
             ('1 2 voice 1', "line 1: a word is not a number: 'voice'"),
             ('room 3\nroom 3', 'line 2: "room" stands there already'),

@@ -128,9 +128,9 @@ class HistoryVectors(unittest.TestCase):
         for name, refusal, data in vectors.HISTORY_TRAPS:
             with self.subTest(name):
                 self.assertEqual(oracle.check_history(data)[0], refusal)
-        for name, refusal, data, sentence, voice in vectors.LOG_TRAPS + list(vectors.log_defects()):
+        for name, refusal, data, sentence, voice, played in vectors.LOG_TRAPS + list(vectors.log_defects()):
             with self.subTest(name):
-                self.assertEqual(oracle.append(data, sentence, voice)[0], refusal)
+                self.assertEqual(oracle.append(data, sentence, voice, played)[0], refusal)
 
     def test_names_of_traps_differ(self):
         names = [name for name, *_ in vectors.HISTORY_TRAPS + vectors.LOG_TRAPS]
@@ -148,13 +148,17 @@ class HistoryVectors(unittest.TestCase):
             'no record, exactly the room: Log [5] in 0': '0 1: 1 0 1 0 0 0 1 0 5' + ' 0' * 15,
             'sixteen voices: set': '0 16',
             'voice 256: Log [5] in 256': 'refused 22: ' + ' '.join(map(str, vectors.FOUR + vectors.JUNK)),
+            '257 played: Log [5, 6] in 0, 257 played': 'refused 23: ' + ' '.join(map(str, vectors.FOUR + vectors.JUNK)),
+            'all played, voice 16: Log [5, 6] in 16, 2 played': 'refused 22: ' + ' '.join(map(str, vectors.FOUR + vectors.JUNK)),
+            '5 words, 4 played: set': '0 1',
+            '5 words, 5 played: set': 'refused 12',
             'voice 16, no word: Log [] in 16': 'refused 9: ' + ' '.join(map(str, vectors.FOUR + vectors.JUNK)),
         }.items():
             with self.subTest(name):
                 self.assertEqual(self.lines[name], line)
 
     def test_every_refusal_is_there_several_times(self):
-        for call, refusals in {'set': [11, 12, 13, 14], 'Log': [9, 11, 12, 13, 14, 19, 22]}.items():
+        for call, refusals in {'set': [11, 12, 13, 14], 'Log': [9, 11, 12, 13, 14, 19, 22, 23]}.items():
             lines = [line for name, line in self.lines.items() if name.split(': ')[1].startswith(call)]
             for refusal in refusals:
                 self.assertGreaterEqual(sum(line.split(':')[0] == f'refused {refusal}' for line in lines), 20)
@@ -169,19 +173,30 @@ class HistoryVectors(unittest.TestCase):
         made = generate.history([bytes([8, 0])] * 16, range(16, 0, -1), voices=range(15, -1, -1))
         self.assertEqual(self.lines['in every voice: Log [8, 0] in 15'], '0 16:' + ''.join(f' {byte}' for byte in made))
 
+    def test_a_log_of_every_figure(self):
+        """Sixteen words with every figure from 0 to 15, and 16 and 17 refused."""
+        sentence = bytes(range(1, 17))
+        made = generate.history([sentence] * 16, range(16, 0, -1), voices=range(15, -1, -1), played=range(15, -1, -1))
+        after = ''.join(f' {byte}' for byte in made + (vectors.JUNK * 5)[320:340])
+        self.assertEqual(self.lines[f'16 words: Log {list(sentence)} in 1, 17 played'], 'refused 23:' + after)
+
+    def test_broken_off_and_in_full(self):
+        made = generate.history([bytes([8, 0])] * 6, range(6, 0, -1), played=[1, 0, 1, 1, 0, 1])
+        self.assertEqual(self.lines['broken off and in full: Log [8, 0] in 0, 1 played'], '0 6:' + ''.join(f' {byte}' for byte in made))
+
     def test_size(self):
-        self.assertIn(len(self.cases), range(2000, 3001))
-        self.assertLess(len(vectors.files(self.cases)['stdin']), 262_144)
-        self.assertLess(sum(map(len, vectors.files(self.cases).values())), 500_000)
+        self.assertIn(len(self.cases), range(3000, 4501))
+        self.assertLess(len(vectors.files(self.cases)['stdin']), 400_000)
+        self.assertLess(sum(map(len, vectors.files(self.cases).values())), 700_000)
 
     def test_the_frames_hold_the_cases(self):
         stdin, at, buffer, lines = vectors.files(self.cases)['stdin'], 0, b'', []
         while at < len(stdin):
-            call, voice = stdin[at], int.from_bytes(stdin[at + 1:at + 9], 'little')
-            end = at + 11 + oracle.two_bytes(stdin, at + 9)
-            data, at = stdin[at + 11:end], end
+            call, voice, played = stdin[at], *(int.from_bytes(stdin[i:i + 8], 'little') for i in (at + 1, at + 9))
+            end = at + 19 + oracle.two_bytes(stdin, at + 17)
+            data, at = stdin[at + 19:end], end
             if call in (vectors.LOG, vectors.LOG_UNSHOWN):
-                *answer, buffer = oracle.append(buffer, data, voice)
+                *answer, buffer = oracle.append(buffer, data, voice, played)
                 shown = ':' + ''.join(f' {byte}' for byte in buffer) if call == vectors.LOG else ''
                 lines.append(vectors.line(*answer) + shown)
             else:

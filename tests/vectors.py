@@ -21,11 +21,11 @@ the grammar of the calls after it. 1 is Count; 2 is Give into a buffer of that m
 Number, its bytes the sentence. The line is "0" and the figures, or "refused K"; with Give a colon and the
 buffer's bytes after the call follow.
 
-Kind history (document 01: Check diary, Log): a case is one byte call, eight bytes voice, two bytes size, both
-with the low byte first, and that many bytes. Call 0 is Check diary of them, and they are the buffer of the
-calls after it. 1 is Log in that voice, its bytes the sentence: a colon and all of the buffer's bytes after the
-call follow. 2 is Log without these. 3 is Check diary of the buffer as it stands. The line is "0 K", or
-"refused" and the number.
+Kind history (document 01: Check diary, Log): a case is one byte call, eight bytes voice, eight bytes words
+played, two bytes size, all with the low byte first, and that many bytes. Call 0 is Check diary of them, and
+they are the buffer of the calls after it. 1 is Log in that voice and with that figure, its bytes the sentence:
+a colon and all of the buffer's bytes after the call follow. 2 is Log without these. 3 is Check diary of the
+buffer as it stands. The line is "0 K", or "refused" and the number.
 """
 import argparse
 import itertools
@@ -559,14 +559,15 @@ class Buffer:
         self.name, self.data, self.cases = name, data, []
         self.add('set', SET, data, line(*oracle.check_history(data)))
 
-    def add(self, name, call, data, line, voice=0):
-        frame = bytes([call]) + voice.to_bytes(8, 'little') + low_high(len(data)) + data
+    def add(self, name, call, data, line, voice=0, played=0):
+        frame = bytes([call]) + voice.to_bytes(8, 'little') + played.to_bytes(8, 'little') + low_high(len(data)) + data
         self.cases.append(Case(f'{self.name}: {name}', frame, line))
 
-    def log(self, sentence, voice, shown=True):
-        refusal, k, self.data = oracle.append(self.data, sentence, voice)
+    def log(self, sentence, voice, played, shown=True):
+        refusal, k, self.data = oracle.append(self.data, sentence, voice, played)
         after = ':' + ''.join(f' {byte}' for byte in self.data) if shown else ''
-        self.add(f'Log {list(sentence)} in {voice}', LOG if shown else LOG_UNSHOWN, sentence, line(refusal, k) + after, voice)
+        name = f'Log {list(sentence)} in {voice}' + f', {played} played' * (played > 0)
+        self.add(name, LOG if shown else LOG_UNSHOWN, sentence, line(refusal, k) + after, voice, played)
 
     def check(self):
         self.add('Check', CHECK, b'', line(*oracle.check_history(self.data)))
@@ -645,21 +646,37 @@ HISTORY_TRAPS = [
     ('length 15 of 16', 12, four((RECORD[1] + LENGTH, 15))),
     ('length one less, last word 0', 0, damaged(history([bytes([1, 0])]), [(RECORD[1] + LENGTH, 1)])),
     ('length one more', 0, four((RECORD[2] + LENGTH, 3))),
-    ('fourth byte 1', 12, four((RECORD[1] + FOURTH, 1))),
-    ('fourth byte 8', 12, four((RECORD[2] + FOURTH, 8))),
-    ('fourth byte 15', 12, four((RECORD[3] + FOURTH, 15))),
-    ('fourth byte 17', 12, four((RECORD[1] + FOURTH, 17))),
-    ('fourth byte 241', 12, four((RECORD[2] + FOURTH, 241))),
-    ('fourth byte 255', 12, four((RECORD[4] + FOURTH, 255))),
+    ('one word, fourth byte 1', 12, four((RECORD[4] + FOURTH, 1))),
+    ('one word, fourth byte 255', 12, four((RECORD[4] + FOURTH, 255))),
+    ('two words, fourth byte 1', 0, four((RECORD[2] + FOURTH, 1))),
+    ('two words, fourth byte 2', 12, four((RECORD[2] + FOURTH, 2))),
+    ('two words, fourth byte 8', 12, four((RECORD[2] + FOURTH, 8))),
+    ('two words, fourth byte 241', 0, four((RECORD[2] + FOURTH, 241))),
+    ('two words, fourth byte 242', 12, four((RECORD[2] + FOURTH, 242))),
+    ('five words, fourth byte 4', 0, four((RECORD[3] + FOURTH, 4))),
+    ('five words, fourth byte 5', 12, four((RECORD[3] + FOURTH, 5))),
+    ('five words, fourth byte 15', 12, four((RECORD[3] + FOURTH, 15))),
+    ('five words, fourth byte 20', 0, four((RECORD[3] + FOURTH, 20))),
+    ('five words, fourth byte 21', 12, four((RECORD[3] + FOURTH, 21))),
+    ('sixteen words, fourth byte 1', 0, four((RECORD[1] + FOURTH, 1))),
+    ('sixteen words, fourth byte 15', 0, four((RECORD[1] + FOURTH, 15))),
+    ('sixteen words, fourth byte 17', 0, four((RECORD[1] + FOURTH, 17))),
+    ('sixteen words, fourth byte 255', 0, four((RECORD[1] + FOURTH, 255))),
+    ('words played, and no word', 12, four((RECORD[2] + LENGTH, 0), (RECORD[2] + FOURTH, 1))),
+    ('words played, and seventeen words', 12, four((RECORD[1] + LENGTH, 17), (RECORD[1] + FOURTH, 1))),
+    ('words played, and a byte beyond the words', 12, four((RECORD[3] + FOURTH, 1), (RECORD[3] + WORDS + 5, 1))),
+    ('words played, and a link', 13, four((RECORD[3] + FOURTH, 1), (RECORD[3] + LINK, 9))),
+    ('words played, and a loop', 14, four((RECORD[3] + FOURTH, 1), (RECORD[3] + LINK, 3))),
+    ('a broken-off record passed over', 14, four((RECORD[4] + FOURTH, 16), (RECORD[3] + FOURTH, 1), (RECORD[1] + LINK, 0))),
+    ('broken off and in full', 0, history([bytes([3, 4])] * 4, [2, 4, 3, 1], played=[1, 0, 1, 0])),
     ('fourth byte 16', 0, four((RECORD[2] + FOURTH, 16))),
     ('fourth byte 128', 0, four((RECORD[1] + FOURTH, 128))),
     ('fourth byte 240', 0, four((RECORD[4] + FOURTH, 240))),
     ('fourth byte 16, sixteen words', 0, damaged(history([bytes([255]) * 16]), [(RECORD[1] + FOURTH, 16)])),
     ('sixteen voices', 0, history([bytes([7, 7])] * 16, voices=range(16))),
-    ('sixteen voices, low bits in the last', 12, damaged(history([bytes([7, 7])] * 16, voices=range(16)), [(304 + FOURTH, 242)])),
+    ('sixteen voices, all words played in the last', 12, damaged(history([bytes([7, 7])] * 16, voices=range(16)), [(304 + FOURTH, 242)])),
     ('a voice and a byte beyond the words', 12, four((RECORD[2] + FOURTH, 16), (RECORD[2] + WORDS + 2, 1))),
     ('a voice and a link', 13, four((RECORD[2] + FOURTH, 16), (RECORD[2] + LINK, 9))),
-    ('fourth byte 1, sixteen words', 12, damaged(history([bytes([255]) * 16]), [(RECORD[1] + FOURTH, 1)])),
     ('non-zero byte beyond the words, first place', 12, four((RECORD[2] + WORDS + 2, 1))),
     ('non-zero byte beyond the words, last place', 12, four((RECORD[2] + WORDS + 15, 1))),
     ('255 beyond one word, first place', 12, four((RECORD[4] + WORDS + 1, 255))),
@@ -668,7 +685,7 @@ HISTORY_TRAPS = [
     # 12 looks at all records before 13 looks at any link
     ('length of the last record before head', 12, four((RECORD[4] + LENGTH, 0), (2, 5))),
     ('length of the first record before next of the last', 12, four((RECORD[1] + LENGTH, 17), (RECORD[4] + LINK, 5))),
-    ('fourth byte before all links', 12, four((RECORD[3] + FOURTH, 1), (2, 255), (RECORD[1] + LINK, 255), (RECORD[2] + LINK, 255))),
+    ('fourth byte before all links', 12, four((RECORD[3] + FOURTH, 5), (2, 255), (RECORD[1] + LINK, 255), (RECORD[2] + LINK, 255))),
     ('layout and next of one record', 12, four((RECORD[2] + WORDS + 9, 1), (RECORD[2] + LINK, 9))),
     ('layout of a record not on the chain', 12, four((RECORD[1] + LINK, 0), (RECORD[3] + LENGTH, 0))),
     ('layout of the last record before a loop', 12, four((RECORD[4] + FOURTH, 9), (RECORD[2] + LINK, 2))),
@@ -720,83 +737,112 @@ HISTORY_TRAPS = [
     ('a record on no chain linked into the chain', 14, four((RECORD[1] + LINK, 0), (RECORD[3] + LINK, 2))),
 ]
 
-# Each: name, the refusal of Log that the documents give (0: accepted), the buffer, the sentence, the voice.
+# Each: name, the refusal of Log that the documents give (0: accepted), the buffer, the sentence, the voice, the words played.
 LOG_TRAPS = [
     # 9: the sentence's length
-    ('no word', 9, FOUR + JUNK, b'', 0),
-    ('one word', 0, FOUR + JUNK, bytes([5]), 0),
-    ('sixteen words', 0, FOUR + JUNK, bytes(range(16)), 0),
-    ('seventeen words', 9, FOUR + JUNK, bytes(range(17)), 0),
-    ('40 words', 9, FOUR + JUNK, bytes(40), 0),
-    ('256 words', 9, FOUR + JUNK, bytes(256), 0),
-    ('257 words', 9, FOUR + JUNK, bytes(257), 0),
-    ('272 words', 9, FOUR + JUNK, bytes(272), 0),
-    ('the word 0', 0, FOUR + JUNK, bytes(1), 0),
-    ('the word 255', 0, FOUR + JUNK, bytes([255]), 0),
-    ('the word 0 sixteen times', 0, FOUR + JUNK, bytes(16), 0),
-    ('the word 255 sixteen times', 0, FOUR + JUNK, bytes([255]) * 16, 0),
-    ('a sentence that is there', 0, FOUR + JUNK, bytes([0, 1]), 0),
+    ('no word', 9, FOUR + JUNK, b'', 0, 0),
+    ('one word', 0, FOUR + JUNK, bytes([5]), 0, 0),
+    ('sixteen words', 0, FOUR + JUNK, bytes(range(16)), 0, 0),
+    ('seventeen words', 9, FOUR + JUNK, bytes(range(17)), 0, 0),
+    ('40 words', 9, FOUR + JUNK, bytes(40), 0, 0),
+    ('256 words', 9, FOUR + JUNK, bytes(256), 0, 0),
+    ('257 words', 9, FOUR + JUNK, bytes(257), 0, 0),
+    ('272 words', 9, FOUR + JUNK, bytes(272), 0, 0),
+    ('the word 0', 0, FOUR + JUNK, bytes(1), 0, 0),
+    ('the word 255', 0, FOUR + JUNK, bytes([255]), 0, 0),
+    ('the word 0 sixteen times', 0, FOUR + JUNK, bytes(16), 0, 0),
+    ('the word 255 sixteen times', 0, FOUR + JUNK, bytes([255]) * 16, 0, 0),
+    ('a sentence that is there', 0, FOUR + JUNK, bytes([0, 1]), 0, 0),
 
     # 9 before 11 to 14 and 19
-    ('no word, no byte', 9, b'', b'', 0),
-    ('no word, one byte short', 9, FOUR[:-1], b'', 0),
-    ('seventeen words, layout', 9, four((RECORD[1] + LENGTH, 0)), bytes(17), 0),
-    ('seventeen words, link', 9, four((2, 5)), bytes(17), 0),
-    ('no word, loop', 9, four((RECORD[2] + LINK, 2)), b'', 0),
-    ('no word, no room', 9, FOUR, b'', 0),
+    ('no word, no byte', 9, b'', b'', 0, 0),
+    ('no word, one byte short', 9, FOUR[:-1], b'', 0, 0),
+    ('seventeen words, layout', 9, four((RECORD[1] + LENGTH, 0)), bytes(17), 0, 0),
+    ('seventeen words, link', 9, four((2, 5)), bytes(17), 0, 0),
+    ('no word, loop', 9, four((RECORD[2] + LINK, 2)), b'', 0, 0),
+    ('no word, no room', 9, FOUR, b'', 0, 0),
 
     # 22: the voice, after 9 and before 11
-    ('voice 15', 0, FOUR + JUNK, bytes([5]), 15),
-    ('voice 16', 22, FOUR + JUNK, bytes([5]), 16),
-    ('voice 17', 22, FOUR + JUNK, bytes([5]), 17),
-    ('voice 255', 22, FOUR + JUNK, bytes([5]), 255),
-    ('voice 256', 22, FOUR + JUNK, bytes([5]), 256),
-    ('voice 2^32', 22, FOUR + JUNK, bytes([5]), 2**32),
-    ('voice 2^63', 22, FOUR + JUNK, bytes([5]), 2**63),
-    ('voice 2^64 - 1', 22, FOUR + JUNK, bytes([5]), 2**64 - 1),
-    ('voice 16, no byte', 22, b'', bytes([5]), 16),
-    ('voice 16, layout', 22, four((RECORD[1] + LENGTH, 0)), bytes([5]), 16),
-    ('voice 16, no room', 22, FOUR, bytes([5]), 16),
-    ('voice 16, no word', 9, FOUR + JUNK, b'', 16),
-    ('voice 15, no byte', 11, b'', bytes([5]), 15),
+    ('voice 15', 0, FOUR + JUNK, bytes([5]), 15, 0),
+    ('voice 16', 22, FOUR + JUNK, bytes([5]), 16, 0),
+    ('voice 17', 22, FOUR + JUNK, bytes([5]), 17, 0),
+    ('voice 255', 22, FOUR + JUNK, bytes([5]), 255, 0),
+    ('voice 256', 22, FOUR + JUNK, bytes([5]), 256, 0),
+    ('voice 2^32', 22, FOUR + JUNK, bytes([5]), 2**32, 0),
+    ('voice 2^63', 22, FOUR + JUNK, bytes([5]), 2**63, 0),
+    ('voice 2^64 - 1', 22, FOUR + JUNK, bytes([5]), 2**64 - 1, 0),
+    ('voice 16, no byte', 22, b'', bytes([5]), 16, 0),
+    ('voice 16, layout', 22, four((RECORD[1] + LENGTH, 0)), bytes([5]), 16, 0),
+    ('voice 16, no room', 22, FOUR, bytes([5]), 16, 0),
+    ('voice 16, no word', 9, FOUR + JUNK, b'', 16, 0),
+    ('voice 15, no byte', 11, b'', bytes([5]), 15, 0),
+
+    # 23: the words played, after 22 and before 11
+    ('one word, one played', 23, FOUR + JUNK, bytes([5]), 0, 1),
+    ('two words, one played', 0, FOUR + JUNK, bytes([5, 6]), 0, 1),
+    ('two words, two played', 23, FOUR + JUNK, bytes([5, 6]), 0, 2),
+    ('two words, three played', 23, FOUR + JUNK, bytes([5, 6]), 0, 3),
+    ('sixteen words, fifteen played', 0, FOUR + JUNK, bytes(range(16)), 0, 15),
+    ('sixteen words, sixteen played', 23, FOUR + JUNK, bytes(range(16)), 0, 16),
+    ('sixteen words, seventeen played', 23, FOUR + JUNK, bytes(range(16)), 0, 17),
+    ('255 played', 23, FOUR + JUNK, bytes([5, 6]), 0, 255),
+    ('256 played', 23, FOUR + JUNK, bytes([5, 6]), 0, 256),
+    ('257 played', 23, FOUR + JUNK, bytes([5, 6]), 0, 257),
+    ('2^32 played', 23, FOUR + JUNK, bytes([5, 6]), 0, 2**32),
+    ('2^32 + 1 played', 23, FOUR + JUNK, bytes([5, 6]), 0, 2**32 + 1),
+    ('2^63 played', 23, FOUR + JUNK, bytes([5, 6]), 0, 2**63),
+    ('2^64 - 1 played', 23, FOUR + JUNK, bytes([5, 6]), 0, 2**64 - 1),
+    ('all played, voice 16', 22, FOUR + JUNK, bytes([5, 6]), 16, 2),
+    ('one played, no word', 9, FOUR + JUNK, b'', 0, 1),
+    ('all played, no byte', 23, b'', bytes([5, 6]), 0, 2),
+    ('all played, layout', 23, four((RECORD[1] + LENGTH, 0)), bytes([5, 6]), 0, 2),
+    ('all played, no room', 23, FOUR, bytes([5, 6]), 0, 2),
+    ('one played, no byte', 11, b'', bytes([5, 6]), 0, 1),
+    ('one played, layout', 12, four((RECORD[1] + LENGTH, 0)), bytes([5, 6]), 0, 1),
+    ('one played, no room', 19, FOUR, bytes([5, 6]), 0, 1),
 
     # 19: the room
-    ('no record, no room', 19, bytes(4), bytes([5]), 0),
-    ('no record, one byte less than the room', 19, bytes(4) + JUNK[:19], bytes([5]), 0),
-    ('no record, exactly the room', 0, bytes(4) + JUNK[:20], bytes([5]), 0),
-    ('no slack', 19, FOUR, bytes([5]), 0),
-    ('one byte less than the room', 19, FOUR + JUNK[:19], bytes([5]), 0),
-    ('exactly the room', 0, FOUR + JUNK[:20], bytes([5]), 0),
-    ('one byte more than the room', 0, FOUR + JUNK[:21], bytes([5]), 0),
+    ('no record, no room', 19, bytes(4), bytes([5]), 0, 0),
+    ('no record, one byte less than the room', 19, bytes(4) + JUNK[:19], bytes([5]), 0, 0),
+    ('no record, exactly the room', 0, bytes(4) + JUNK[:20], bytes([5]), 0, 0),
+    ('no slack', 19, FOUR, bytes([5]), 0, 0),
+    ('one byte less than the room', 19, FOUR + JUNK[:19], bytes([5]), 0, 0),
+    ('exactly the room', 0, FOUR + JUNK[:20], bytes([5]), 0, 0),
+    ('one byte more than the room', 0, FOUR + JUNK[:21], bytes([5]), 0, 0),
 
     # The record is written in full
-    ('slack of 255, one word', 0, FOUR + bytes([255]) * 25, bytes([9]), 0),
-    ('slack of 255, three words', 0, FOUR + bytes([255]) * 25, bytes([9, 0, 9]), 0),
-    ('slack of 255, fifteen words', 0, FOUR + bytes([255]) * 25, bytes([9]) * 15, 0),
-    ('slack of 255, voice 3', 0, FOUR + bytes([255]) * 25, bytes([9]), 3),
-    ('sixteen words in voice 15', 0, FOUR + bytes(20), bytes([255]) * 16, 15),
-    ('a sentence that is there, in another voice', 0, FOUR + JUNK, bytes([0, 1]), 1),
-    ('head is not K', 0, eight([3, 8, 1, 6, 7, 2, 5, 4]) + JUNK, bytes([9]), 0),
+    ('slack of 255, one word', 0, FOUR + bytes([255]) * 25, bytes([9]), 0, 0),
+    ('slack of 255, three words', 0, FOUR + bytes([255]) * 25, bytes([9, 0, 9]), 0, 0),
+    ('slack of 255, fifteen words', 0, FOUR + bytes([255]) * 25, bytes([9]) * 15, 0, 0),
+    ('slack of 255, voice 3', 0, FOUR + bytes([255]) * 25, bytes([9]), 3, 0),
+    ('sixteen words in voice 15', 0, FOUR + bytes(20), bytes([255]) * 16, 15, 0),
+    ('a sentence that is there, in another voice', 0, FOUR + JUNK, bytes([0, 1]), 1, 0),
+    ('slack of 255, voice 3, two played', 0, FOUR + bytes([255]) * 25, bytes([9, 0, 9]), 3, 2),
+    ('sixteen words in voice 15, fifteen played', 0, FOUR + bytes(20), bytes([255]) * 16, 15, 15),
+    ('a sentence that is there, broken off', 0, FOUR + JUNK, bytes([0, 1]), 0, 1),
+    ('a sentence that was broken off, in full', 0, four((RECORD[2] + FOURTH, 1)) + JUNK, bytes([0, 1]), 0, 0),
+    ('head is not K', 0, eight([3, 8, 1, 6, 7, 2, 5, 4]) + JUNK, bytes([9]), 0, 0),
 ]
 
 
 def log_defects():
-    """Every subset of 9, 22, 11 to 14 and 19 in one call: the first in this order is the answer."""
+    """Every subset of 9, 22, 23, 11 to 14 and 19 in one call: the first in this order is the answer."""
     base = history([bytes([i]) for i in range(5)])
     places = {12: (64 + FOURTH, 1), 13: (44 + LINK, 6), 14: (24 + LINK, 1)}
-    for subset in range(128):
-        chosen = [refusal for i, refusal in enumerate([9, 22, 11, 12, 13, 14, 19]) if subset >> i & 1]
+    for subset in range(256):
+        chosen = [refusal for i, refusal in enumerate([9, 22, 23, 11, 12, 13, 14, 19]) if subset >> i & 1]
         data = damaged(base, [places[refusal] for refusal in chosen if refusal in places]) + JUNK[:20 - (19 in chosen)]
         if 11 in chosen:
             data = data[:len(base) - 1]
-        yield f'defects {chosen}', chosen[0] if chosen else 0, data, bytes([5] * (9 not in chosen)), 16 if 22 in chosen else 6
+        sentence = bytes([5, 6] * (9 not in chosen))
+        yield f'defects {chosen}', chosen[0] if chosen else 0, data, sentence, 16 if 22 in chosen else 6, 2 if 23 in chosen else 1
 
 
 def resized_histories():
     """Two records and slack, cut to each size."""
     for size in range(67):
         buffer = Buffer(f'two, {size} bytes', (history([bytes([1, 2]), bytes([3])], [2, 1]) + JUNK)[:size])
-        buffer.log(bytes([5]), 0)
+        buffer.log(bytes([5]), 0, 0)
         yield buffer
 
 
@@ -808,11 +854,21 @@ def damaged_histories():
             yield Buffer(f'two, byte {at} is {value}', damaged(data, [(at, value)]))
 
 
-def logged(name, data, sentences, unshown=0, voices=None):
+def every_figure():
+    """A sentence of each length with every figure from 0 to 15 in its record, and handed to Log with each, 16 and 17."""
+    for length in range(1, 17):
+        sentence = bytes(range(1, length + 1))
+        for figure in range(16):
+            yield Buffer(f'{length} words, {figure} played', history([sentence], voices=[(length + figure) % 16], played=[figure]))
+        yield logged(f'{length} words', bytes(4) + (JUNK * 5)[:340], [sentence] * 18, 17, [(length + figure) % 16 for figure in range(18)], range(18))
+
+
+def logged(name, data, sentences, unshown=0, voices=None, played=None):
     """The sentences logged one after the other, each followed by a check; the first ones without the buffer's bytes."""
     buffer = Buffer(name, data)
-    for i, (sentence, voice) in enumerate(zip(sentences, voices or [0] * len(sentences), strict=True)):
-        buffer.log(sentence, voice, i >= unshown)
+    none = [0] * len(sentences)
+    for i, (sentence, voice, figure) in enumerate(zip(sentences, voices or none, played or none, strict=True)):
+        buffer.log(sentence, voice, figure, i >= unshown)
         buffer.check()
     return buffer
 
@@ -840,12 +896,15 @@ def random_histories(rng):
     for i in range(60):
         k = rng.below(7)
         voices = [rng.choice([0, rng.below(16)]) for _ in range(k)]
-        data = history([random_sentence(rng, 1, 16) for _ in range(k)], rng.shuffled(range(1, k + 1)), voices=voices)
+        said = [random_sentence(rng, 1, 16) for _ in range(k)]
+        played = [rng.choice([0, rng.below(len(sentence))]) for sentence in said]
+        data = history(said, rng.shuffled(range(1, k + 1)), voices=voices, played=played)
         for places in history_damages(rng, data):
             slack = bytes(rng.below(10) for _ in range(rng.below(50)))
             sentences = [random_sentence(rng, 0, 17) for _ in range(1 + rng.below(3))]
             voices = [rng.choice([0, 1, 15, rng.below(16), 16 + rng.below(240), rng.below(2**64)]) for _ in sentences]
-            yield logged(f'random {i}, damage {places}', damaged(data, places) + slack, sentences, len(sentences) - 1, voices)
+            played = [rng.choice([0, 1, rng.below(max(1, len(sentence))), len(sentence), rng.below(2**64)]) for sentence in sentences]
+            yield logged(f'random {i}, damage {places}', damaged(data, places) + slack, sentences, len(sentences) - 1, voices, played)
 
 
 def history_cases():
@@ -854,17 +913,19 @@ def history_cases():
         if oracle.check_history(data)[0] != refusal:
             raise AssertionError(f'{name}: document 01 gives {refusal}, the brute-force program {oracle.check_history(data)[0]}')
         buffer = Buffer(name, data)
-        buffer.log(bytes([5, 6]), 0, len(data) < 1000)
+        buffer.log(bytes([5, 6]), 0, 0, len(data) < 1000)
         buffers.append(buffer)
-    for name, refusal, data, sentence, voice in LOG_TRAPS + list(log_defects()):
-        if oracle.append(data, sentence, voice)[0] != refusal:
-            raise AssertionError(f'{name}: the documents give {refusal}, the brute-force program {oracle.append(data, sentence, voice)[0]}')
-        buffers.append(logged(name, data, [sentence], voices=[voice]))
+    for name, refusal, data, sentence, voice, played in LOG_TRAPS + list(log_defects()):
+        answer = oracle.append(data, sentence, voice, played)[0]
+        if answer != refusal:
+            raise AssertionError(f'{name}: the documents give {refusal}, the brute-force program {answer}')
+        buffers.append(logged(name, data, [sentence], voices=[voice], played=[played]))
     buffers += [
-        *resized_histories(), *damaged_histories(),
+        *resized_histories(), *damaged_histories(), *every_figure(),
         logged('from none to five', bytes(4) + (JUNK * 2)[:100], [bytes(range(i)) for i in [1, 16, 0, 2, 17, 15, 3, 1]]),
         logged('the same sentence', bytes(4) + bytes([255]) * 79, [bytes([8, 0])] * 4),
         logged('in every voice', bytes(4) + bytes([255]) * 320, [bytes([8, 0])] * 16, 15, range(16)),
+        logged('broken off and in full', bytes(4) + bytes([255]) * 120, [bytes([8, 0])] * 6, 5, played=[1, 0, 1, 1, 0, 1]),
         logged('253 to 258', many(253) + JUNK * 2, [bytes([i]) for i in range(5)], 4),
         logged('999 to 1,000', many(999, [*range(500, 1000), *range(1, 500)]) + JUNK[:50], [bytes([5]), bytes([6]), bytes([7])], 2),
         logged('999, exactly the room', many(999) + JUNK[:20], [bytes([5])], 1),

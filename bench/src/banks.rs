@@ -177,7 +177,7 @@ pub fn every_tree() -> Vec<u8> {
     encode(5, 0, &[chain], &[0, 1, 2, 3, 4, 5])
 }
 
-/// A history of these sentences, in voice 0, chained in an order of its own.
+/// A history of these sentences, in voice 0 and played in full, chained in an order of its own.
 pub fn history(sentences: &[Vec<u8>], rng: &mut Rng) -> Vec<u8> {
     let k = sentences.len();
     let order = rng.some_of(k, k);
@@ -210,10 +210,11 @@ pub fn logged(sentences: &[Vec<u8>]) -> Vec<u8> {
     bytes
 }
 
-/// The same records, each in a voice by its place.
-pub fn spoken(mut history: Vec<u8>, voice: &mut dyn FnMut(usize) -> u8) -> Vec<u8> {
+/// The same records, each with a voice and a count of words played, by its place and its length.
+pub fn spoken(mut history: Vec<u8>, how: &mut dyn FnMut(usize, usize) -> (u8, u8)) -> Vec<u8> {
     for (i, record) in history[4..].chunks_exact_mut(20).enumerate() {
-        record[3] = 16 * voice(i);
+        let (voice, played) = how(i, record[2] as usize);
+        record[3] = 16 * voice + played;
     }
     history
 }
@@ -268,7 +269,8 @@ pub fn small_bank(rng: &mut Rng) -> Vec<u8> {
     bank
 }
 
-/// A small history, often a damaged one or one with slack, in one voice or in several; `sentence` makes some of its sentences.
+/// A small history, often a damaged one or one with slack, in one voice or in several, some of it broken off; `sentence` makes some of its
+/// sentences.
 pub fn small_history(rng: &mut Rng, sentence: &mut dyn FnMut(&mut Rng) -> Option<Vec<u8>>) -> Vec<u8> {
     let k = rng.index(7);
     let sentences: Vec<Vec<u8>> = (0..k)
@@ -282,8 +284,11 @@ pub fn small_history(rng: &mut Rng, sentence: &mut dyn FnMut(&mut Rng) -> Option
         })
         .collect();
     let h = history(&sentences, rng);
-    let (voice, most) = (small_voice(rng), [1, 2, 16][rng.index(3)]);
-    let mut h = spoken(h, &mut |_| (voice + rng.below(most) as u8) % 16);
+    let (voice, most, broken) = (small_voice(rng), [1, 2, 16][rng.index(3)], [0, 0, 1, 3][rng.index(4)]);
+    let mut h = spoken(h, &mut |_, length| {
+        let played = if rng.below(4) < broken { rng.index(length) as u8 } else { 0 };
+        ((voice + rng.below(most) as u8) % 16, played)
+    });
     if k > 0 && rng.below(12) == 0 {
         h[7 + 20 * rng.index(k)] |= 1 + rng.below(15) as u8;
     }

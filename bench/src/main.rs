@@ -15,7 +15,7 @@ const DRAWS: usize = 20;
 // ---- Both answer alike
 
 /// Refusals have numbers below it. 18 is returned no more, and there is no 21.
-const REFUSALS: usize = 23;
+const REFUSALS: usize = 24;
 const NEVER: [usize; 2] = [18, 21];
 
 /// How often each refusal was given, 0 for accepted.
@@ -75,10 +75,10 @@ impl Alike {
         self.same_buffers("draw", &input, &x, &y);
     }
 
-    fn append(&mut self, h: &[u8], s: &[u8], v: u64) {
+    fn append(&mut self, h: &[u8], s: &[u8], v: u64, p: u64) {
         let (mut x, mut y) = (h.to_vec(), h.to_vec());
-        let input = (h, s, v);
-        self.note("append", &input, ours::append(&mut x, s, v), plain::append(&mut y, s, v));
+        let input = (h, s, v, p);
+        self.note("append", &input, ours::append(&mut x, s, v, p), plain::append(&mut y, s, v, p));
         self.same_buffers("append", &input, &x, &y);
     }
 }
@@ -128,7 +128,14 @@ fn random_inputs(alike: &mut Alike) {
         alike.history(&h);
         alike.remaining(&g, &h, n, v);
         alike.draw(&g, &h, n, v, number(&mut rng), room);
-        alike.append(&h, &s, v);
+        let p = match rng.below(8) {
+            0 => rng.below(18),
+            1 => s.len() as u64,
+            2 => 1 << rng.below(64),
+            3..=5 => rng.below(s.len().max(1) as u64),
+            _ => 0,
+        };
+        alike.append(&h, &s, v, p);
     }
 }
 
@@ -241,6 +248,7 @@ const MOST: Duration = Duration::from_secs(3);
 
 // ---- Inputs
 
+#[derive(Default)]
 struct Case {
     name: &'static str,
     /// The same shape with other seeds: other chains and rule numbers. The first is the one that histories belong to.
@@ -256,6 +264,8 @@ struct Case {
     mixed: Vec<Vec<u8>>,
     /// The full ones in voices 0 to 15 in turn; all others are in voice 0.
     spoken: Vec<Vec<u8>>,
+    /// The full ones with every second record broken off; all others are played in full.
+    broken: Vec<Vec<u8>>,
 }
 
 fn sentence(bank: &[u8], n: u64, d: u64) -> Vec<u8> {
@@ -273,8 +283,7 @@ fn case(name: &'static str, banks: Vec<Vec<u8>>, length: u64, mixed: bool) -> Ca
     let total = plain::count(bank, length).expect("an accepted bank");
     let numbers: Vec<u64> = (0..MANY).map(|_| rng.below(total - 1_000)).collect();
     let sentences = numbers.iter().map(|&d| sentence(bank, length, d)).collect();
-    let mut case =
-        Case { name, length, total, sentences, numbers, full: Vec::new(), half: Vec::new(), mixed: Vec::new(), spoken: Vec::new(), banks };
+    let mut case = Case { name, length, total, sentences, numbers, banks, ..Case::default() };
     for _ in 0..4 {
         let mut met = HashSet::new();
         let mut heard = Vec::new();
@@ -297,8 +306,10 @@ fn case(name: &'static str, banks: Vec<Vec<u8>>, length: u64, mixed: bool) -> Ca
             }
             rng.shuffle(&mut heard);
             case.mixed.push(banks::history(&heard, &mut rng));
-            let full = case.full.last().unwrap().clone();
-            case.spoken.push(banks::spoken(full, &mut |i| (i % 16) as u8));
+            let full = case.full.last().unwrap();
+            case.spoken.push(banks::spoken(full.clone(), &mut |i, _| ((i % 16) as u8, 0)));
+            let played = |i: usize, length: usize| if i % 2 == 1 { 1 + (i / 2 % (length - 1)) as u8 } else { 0 };
+            case.broken.push(banks::spoken(full.clone(), &mut |i, length| (0, played(i, length))));
         }
     }
     case.half.resize(4 + 20 * 1_000, 0);
@@ -331,9 +342,10 @@ fn table_inputs(alike: &mut Alike, cases: &[Case]) {
             alike.unrank(g, n, d, 16);
             alike.rank(g, s);
             alike.draw(g, &EMPTY, n, 0, d, 16);
-            alike.append(&c.half, s, 0);
+            alike.append(&c.half, s, 0, 0);
         }
-        for h in [&EMPTY[..], &c.half].into_iter().chain(c.full.iter().chain(&c.mixed).chain(&c.spoken).map(Vec::as_slice)) {
+        let made = c.full.iter().chain(&c.mixed).chain(&c.spoken).chain(&c.broken).map(Vec::as_slice);
+        for h in [&EMPTY[..], &c.half].into_iter().chain(made) {
             alike.history(h);
             for v in 0..16 {
                 alike.remaining(g, h, n, v);
@@ -394,8 +406,10 @@ fn calls_table(report: &mut Report, c: &Case) {
         report.row(&format!("check_history, {what}"), row);
         sampling_rows(report, c, what, h, draws);
     }
-    if !c.spoken.is_empty() {
-        sampling_rows(report, c, "full history in sixteen voices", &c.spoken, DRAWS);
+    for (what, h) in [("full history in sixteen voices", &c.spoken), ("full history, half of it broken off", &c.broken)] {
+        if !h.is_empty() {
+            sampling_rows(report, c, what, h, DRAWS);
+        }
     }
     // the four bytes of K and head are put back before each call
     let (mut h, mut h2) = (c.half.clone(), c.half.clone());
@@ -404,11 +418,11 @@ fn calls_table(report: &mut Report, c: &Case) {
         MANY,
         |i| {
             h[..4].copy_from_slice(&header);
-            ours::append(&mut h, &c.sentences[i], 0)
+            ours::append(&mut h, &c.sentences[i], 0, 0)
         },
         |i| {
             h2[..4].copy_from_slice(&header);
-            plain::append(&mut h2, &c.sentences[i], 0)
+            plain::append(&mut h2, &c.sentences[i], 0, 0)
         },
     );
     report.row("append, half full", row);

@@ -40,7 +40,7 @@ extern "C" {
         remaining: *mut u64,
         number: *mut u64,
     ) -> c_uchar;
-    fn pumpfennel_append(h: *mut u8, h_len: usize, s: *const u8, s_len: usize, voice: u64, records: *mut u64) -> c_uchar;
+    fn pumpfennel_append(h: *mut u8, h_len: usize, s: *const u8, s_len: usize, voice: u64, played: u64, records: *mut u64) -> c_uchar;
 }
 
 /// What a figure holds before a call: a refusal must turn it into 0.
@@ -97,8 +97,8 @@ pub fn draw(g: &[u8], h: &[u8], length: u64, voice: u64, q: u64, out: &mut [u8])
     answer(r, &[l, d], (l, d))
 }
 
-pub fn append(h: &mut [u8], s: &[u8], voice: u64) -> Result<u64, u8> {
+pub fn append(h: &mut [u8], s: &[u8], voice: u64, played: u64) -> Result<u64, u8> {
     let mut k = BEFORE;
-    let r = unsafe { pumpfennel_append(h.as_mut_ptr(), h.len(), s.as_ptr(), s.len(), voice, &mut k) };
+    let r = unsafe { pumpfennel_append(h.as_mut_ptr(), h.len(), s.as_ptr(), s.len(), voice, played, &mut k) };
     answer(r, &[k], k)
 }

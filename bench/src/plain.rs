@@ -1,5 +1,5 @@
-//! The calls of document 01, with document 02's U2, U4 and U6, in plain Rust: the yardstick. Written from the documents alone; no unsafe
-//! code, no threads, nothing kept between calls. An error is the refusal's number.
+//! The calls of document 01, with document 02's U2, U4, U5 and U6, in plain Rust: the yardstick. Written from the documents alone; no
+//! unsafe code, no threads, nothing kept between calls. An error is the refusal's number.
 
 const MOST_RECORDS: usize = 1000;
 const LAST_VOICE: u64 = 15;
@@ -379,7 +379,8 @@ impl<'a> History<'a> {
         let mut far = head > k;
         for record in h.records.chunks_exact(20) {
             let length = record[2] as usize;
-            if !(1..=16).contains(&length) || record[3] % 16 != 0 {
+            let played = record[3] as usize % 16;
+            if !(1..=16).contains(&length) || played >= length {
                 return Err(12);
             }
             if record[4 + length..].iter().any(|&b| b != 0) {
@@ -411,9 +412,11 @@ impl<'a> History<'a> {
             return Ok(numbers);
         }
         let mut parser = Parser::new(g, t);
+        // A record played in full has the voice in its fourth byte and nothing beside it.
+        let in_full = 16 * voice as u8;
         // Which records are first makes no difference: each is asked by itself.
         for record in self.records.chunks_exact(20) {
-            if record[2] as usize != n || (record[3] / 16) as u64 != voice {
+            if record[2] as usize != n || record[3] != in_full {
                 continue;
             }
             match parser.find(&record[4..4 + n]) {
@@ -544,13 +547,16 @@ pub fn draw(grammar: &[u8], history: &[u8], length: u64, voice: u64, q: u64, out
 }
 
 #[inline(never)]
-pub fn append(history: &mut [u8], sentence: &[u8], voice: u64) -> Result<u64, u8> {
+pub fn append(history: &mut [u8], sentence: &[u8], voice: u64, played: u64) -> Result<u64, u8> {
     let n = sentence.len();
     if !(1..=16).contains(&n) {
         return Err(9);
     }
     if voice > LAST_VOICE {
         return Err(22);
+    }
+    if played >= n as u64 {
+        return Err(23);
     }
     let h = History::read(history)?;
     let (new, head) = (h.count() + 1, h.head);
@@ -561,7 +567,7 @@ pub fn append(history: &mut [u8], sentence: &[u8], voice: u64) -> Result<u64, u8
     record.fill(0);
     record[..2].copy_from_slice(&(head as u16).to_le_bytes());
     record[2] = n as u8;
-    record[3] = 16 * voice as u8;
+    record[3] = (16 * voice + played) as u8;
     record[4..4 + n].copy_from_slice(sentence);
     history[..2].copy_from_slice(&(new as u16).to_le_bytes());
     history[2..4].copy_from_slice(&(new as u16).to_le_bytes());

@@ -12,7 +12,7 @@ unsafe extern "C" {
     pub safe fn pumpfennel_version() -> u64;
 
     // version: from VERSION, by tools/generate
-    #[link_name = "pumpfennel_interface_0_4"]
+    #[link_name = "pumpfennel_interface_0_5"]
     // end of version
     pub safe fn pumpfennel_interface() -> u64;
 
@@ -79,6 +79,7 @@ unsafe extern "C" {
         sentence: *const u8,
         sentence_len: usize,
         voice: u64,
+        played: u64,
         records: *mut u64,
     ) -> u8;
 }

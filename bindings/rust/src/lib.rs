@@ -1,9 +1,11 @@
 //! A verified sampler of test sentences for cochlear implant fitting.
 //!
-//! A *grammar* derives sentences of 1 to 16 words, a *history* holds the sentences that one patient has heard, each
-//! with its talker's *voice* from 0 to 15. The calls count the derivations of a length, give the sentence of a
-//! derivation number and the number of a sentence, and draw from what is unheard in a voice. Both are plain bytes,
-//! laid out as the project's documents 01 and 02 say; they call them bank and diary.
+//! A *grammar* derives sentences of 1 to 16 words, a *history* holds the sentences that were played to one patient,
+//! each with its talker's *voice* from 0 to 15 and with how many of its words were *played*, where 0 means all. A
+//! sentence that was played in full is heard in its voice; one that was broken off may be drawn again. The calls count
+//! the derivations of a length, give the sentence of a derivation number and the number of a sentence, and draw from
+//! what is unheard in a voice. Both are plain bytes, laid out as the project's documents 01 and 02 say; they call them
+//! bank and diary.
 //!
 //! The work is done by a proved archive, written by `rt staticlib pumpfennel` in the project's folder. This crate
 //! links it and gives each of its functions a safe face; it checks nothing itself and allocates nothing. No call
@@ -33,9 +35,13 @@
 //! assert_eq!(sentence, [3, 11, 24, 31, 45]);
 //! assert_eq!(pumpfennel::rank(&grammar, &sentence)?.number, DerivationNumber(31415));
 //!
-//! // A history with room for 30 records. Once the sentence is heard in voice 0, no draw in that voice gives it again.
+//! // A history with room for 30 records. In voice 0, playback was broken off after two words: the sentence is unheard.
 //! let mut history = [0; pumpfennel::history_size(30)];
-//! pumpfennel::append(&mut history, &sentence, 0)?;
+//! pumpfennel::append(&mut history, &sentence, 0, 2)?;
+//! assert_eq!(pumpfennel::remaining(&grammar, &history, 5, 0)?.remaining, 100_000);
+//!
+//! // Once it was played in full, it is heard in voice 0, and no draw in that voice gives it again.
+//! pumpfennel::append(&mut history, &sentence, 0, 0)?;
 //! assert_eq!(pumpfennel::remaining(&grammar, &history, 5, 0)?.remaining, 99_999);
 //! let drawn = pumpfennel::draw(&grammar, &history, 5, 0, DrawNumber(31415), &mut sentence)?;
 //! assert_eq!(drawn.number, DerivationNumber(31416));
@@ -279,14 +285,15 @@ pub fn rank(grammar: &[u8], sentence: &[u8]) -> Result<Ranked, Refusal> {
 }
 
 /// Counts what is unheard in a voice. A sentence is heard in a voice if the history has a record with its length, its
-/// words and that voice.
+/// words and that voice, played in full.
 ///
 /// ```
 /// use pumpfennel::Remaining;
 ///
 /// let grammar = [2, 2, 4, 0, 1, 3, 1, 1, 1, 2, 1, 0, 1, 0, 0, 0, 0, 4, 0, 1, 0, 0];
-/// let mut history = [0; 24];
-/// pumpfennel::append(&mut history, &[0, 1], 3)?;
+/// let mut history = [0; 44];
+/// pumpfennel::append(&mut history, &[0, 1], 3, 0)?; // in full
+/// pumpfennel::append(&mut history, &[1, 1], 3, 1)?; // one word
 /// let remaining = Remaining { total: 4, heard: 1, remaining: 3 };
 /// assert_eq!(pumpfennel::remaining(&grammar, &history, 2, 3)?, remaining);
 /// // heard in voice 3, and in no other
@@ -326,7 +333,7 @@ pub fn remaining(grammar: &[u8], history: &[u8], length: u64, voice: u64) -> Res
 ///
 /// let grammar = [2, 2, 4, 0, 1, 3, 1, 1, 1, 2, 1, 0, 1, 0, 0, 0, 0, 4, 0, 1, 0, 0];
 /// let mut history = [0; 24];
-/// pumpfennel::append(&mut history, &[0, 1], 0)?;
+/// pumpfennel::append(&mut history, &[0, 1], 0, 0)?;
 /// let mut sentence = [0; 2];
 /// let drawn = Drawn { remaining: 3, number: DerivationNumber(2) };
 /// assert_eq!(pumpfennel::draw(&grammar, &history, 2, 0, DrawNumber(1), &mut sentence)?, drawn);
@@ -367,24 +374,28 @@ pub fn draw(
     accepted(refusal, Drawn { remaining, number: DerivationNumber(number) })
 }
 
-/// Adds a sentence, heard in a voice, to the history that `history` holds, and gives how many records there are then.
-/// The buffer must have room for the record, 20 bytes past the last one. Any word bytes will do.
+/// Adds a sentence, played in a voice, to the history that `history` holds, and gives how many records there are then.
+/// `played` is how many of its words were played before playback was broken off; 0: it was played in full, and is then
+/// heard in that voice. The buffer must have room for the record, 20 bytes past the last one. Any word bytes will do.
 ///
 /// ```
 /// use pumpfennel::Refusal;
 ///
-/// let mut history = [0; 24]; // no record, and room for one
-/// assert_eq!(pumpfennel::append(&mut history, &[0, 1], 16), Err(Refusal::BadVoice));
-/// assert_eq!(pumpfennel::append(&mut history, &[0, 1], 3), Ok(1));
-/// assert_eq!(history[..10], [1, 0, 1, 0, 0, 0, 2, 16 * 3, 0, 1]);
-/// assert_eq!(history[10..], [0; 14]);
-/// assert_eq!(pumpfennel::append(&mut history, &[0, 1], 3), Err(Refusal::HistoryFull));
+/// let mut history = [0; 44]; // no record, and room for two
+/// assert_eq!(pumpfennel::append(&mut history, &[0, 1], 16, 0), Err(Refusal::BadVoice));
+/// assert_eq!(pumpfennel::append(&mut history, &[0, 1], 3, 2), Err(Refusal::BadPlayed));
+/// assert_eq!(pumpfennel::append(&mut history, &[0, 1], 3, 1), Ok(1)); // broken off after one word
+/// assert_eq!(history[..10], [1, 0, 1, 0, 0, 0, 2, 16 * 3 + 1, 0, 1]);
+/// assert_eq!(history[10..], [0; 34]);
+/// assert_eq!(pumpfennel::append(&mut history, &[0, 1], 3, 0), Ok(2)); // played in full
+/// assert_eq!(history[24..30], [1, 0, 2, 16 * 3, 0, 1]);
+/// assert_eq!(pumpfennel::append(&mut history, &[0, 1], 3, 0), Err(Refusal::HistoryFull));
 /// ```
 ///
 /// # Errors
 ///
-/// Refusals 9, 11 to 14, 19 and 22.
-pub fn append(history: &mut [u8], sentence: &[u8], voice: u64) -> Result<u64, Refusal> {
+/// Refusals 9, 11 to 14, 19, 22 and 23. 23 comes right after 22.
+pub fn append(history: &mut [u8], sentence: &[u8], voice: u64, played: u64) -> Result<u64, Refusal> {
     let mut records = 0;
     // SAFETY: two slices, of which the one that is written is borrowed alone, and a figure of this function.
     let refusal = unsafe {
@@ -394,6 +405,7 @@ pub fn append(history: &mut [u8], sentence: &[u8], voice: u64) -> Result<u64, Re
             sentence.as_ptr(),
             sentence.len(),
             voice,
+            played,
             &mut records,
         )
     };

@@ -29,7 +29,7 @@ pub enum Refusal {
     TooManyDerivations = 10,
     /// The history has fewer than 4 bytes, K is above 1,000, or it has fewer than 4 + 20K bytes.
     HistoryWrongSize = 11,
-    /// Some record has a wrong length, a fourth byte whose low four bits are not 0, or a non-zero byte beyond its words.
+    /// Some record has a wrong length, a count of words played that is its length or more, or a non-zero byte beyond its words.
     HistoryBadRecord = 12,
     /// The history's head or some next is above K.
     HistoryBadLink = 13,
@@ -49,11 +49,13 @@ pub enum Refusal {
     BufferTooShort = 20,
     /// The voice is above 15.
     BadVoice = 22,
+    /// The count of words played is the sentence's length or more.
+    BadPlayed = 23,
 }
 
 impl Refusal {
     /// Every refusal, by rising number.
-    pub const ALL: [Refusal; 21] = [
+    pub const ALL: [Refusal; 22] = [
         Refusal::GrammarTooShort,
         Refusal::GrammarOutOfRange,
         Refusal::GrammarWrongSize,
@@ -75,6 +77,7 @@ impl Refusal {
         Refusal::HistoryFull,
         Refusal::BufferTooShort,
         Refusal::BadVoice,
+        Refusal::BadPlayed,
     ];
 
     /// What the refusal says in words: a sentence without its first capital and its full stop.
@@ -94,7 +97,7 @@ impl Refusal {
                 "the history has fewer than 4 bytes, K is above 1,000, or it has fewer than 4 + 20K bytes"
             }
             Refusal::HistoryBadRecord => {
-                "some record has a wrong length, a fourth byte whose low four bits are not 0, or a non-zero byte beyond its words"
+                "some record has a wrong length, a count of words played that is its length or more, or a non-zero byte beyond its words"
             }
             Refusal::HistoryBadLink => "the history's head or some next is above K",
             Refusal::HistoryBadChain => "the history's chain meets a record twice or misses one",
@@ -105,6 +108,7 @@ impl Refusal {
             Refusal::HistoryFull => "the history has 1,000 records or no room for one more",
             Refusal::BufferTooShort => "the sentence's buffer is shorter than the length",
             Refusal::BadVoice => "the voice is above 15",
+            Refusal::BadPlayed => "the count of words played is the sentence's length or more",
         }
     }
 }

@@ -1,19 +1,20 @@
 //! The calls of the library against the reference, on stored, generated and hand-made inputs.
 mod support;
 
-use pumpfennel::{DerivationNumber, DrawNumber, Refusal};
+use pumpfennel::{DerivationNumber, DrawNumber, Refusal, Remaining};
 use std::collections::{BTreeMap, BTreeSet};
+use support::agreed;
 use support::case::{self, Answer, CALLS, Call, Case};
 use support::generate::{self, Rng, Spoken};
-use support::{agreed, reference};
+use support::reference::{self, Full, Readings, Record};
 
 const SEED: u64 = 20261115;
 
 // ---- Generated inputs
 
 /// Holds the library to the reference on generated cases of a call, among which every refusal of the call is. Gives
-/// the answers of the cases that were accepted.
-fn agree(call: Call, count: u64) -> Vec<Answer> {
+/// the cases that were accepted, with their answers.
+fn agree(call: Call, count: u64) -> Vec<(Case, Answer)> {
     let seed = SEED + call as u64;
     println!("{}: {count} cases from seed {seed}", call.name());
     let mut seen: BTreeMap<u8, u64> = BTreeMap::new();
@@ -23,7 +24,7 @@ fn agree(call: Call, count: u64) -> Vec<Answer> {
         let answer = agreed(&case).unwrap_or_else(|fault| panic!("seed {seed}, case {i}: {fault}"));
         *seen.entry(answer.refusal).or_default() += 1;
         if answer.refusal == 0 {
-            accepted.push(answer);
+            accepted.push((case, answer));
         }
     }
     println!("how many with each refusal: {seen:?}");
@@ -38,9 +39,26 @@ fn generated_check_grammar() {
     agree(Call::CheckGrammar, 200_000);
 }
 
+/// The records of an accepted history.
+fn records(history: &[u8]) -> Vec<Record<'_>> {
+    reference::read_history(history).expect("an accepted history")
+}
+
+/// Among these lengths and words played every length is, in full and broken off after any number of words, in plenty.
+fn every_extent(extents: impl Iterator<Item = (u64, u64)>) {
+    let mut seen: BTreeMap<(u64, u64), u64> = BTreeMap::new();
+    extents.for_each(|extent| *seen.entry(extent).or_default() += 1);
+    let in_full: u64 = seen.iter().filter(|((_, played), _)| *played == 0).map(|(_, many)| many).sum();
+    println!("{in_full} sentences in full, {} broken off", seen.values().sum::<u64>() - in_full);
+    assert!(seen.keys().copied().eq((1..=16).flat_map(|length| (0..length).map(move |played| (length, played)))));
+    assert!(seen.values().all(|&many| many > 100), "{seen:?}");
+}
+
 #[test]
 fn generated_check_history() {
-    agree(Call::CheckHistory, 200_000);
+    let accepted = agree(Call::CheckHistory, 200_000);
+    let all = accepted.iter().flat_map(|(case, _)| records(&case.history));
+    every_extent(all.map(|record| (record.words.len() as u64, u64::from(record.played))));
 }
 
 #[test]
@@ -57,7 +75,7 @@ fn generated_unrank() {
 #[test]
 fn generated_rank() {
     let mut kinds: BTreeMap<(u64, bool), u64> = BTreeMap::new();
-    for answer in agree(Call::Rank, 200_000) {
+    for (_, answer) in agree(Call::Rank, 200_000) {
         *kinds.entry((answer.figures[2].min(3), answer.figures[0] > 0)).or_default() += 1;
     }
     println!("by derivations and whether the lowest number is above 0: {kinds:?}");
@@ -65,13 +83,17 @@ fn generated_rank() {
     assert!(kinds.values().all(|&many| many > 1_000), "{kinds:?}");
 }
 
-/// Among them histories with sentences heard in the voice, in plenty.
+/// Among them histories with sentences heard in the voice, with sentences broken off, and with both, in plenty.
 #[test]
 fn generated_remaining() {
-    let accepted = agree(Call::Remaining, 150_000);
-    let heard = accepted.iter().filter(|answer| answer.figures[1] > 0).count();
-    println!("{heard} of {} with a heard sentence", accepted.len());
-    assert!(heard > 30_000);
+    let mut kinds: BTreeMap<(bool, bool), u64> = BTreeMap::new();
+    for (case, answer) in agree(Call::Remaining, 150_000) {
+        let broken = records(&case.history).iter().any(|record| record.played > 0);
+        *kinds.entry((answer.figures[1] > 0, broken)).or_default() += 1;
+    }
+    println!("by whether a sentence is heard, and whether one is broken off: {kinds:?}");
+    assert_eq!(kinds.len(), 4);
+    assert!(kinds.values().all(|&many| many > 15_000), "{kinds:?}");
 }
 
 #[test]
@@ -81,7 +103,8 @@ fn generated_draw() {
 
 #[test]
 fn generated_append() {
-    agree(Call::Append, 200_000);
+    let accepted = agree(Call::Append, 200_000);
+    every_extent(accepted.iter().map(|(case, _)| (case.sentence.len() as u64, case.played)));
 }
 
 /// The length up to which every nonterminal has few derivations, so that they can be written down.
@@ -141,10 +164,10 @@ fn given(case: &Case) -> Answer {
 
 /// The diary of P7, with room for one record more.
 fn heard_01() -> Vec<u8> {
-    generate::history(&[(0, vec![0, 1])], &[1], &[7; 20])
+    generate::history(&[Spoken::in_full(0, vec![0, 1])], &[1], &[7; 20])
 }
 
-/// Accepted: F, the diary of P7, length 2, voice 0.
+/// Accepted: F, the diary of P7, length 2, voice 0, played in full.
 fn accepted(call: Call) -> Case {
     let mut case = Case::new(call);
     if call.takes_grammar() {
@@ -185,12 +208,12 @@ fn fault(case: &mut Case, refusal: u8) {
             }
         }
         11 => case.history.truncate(3),
-        12 => case.history[7] = 1,
+        12 => case.history[7] = case.history[6], // as many words played as there are
         13 => case.history[2] = 2,
         14 => case.history[2] = 0,
         15 => {
             case.grammar = generate::g_words(1).bytes();
-            case.history = generate::history(&[(0, vec![0; 3])], &[1], &[]);
+            case.history = generate::history(&[Spoken::in_full(0, vec![0; 3])], &[1], &[]);
             case.length = 3;
         }
         16 => case.number = u64::MAX,
@@ -198,6 +221,7 @@ fn fault(case: &mut Case, refusal: u8) {
         19 => case.history.truncate(24),
         20 => case.sentence.truncate(1),
         22 => case.voice = 16,
+        23 => case.played = 2,
         _ => unreachable!("{refusal}"),
     }
 }
@@ -229,7 +253,7 @@ fn first_that_applies() {
         .collect();
     assert_eq!(reached, allowed);
     println!("{} pairs of a call and a refusal", reached.len() - CALLS.len());
-    assert_eq!(reached.len() - CALLS.len(), 86);
+    assert_eq!(reached.len() - CALLS.len(), 87);
 }
 
 // ---- Voices
@@ -241,7 +265,7 @@ fn left(grammar: &[u8], history: &[u8], length: u64, voice: u64) -> Answer {
 
 fn draw(grammar: &[u8], history: &[u8], length: u64, voice: u64, number: u64) -> Answer {
     let (grammar, history, sentence) = (grammar.to_vec(), history.to_vec(), vec![7; length as usize]);
-    given(&Case { call: Call::Draw, grammar, history, length, voice, number, sentence })
+    given(&Case { grammar, history, length, voice, number, sentence, ..Case::new(Call::Draw) })
 }
 
 /// Every draw from 0 on until one is refused, with 16: derivation numbers and sentences.
@@ -265,23 +289,28 @@ fn f_listed(length: usize) -> (Vec<u8>, Vec<Vec<u8>>) {
     (grammar, full)
 }
 
+/// A history of these sentences, the records numbered as they stand on the chain.
+fn in_order(sentences: &[Spoken]) -> Vec<u8> {
+    generate::history(sentences, &(1..=sentences.len()).collect::<Vec<usize>>(), &[])
+}
+
 /// The same words in all sixteen voices: each voice counts its own, once.
 #[test]
 fn same_words_in_every_voice() {
     let (grammar, full) = f_listed(5);
-    let mut sentences: Vec<Spoken> = (0..16).map(|voice| (voice, full[20].clone())).collect();
-    let history = generate::history(&sentences, &(1..=16).collect::<Vec<usize>>(), &[]);
+    let mut sentences: Vec<Spoken> = (0..16).map(|voice| Spoken::in_full(voice, full[20].clone())).collect();
+    let history = in_order(&sentences);
     for voice in 0..16 {
         assert_eq!(left(&grammar, &history, 5, voice).figures, [32, 1, 31]);
         assert!(every_draw(&grammar, &history, 5, voice).iter().all(|(_, words)| *words != full[20]));
     }
     // Beside them voice v has the first v sentences, each twice.
     for voice in 0..16 {
-        let more = full[..usize::from(voice)].iter().map(|words| (voice, words.clone()));
+        let more = full[..usize::from(voice)].iter().map(|words| Spoken::in_full(voice, words.clone()));
         sentences.extend(more.clone().chain(more));
     }
     Rng::new(SEED).shuffle(&mut sentences);
-    let history = generate::history(&sentences, &(1..=sentences.len()).collect::<Vec<usize>>(), &[]);
+    let history = in_order(&sentences);
     for voice in 0..16 {
         assert_eq!(left(&grammar, &history, 5, voice).figures, [32, 1 + voice, 31 - voice]);
         let unheard = (0..).zip(full.clone()).filter(|(number, _)| *number >= voice && *number != 20);
@@ -296,7 +325,8 @@ fn ambiguous_in_one_voice() {
     let every: Vec<(u64, Vec<u8>)> = (0..5).map(|number| (number, vec![0; 4])).collect();
     for heard in 0..16 {
         // The sentence of two words has one derivation.
-        let history = generate::history(&[(heard, vec![0; 4]), (heard, vec![0; 2])], &[2, 1], &[]);
+        let sentences = [vec![0; 4], vec![0; 2]].map(|words| Spoken::in_full(heard, words));
+        let history = generate::history(&sentences, &[2, 1], &[]);
         for voice in 0..16 {
             if voice == u64::from(heard) {
                 assert_eq!(left(&grammar, &history, 4, voice).refusal, 15);
@@ -306,26 +336,6 @@ fn ambiguous_in_one_voice() {
                 assert_eq!(left(&grammar, &history, 4, voice).figures, [5, 0, 5]);
                 assert_eq!(every_draw(&grammar, &history, 4, voice), every);
                 assert_eq!(left(&grammar, &history, 2, voice).figures, [1, 0, 1]);
-            }
-        }
-    }
-}
-
-/// Every fourth byte: 12 minds its low four bits alone, in every call that takes a history.
-#[test]
-fn every_fourth_byte() {
-    for value in 0..=255 {
-        let mut history = heard_01();
-        history[7] = value;
-        let checked = pumpfennel::check_history(&history);
-        assert_eq!(checked, if value % 16 == 0 { Ok(1) } else { Err(Refusal::HistoryBadRecord) }, "{value}");
-        for call in CALLS.into_iter().filter(|call| call.takes_voice()) {
-            for voice in 0..16 {
-                let answer = given(&Case { history: history.clone(), voice, ..accepted(call) });
-                assert_eq!(answer.refusal, if value % 16 == 0 { 0 } else { 12 }, "{} {value}", call.name());
-                if call == Call::Remaining && answer.refusal == 0 {
-                    assert_eq!(answer.figures[1] == 1, u64::from(value) == 16 * voice, "{value}");
-                }
             }
         }
     }
@@ -343,7 +353,7 @@ fn logs_in_every_voice() {
         // The last sixteen are those of the first sixteen again.
         let (voice, round) = (k % 16, k / 16);
         let number = (5 * voice + round % 3) % 8;
-        assert_eq!(pumpfennel::append(&mut history, &full[number as usize], voice), Ok(k + 1));
+        assert_eq!(pumpfennel::append(&mut history, &full[number as usize], voice, 0), Ok(k + 1));
         assert_eq!(u64::from(history[4 + 20 * k as usize + 3]), 16 * voice);
         heard.insert((voice, number));
         for voice in 0..16 {
@@ -355,14 +365,14 @@ fn logs_in_every_voice() {
         }
     }
     assert_eq!(heard.len(), 48);
-    assert_eq!(pumpfennel::append(&mut history, &[0], 0), Err(Refusal::HistoryFull));
+    assert_eq!(pumpfennel::append(&mut history, &[0], 0, 0), Err(Refusal::HistoryFull));
 }
 
 /// A voice above 15, whatever its low bits: 22 comes before all that is tested after it, and after 1 to 9.
 #[test]
 fn voices_above_fifteen() {
     for call in CALLS.into_iter().filter(|call| call.takes_voice()) {
-        for voice in generate::BAD_VOICES {
+        for voice in generate::ABOVE_FIFTEEN {
             let case = Case { voice, ..accepted(call) };
             assert_eq!(given(&case).refusal, 22, "\n{}", case.text(None));
             assert_eq!(case::parse(&case.text(None)), [(case, None)]);
@@ -380,19 +390,241 @@ fn voices_above_fifteen() {
         assert_eq!(pumpfennel::remaining(&grammar, &history, 2, voice), Err(Refusal::BadVoice));
         let drawn = pumpfennel::draw(&grammar, &history, 2, voice, DrawNumber(0), &mut [0; 2]);
         assert_eq!(drawn, Err(Refusal::BadVoice));
-        assert_eq!(pumpfennel::append(&mut history, &[1], voice), Err(Refusal::BadVoice));
+        assert_eq!(pumpfennel::append(&mut history, &[1], voice, 0), Err(Refusal::BadVoice));
         assert_eq!(history, heard_01());
     }
 }
 
+// ---- Playback broken off
+
+/// Every fourth byte with every length: 12 where the low four bits are the length or more, in every call that takes a
+/// history; heard in the voice of the high four bits where the low ones are 0, and in no other.
+#[test]
+fn every_fourth_byte() {
+    let grammar = generate::f_words(2).bytes();
+    for length in 1..=16u8 {
+        let mut history = generate::history(&[Spoken::in_full(0, vec![1; length.into()])], &[1], &[7; 20]);
+        for value in 0..=255u8 {
+            history[7] = value;
+            let (high, low) = (u64::from(value / 16), u64::from(value % 16));
+            let expected = if value % 16 < length { 0 } else { 12 };
+            for call in CALLS.into_iter().filter(|call| call.takes_history()) {
+                let case = Case { history: history.clone(), ..accepted(call) };
+                assert_eq!(given(&case).refusal, expected, "{} {length} {value}", call.name());
+            }
+            for voice in [high, low, (high + 1) % 16] {
+                let answer = left(&grammar, &history, length.into(), voice);
+                assert_eq!(answer.refusal, expected, "{length} {value}");
+                if expected == 0 && length > 1 {
+                    let heard = u64::from(voice == high && low == 0);
+                    assert_eq!(answer.figures, [1 << length, heard, (1 << length) - heard], "{length} {value}");
+                }
+            }
+        }
+    }
+}
+
+/// A sentence broken off after any number of its words, once or often: it is drawn as before, and so are the words that
+/// were played, as a sentence of their own. Beside a record of it in full it makes no difference, whichever is first.
+#[test]
+fn broken_off_in_either_order() {
+    let (grammar, full) = f_listed(5);
+    let every: Vec<(u64, Vec<u8>)> = (0..).zip(full.clone()).collect();
+    let others: Vec<(u64, Vec<u8>)> = every.iter().filter(|(number, _)| *number != 20).cloned().collect();
+    for voice in 0..16 {
+        let spoken = |played: u8| Spoken { voice, played, words: full[20].clone() };
+        let elsewhere = Spoken::in_full((voice + 1) % 16, full[20].clone());
+        for played in 1..5 {
+            for broken in [vec![played], vec![played; 3], vec![1, 2, 3, 4, played]] {
+                let mut sentences: Vec<Spoken> = broken.into_iter().map(spoken).collect();
+                sentences.push(elsewhere.clone());
+                let history = in_order(&sentences);
+                assert_eq!(left(&grammar, &history, 5, voice.into()).figures, [32, 0, 32]);
+                assert_eq!(left(&grammar, &history, played.into(), voice.into()).figures[1], 0);
+                assert_eq!(every_draw(&grammar, &history, 5, voice.into()), every);
+                for place in 0..=sentences.len() {
+                    sentences.insert(place, spoken(0));
+                    let history = in_order(&sentences);
+                    assert_eq!(left(&grammar, &history, 5, voice.into()).figures, [32, 1, 31]);
+                    assert_eq!(every_draw(&grammar, &history, 5, voice.into()), others);
+                    sentences.remove(place);
+                }
+            }
+        }
+    }
+}
+
+/// A sentence with several derivations, broken off: 15 only where it was played in full too, in the same voice.
+#[test]
+fn ambiguous_and_broken_off() {
+    let grammar = generate::g_words(1).bytes();
+    let every: Vec<(u64, Vec<u8>)> = (0..5).map(|number| (number, vec![0; 4])).collect();
+    let spoken = |voice: u64, played: u8| Spoken { voice: voice as u8, played, words: vec![0; 4] };
+    for played in 1..4 {
+        let broken = vec![spoken(9, played), spoken(9, 4 - played)];
+        let history = in_order(&broken);
+        assert_eq!(left(&grammar, &history, 4, 9).figures, [5, 0, 5]);
+        assert_eq!(every_draw(&grammar, &history, 4, 9), every);
+        for (place, heard) in (0..=2).flat_map(|place| [(place, 8), (place, 9)]) {
+            let mut sentences = broken.clone();
+            sentences.insert(place, spoken(heard, 0));
+            let history = in_order(&sentences);
+            for voice in [8, 9] {
+                if voice == heard {
+                    assert_eq!(left(&grammar, &history, 4, voice).refusal, 15);
+                    assert_eq!(draw(&grammar, &history, 4, voice, 0).refusal, 15);
+                } else {
+                    assert_eq!(left(&grammar, &history, 4, voice).figures, [5, 0, 5]);
+                    assert_eq!(every_draw(&grammar, &history, 4, voice), every);
+                }
+            }
+        }
+    }
+}
+
+/// *Log* with every length and every figure: 23 where the figure is the length or more, after 9 and 22 and before all
+/// that is tested after them; else the fourth byte has it beside the voice.
+#[test]
+fn every_figure_logged() {
+    for length in 1..=16u64 {
+        let far = generate::ABOVE_FIFTEEN.into_iter().flat_map(|above| [above, above | (length - 1)]);
+        for played in (0..=17).chain(far) {
+            let sentence = vec![1; length as usize];
+            let fits = played < length;
+            for voice in 0..16 {
+                let case = Case { sentence: sentence.clone(), voice, played, ..accepted(Call::Append) };
+                let answer = given(&case);
+                assert_eq!(answer.refusal, if fits { 0 } else { 23 }, "\n{}", case.text(None));
+                assert_eq!(u64::from(answer.buffer[27]), if fits { 16 * voice + played } else { 7 });
+                assert_eq!(case::parse(&case.text(None)), [(case, None)]);
+            }
+            for refusal in Call::Append.refusals().into_iter().filter(|&refusal| refusal != 23) {
+                let mut case = Case { sentence: sentence.clone(), played, ..accepted(Call::Append) };
+                fault(&mut case, refusal);
+                let first = if fits || [9, 22].contains(&refusal) { refusal } else { 23 };
+                assert_eq!(given(&case).refusal, first, "\n{}", case.text(None));
+            }
+        }
+    }
+}
+
+/// What *Left* gives, and every draw, as derivation numbers and sentences; or the refusal of both.
+type Lists = Result<(Remaining, Vec<(u64, Vec<u8>)>), Refusal>;
+
+fn lists(grammar: &[u8], history: &[u8], length: u64, voice: u64) -> Lists {
+    let mut words = vec![0; length as usize];
+    let mut draw = |q: u64| {
+        let drawn = pumpfennel::draw(grammar, history, length, voice, DrawNumber(q), &mut words)?;
+        Ok((drawn.number.0, words.clone()))
+    };
+    match pumpfennel::remaining(grammar, history, length, voice) {
+        Ok(found) => {
+            let drawn: Result<_, Refusal> = (0..found.remaining).map(&mut draw).collect();
+            assert_eq!(draw(found.remaining), Err(Refusal::NumberBeyond));
+            Ok((found, drawn.expect("draws below what is left")))
+        }
+        Err(refusal) => {
+            assert_eq!(draw(0), Err(refusal));
+            Err(refusal)
+        }
+    }
+}
+
+/// What a log played in full makes of the lists in its voice.
+fn heard_then(before: Lists, sentence: &[u8], readings: Readings) -> Lists {
+    let (mut found, mut drawn) = before?;
+    match drawn.iter().position(|(_, words)| words == sentence) {
+        Some(_) if readings.count > 1 => return Err(Refusal::HeardAmbiguous),
+        Some(place) => {
+            assert_eq!(drawn.remove(place).0, readings.lowest);
+            found.heard += 1;
+            found.remaining -= 1;
+        }
+        // It was heard before, or has no derivation.
+        None => {}
+    }
+    Ok((found, drawn))
+}
+
+/// After a log that was broken off every answer is as it was, in its voice and in another. After one played in full the
+/// sentence is heard in its voice, and the other is as it was. Either way the first record says what was logged.
+#[test]
+fn logs_on_generated_cases() {
+    println!("seed {SEED}");
+    let (mut logs, mut altered, mut refused, mut i) = (0, 0, 0, 0);
+    while logs < 5_000 {
+        let mut rng = Rng::of_case(SEED, i);
+        i += 1;
+        let Case { grammar, mut history, length, voice, .. } = generate::case(&mut rng, Call::Remaining);
+        let Ok(read) = reference::read_grammar(&grammar) else { continue };
+        let Ok(k) = pumpfennel::check_history(&history) else { continue };
+        if !(2..=16).contains(&length) || voice > 15 || short_lists(&read) < length as usize || k > 998 {
+            continue;
+        }
+        let full = Full::new(&read, length as usize).expect("short lists");
+        if full.total() == 0 {
+            continue;
+        }
+        let sentence = match rng.below(8) {
+            0 => rng.bytes(length as usize),
+            _ => full.sentence(rng.below_u64(full.total())),
+        };
+        let readings = full.readings(&sentence);
+        let other = (voice + 1 + rng.below_u64(15)) % 16;
+        history.truncate(4 + 20 * k as usize);
+        history.extend(rng.bytes(40));
+        let all = |history: &[u8]| [voice, other].map(|voice| lists(&grammar, history, length, voice));
+        let before = all(&history);
+        let shown = format!("case {i}: {} {}", case::hex(&grammar), case::hex(&history));
+
+        // Broken off and then in full, or the other way round.
+        let played = 1 + rng.below_u64(length - 1);
+        let order = if rng.once_in(2) { [played, 0] } else { [0, played] };
+        let mut expected = before.clone();
+        for (r, played) in (k..).zip(order) {
+            assert_eq!(pumpfennel::append(&mut history, &sentence, voice, played), Ok(r + 1), "{shown}");
+            let logged = Record { voice: voice as u8, played: played as u8, words: &sentence };
+            assert_eq!(records(&history)[0], logged, "{shown}");
+            if played == 0 {
+                expected[0] = heard_then(expected[0].clone(), &sentence, readings);
+            }
+            assert_eq!(all(&history), expected, "{shown}");
+        }
+        altered += u64::from(before[0] != expected[0]);
+        refused += u64::from(before[0].is_ok() && expected[0] == Err(Refusal::HeardAmbiguous));
+        logs += 1;
+    }
+    println!("{logs} times two logs: {altered} times the one in full altered an answer, {refused} times to 15");
+    assert!(altered > 2_000 && refused > 500);
+}
+
 // ---- The draws as one list
 
+/// Whether the list has a sentence that is heard in other voices only; and in the voice asked for: one that was broken
+/// off and not heard; broken off right before a record in full, and right after; broken off, with several derivations.
+fn kinds(full: &[Vec<u8>], records: &[Record], voice: u64) -> [bool; 5] {
+    let mut kinds = [false; 5];
+    for words in full {
+        let same = records.iter().filter(|record| record.words == words);
+        let (here, elsewhere): (Vec<&Record>, Vec<&Record>) = same.partition(|record| u64::from(record.voice) == voice);
+        let in_full: Vec<bool> = here.iter().map(|record| record.played == 0).collect();
+        let heard = in_full.contains(&true);
+        kinds[0] |= !heard && elsewhere.iter().any(|record| record.played == 0);
+        kinds[1] |= !heard && !here.is_empty();
+        kinds[2] |= in_full.windows(2).any(|pair| pair == [false, true]);
+        kinds[3] |= in_full.windows(2).any(|pair| pair == [true, false]);
+        kinds[4] |= in_full.contains(&false) && full.iter().filter(|entry| *entry == words).count() > 1;
+    }
+    kinds
+}
+
 /// Every draw from 0 to left - 1 gives the unheard list, which is made without any count; every later one is refused.
-/// Another history that bars the same sentences alters nothing. Heard and barred are meant in the voice asked for.
+/// Another history that bars the same sentences alters nothing. Heard and barred are meant in the voice asked for, and
+/// played in full.
 #[test]
 fn draws_as_one_list() {
     println!("seed {SEED}");
-    let (mut lists, mut draws, mut elsewhere, mut i) = (0, 0, 0, 0);
+    let (mut lists, mut draws, mut seen, mut i) = (0, 0, [0; 5], 0);
     while lists < 5_000 {
         let mut rng = Rng::of_case(SEED, i);
         i += 1;
@@ -405,22 +637,25 @@ fn draws_as_one_list() {
         if found.total == 0 || short_lists(&grammar) < length {
             continue;
         }
-        let sentences = reference::read_history(&case.history).expect("an accepted history");
+        let records = records(&case.history);
         let full = reference::listed(&grammar, length);
-        let heard = |words: &[u8]| sentences.contains(&(voice as u8, words));
+        let heard = |words: &[u8]| records.contains(&Record { voice: voice as u8, played: 0, words });
         let unheard: Vec<(u64, Vec<u8>)> = (0..).zip(full.iter().cloned()).filter(|(_, words)| !heard(words)).collect();
         assert_eq!((found.total, found.remaining), (full.len() as u64, unheard.len() as u64), "{shown}");
-        let only_elsewhere = |words: &[u8]| !heard(words) && sentences.iter().any(|sentence| sentence.1 == words);
-        elsewhere += u64::from(full.iter().any(|words| only_elsewhere(words)));
+        seen.iter_mut().zip(kinds(&full, &records, voice)).for_each(|(many, kind)| *many += u64::from(kind));
 
-        // The same sentences in another order, some twice, and some that bar nothing; in other voices any sentences.
-        let asked = sentences.iter().filter(|sentence| u64::from(sentence.0) == voice);
-        let mut others: Vec<Spoken> = asked.map(|&(spoken, words)| (spoken, words.to_vec())).collect();
+        // The same sentences in another order, some twice, and some that bar nothing; any sentences in other voices, or
+        // broken off.
+        let in_full = records.iter().filter(|record| u64::from(record.voice) == voice && record.played == 0);
+        let mut others: Vec<Spoken> =
+            in_full.map(|record| Spoken::in_full(record.voice, record.words.to_vec())).collect();
         others.extend_from_within(..others.len().min(3));
-        others.push((voice as u8, vec![255; length]));
+        others.push(Spoken::in_full(voice as u8, vec![255; length]));
         for _ in 0..rng.below(20) {
-            let spoken = (voice as u8 + 1 + rng.below(15) as u8) % 16;
-            others.push((spoken, full[rng.below(full.len())].clone()));
+            let words = full[rng.below(full.len())].clone();
+            let elsewhere = Spoken::in_full((voice as u8 + 1 + rng.below(15) as u8) % 16, words.clone());
+            let broken = |played: usize| Spoken { voice: voice as u8, played: played as u8, words };
+            others.push(if length > 1 && rng.once_in(2) { broken(1 + rng.below(length - 1)) } else { elsewhere });
         }
         others.truncate(1000);
         rng.shuffle(&mut others);
@@ -447,8 +682,8 @@ fn draws_as_one_list() {
         }
         lists += 1;
     }
-    println!("{lists} lists, {draws} draws; in {elsewhere} lists a sentence is heard in other voices only");
-    assert!(elsewhere > 500);
+    println!("{lists} lists, {draws} draws; how many lists with each kind of sentence: {seen:?}");
+    assert!(seen.iter().all(|&many| many > 100), "{seen:?}");
 }
 
 /// A thousand sentences of the house matrix grammar, each drawn from what is left in a voice and then logged: all in
@@ -472,9 +707,9 @@ fn a_thousand_draws_and_logs() {
             let drawn = drawn.expect("a draw below what is left");
             assert_eq!(pumpfennel::rank(&grammar, &sentence).map(|ranked| ranked.number), Ok(drawn.number));
             assert!(heard.insert((voice, sentence)), "{sentence:?} came twice in voice {voice}");
-            assert_eq!(pumpfennel::append(&mut history, &sentence, voice), Ok(k + 1));
+            assert_eq!(pumpfennel::append(&mut history, &sentence, voice, 0), Ok(k + 1));
         }
-        assert_eq!(pumpfennel::append(&mut history, &[1], 0), Err(Refusal::HistoryFull));
+        assert_eq!(pumpfennel::append(&mut history, &[1], 0, 0), Err(Refusal::HistoryFull));
         assert_eq!(history[4 + 20 * 1000..], [0; 20]);
     }
 }
@@ -492,16 +727,16 @@ fn empty_slices() {
     assert_eq!(pumpfennel::rank(&grammar, &[]), Err(Refusal::BadLength));
     assert_eq!(pumpfennel::remaining(&grammar, &[], 2, 0), Err(Refusal::HistoryWrongSize));
     assert_eq!(pumpfennel::draw(&grammar, &[0; 4], 2, 0, DrawNumber(0), &mut []), Err(Refusal::BufferTooShort));
-    assert_eq!(pumpfennel::append(&mut [], &[1], 0), Err(Refusal::HistoryWrongSize));
-    assert_eq!(pumpfennel::append(&mut [0; 24], &[], 0), Err(Refusal::BadLength));
+    assert_eq!(pumpfennel::append(&mut [], &[1], 0, 0), Err(Refusal::HistoryWrongSize));
+    assert_eq!(pumpfennel::append(&mut [0; 24], &[], 0, 0), Err(Refusal::BadLength));
 }
 
 /// The stack that the crate names is enough for the largest call, with what a thread takes itself.
 #[test]
 fn stack() {
     let grammar = generate::f_words(15).bytes();
-    let sentences: Vec<Spoken> = (0..1000).map(|i| (0, vec![(i % 15) as u8; 16])).collect();
-    let history = generate::history(&sentences, &(1..=1000).collect::<Vec<usize>>(), &[]);
+    let sentences: Vec<Spoken> = (0..1000).map(|i| Spoken::in_full(0, vec![(i % 15) as u8; 16])).collect();
+    let history = in_order(&sentences);
     let call = move || pumpfennel::draw(&grammar, &history, 16, 0, DrawNumber(5), &mut [0; 16]);
     let size = pumpfennel::LARGE_STACK + (16 << 10);
     let thread = std::thread::Builder::new().stack_size(size).spawn(call).expect("a thread");

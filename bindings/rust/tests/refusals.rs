@@ -60,10 +60,12 @@ fn rows() -> Vec<(Refusal, Option<Refusal>, &'static str)> {
         // no longer returned: the sentence is accepted
         (Refusal::SentenceAmbiguous, of(rank(TREES, &[0, 0, 0])), "the sentence has two"),
         // no record, and no room for one
-        (Refusal::HistoryFull, of(append(&mut [0; 4], &[0], 0)), "no room"),
+        (Refusal::HistoryFull, of(append(&mut [0; 4], &[0], 0, 0)), "no room"),
         // one word, and room for none
         (Refusal::BufferTooShort, of(unrank(ONE, 1, DerivationNumber(0), &mut [])), "buffer"),
-        (Refusal::BadVoice, of(append(&mut [0; 24], &[0], 16)), "above 15"),
+        (Refusal::BadVoice, of(append(&mut [0; 24], &[0], 16, 0)), "above 15"),
+        // one word, and playback broken off after it
+        (Refusal::BadPlayed, of(append(&mut [0; 24], &[0], 0, 1)), "words played is"),
     ]
 }
 
@@ -81,7 +83,7 @@ fn by_name() {
 #[test]
 fn by_number() {
     // there is no 21
-    let numbers: Vec<u8> = (1..=20).chain([22]).collect();
+    let numbers: Vec<u8> = (1..=20).chain([22, 23]).collect();
     assert_eq!(Refusal::ALL.map(Refusal::number)[..], numbers);
     for refusal in Refusal::ALL {
         assert_eq!(Refusal::from_number(refusal.number()), Some(refusal));

@@ -23,6 +23,7 @@ pub enum Refusal {
     HistoryFull,
     BufferTooShort,
     BadVoice,
+    BadPlayed,
 }
 
 // The refusal's number in the documents.
@@ -50,5 +51,6 @@ pub fn number(r: Refusal) -> u8
         Refusal::HistoryFull => 19,
         Refusal::BufferTooShort => 20,
         Refusal::BadVoice => 22,
+        Refusal::BadPlayed => 23,
     }
 }

@@ -4,11 +4,11 @@ use mathlib.Core.Path.{_≡_, sym, _∙_}
 use mathlib.Core.Bool.{false, true, not, _||_}
 use mathlib.Core.List.{List}
 use Prim.Native.Nat.{ℕ, _+_, _-_, _*_, _%_, _≤_, _<_}
-use borrow.Author.Tests.{ltb-false, eqb-true, lt-ltb, le-ltb, eq-eqb, ne-eqb, not-false}
+use borrow.Author.Tests.{ltb-false, eqb-true, lt-ltb, le-ltb, lt-leb, le-leb, not-false}
 use native.Mathlib.Omega.{arith}
 use lib.ListN.{length, getD, drop, length-drop}
 use lib.Seq.{length-take-le}
-use lib.Dec.{ltb, eqb, lit<}
+use lib.Dec.{ltb, leb, eqb, lit<}
 use Rattle.lists.specs.Searched.{someTo, times}
 use Rattle.lists.proofs.Tests.{within-facts, within-low, within-high, within-both, or-left, or-right, below-none, to-at}
 use Rattle.answers.specs.Answer.{firstThatApplies}
@@ -54,7 +54,7 @@ pub few-words : (h : List ℕ) (at : ℕ) → misfit h at ≡ false → getD h (
 unfolding misfit badLength
 few-words h at e =
     let n = getD h (at + 2) 0 in
-    let rest = not (eqb (getD h (at + 3) 0 % 16) 0) || someNonzero h (at + 4 + n) (16 - n) in
+    let rest = leb n (getD h (at + 3) 0 % 16) || someNonzero h (at + 4 + n) (16 - n) in
     within-facts 1 16 n (or-left (badLength n) rest e) .1
 
 module _ (h : List ℕ) (at : ℕ) where
@@ -67,18 +67,18 @@ module _ (h : List ℕ) (at : ℕ) where
   unfolding misfit badLength
   misfit-high l = rw (within-high 1 16 (getD h (at + 2) 0) l)
 
-  pub misfit-fourth : 1 ≤ getD h (at + 2) 0 → getD h (at + 2) 0 ≤ 16 → (getD h (at + 3) 0 % 16 ≡ 0 → ⊥) → true ≡ misfit h at
+  pub misfit-played : 1 ≤ getD h (at + 2) 0 → getD h (at + 2) 0 ≤ 16 → getD h (at + 2) 0 ≤ getD h (at + 3) 0 % 16 → true ≡ misfit h at
   unfolding misfit badLength
-  misfit-fourth l m n = rw (within-both 1 16 (getD h (at + 2) 0) l m, ne-eqb (getD h (at + 3) 0 % 16) 0 n)
+  misfit-played l m p = rw (within-both 1 16 (getD h (at + 2) 0) l m, le-leb (getD h (at + 2) 0) (getD h (at + 3) 0 % 16) p)
 
-  pub misfit-beyond : 1 ≤ getD h (at + 2) 0 → getD h (at + 2) 0 ≤ 16 → getD h (at + 3) 0 % 16 ≡ 0
+  pub misfit-beyond : 1 ≤ getD h (at + 2) 0 → getD h (at + 2) 0 ≤ 16 → getD h (at + 3) 0 % 16 < getD h (at + 2) 0
       → someNonzero h (at + 4 + getD h (at + 2) 0) (16 - getD h (at + 2) 0) ≡ misfit h at
   unfolding misfit badLength
-  misfit-beyond l m e = rw (within-both 1 16 (getD h (at + 2) 0) l m, eq-eqb (getD h (at + 3) 0 % 16) 0 e)
+  misfit-beyond l m p = rw (within-both 1 16 (getD h (at + 2) 0) l m, lt-leb (getD h (at + 2) 0) (getD h (at + 3) 0 % 16) p)
 
   -- nothing lies beyond sixteen words
-  pub misfit-full : getD h (at + 2) 0 ≡ 16 → getD h (at + 3) 0 % 16 ≡ 0 → false ≡ misfit h at
-  misfit-full n e = sym (below-none _ _ (omega arith)) ∙ misfit-beyond (omega arith) (omega arith) e
+  pub misfit-full : getD h (at + 2) 0 ≡ 16 → false ≡ misfit h at
+  misfit-full n = sym (below-none _ _ (omega arith)) ∙ misfit-beyond (omega arith) (omega arith) (omega arith)
 
 -- ---- 13 and 14
 

@@ -5,7 +5,7 @@ use mathlib.Core.Bool.{true, false}
 use mathlib.Core.List.{List, [], _∷_, _++_}
 use Prim.Native.Nat.{ℕ, suc, _+_, _*_, _≤_, _<_}
 use native.Mathlib.Omega.{arith}
-use borrow.Author.Tests.{lt-ltb, le-ltb, eq-eqb, ne-eqb}
+use borrow.Author.Tests.{lt-ltb, le-ltb, lt-leb, le-leb, eq-eqb, ne-eqb}
 use lib.ListN.{length, getD, drop}
 use lib.Dec.{ltb, eqb, lit<}
 use Rattle.lists.proofs.Tests.{within-low, within-high, within-both, or-true}
@@ -20,6 +20,7 @@ use Rattle.history.specs.declared.checks.HistoryAnswer.{HistoryAnswer}
 use Rattle.history.specs.declared.checks.HistoryAnswer.the-variants.{Given, Refused}
 use Rattle.history.specs.Layout.{recordsOf}
 use Rattle.history.specs.Refusals.{historyRows, historyRefusal, Accepted}
+use Rattle.history.specs.Playback.{Playback, badPlayed}
 use Rattle.history.specs.Writing.{appended}
 use Rattle.history.specs.Answers.{checkHistory, noRoom, appendRows, appendOf}
 use Rattle.history.specs.Inner.Says.{historySays}
@@ -57,51 +58,59 @@ check-refused h e f = sym (check-number h (rw f at e))
 
 -- ---- *Log*
 
-module _ (h s : List ℕ) (v : ℕ) where
+module _ (h : List ℕ) (p : Playback) where
   -- the refusal, with the bytes as they were
-  log-refused : (n : ℕ) → firstThatApplies (appendRows h s v) ≡ n → 0 < n → answer.refused n 1 h ≡ appendOf h s v
+  log-refused : (n : ℕ) → firstThatApplies (appendRows h p) ≡ n → 0 < n → answer.refused n 1 h ≡ appendOf h p
   unfolding appendOf
-  log-refused n e l = rw e (sym (answer-refused n (suc (recordsOf h) ∷ []) h (appended h s v) l))
+  log-refused n e l = rw e (sym (answer-refused n (suc (recordsOf h) ∷ []) h (appended h p) l))
 
-  length-low : length s < 1 → badLength (length s) ≡ true
+  length-low : length (p .words) < 1 → badLength (length (p .words)) ≡ true
   unfolding badLength
-  length-low l = within-low 1 16 (length s) l
+  length-low l = within-low 1 16 (length (p .words)) l
 
-  length-high : 16 < length s → badLength (length s) ≡ true
+  length-high : 16 < length (p .words) → badLength (length (p .words)) ≡ true
   unfolding badLength
-  length-high l = within-high 1 16 (length s) l
+  length-high l = within-high 1 16 (length (p .words)) l
 
-  pub log-low : length s < 1 → answer.refused 9 1 h ≡ appendOf h s v
+  pub log-low : length (p .words) < 1 → answer.refused 9 1 h ≡ appendOf h p
   log-low l = log-refused 9 (row-applies 9 _ (length-low l)) (lit< tt)
 
-  pub log-high : 16 < length s → answer.refused 9 1 h ≡ appendOf h s v
+  pub log-high : 16 < length (p .words) → answer.refused 9 1 h ≡ appendOf h p
   log-high l = log-refused 9 (row-applies 9 _ (length-high l)) (lit< tt)
 
-  module _ (some : 1 ≤ length s) (short : length s ≤ 16) where
-    past-length : firstThatApplies (appendRows h s v) ≡ firstThatApplies ((badVoice v, 22) ∷ (historyRows h ++ ((noRoom h, 19) ∷ [])))
+  module _ (some : 1 ≤ length (p .words)) (short : length (p .words) ≤ 16) where
+    past-length : firstThatApplies (appendRows h p)
+        ≡ firstThatApplies ((badVoice (p .voice), 22) ∷ (badPlayed p, 23) ∷ (historyRows h ++ ((noRoom h, 19) ∷ [])))
     unfolding badLength
-    past-length = row-passed 9 _ (within-both 1 16 (length s) some short)
+    past-length = row-passed 9 _ (within-both 1 16 (length (p .words)) some short)
 
-    pub log-voice : 15 < v → answer.refused 22 1 h ≡ appendOf h s v
-    log-voice l = log-refused 22 (past-length ∙ row-applies 22 _ (lt-ltb 15 v l)) (lit< tt)
+    pub log-voice : 15 < p .voice → answer.refused 22 1 h ≡ appendOf h p
+    log-voice l = log-refused 22 (past-length ∙ row-applies 22 _ (lt-ltb 15 (p .voice) l)) (lit< tt)
 
-    module _ (voiced : v ≤ 15) where
-      past-voice : firstThatApplies (appendRows h s v) ≡ firstThatApplies (historyRows h ++ ((noRoom h, 19) ∷ []))
-      past-voice = past-length ∙ row-passed 22 _ (le-ltb 15 v voiced)
+    module _ (voiced : p .voice ≤ 15) where
+      past-voice : firstThatApplies (appendRows h p) ≡ firstThatApplies ((badPlayed p, 23) ∷ (historyRows h ++ ((noRoom h, 19) ∷ [])))
+      past-voice = past-length ∙ row-passed 22 _ (le-ltb 15 (p .voice) voiced)
 
-      pub log-history : (n : ℕ) → historyRefusal h ≡ n → 0 < n → answer.refused n 1 h ≡ appendOf h s v
-      log-history n e l = log-refused n (past-voice ∙ rows-stop (historyRows h) _ (omega arith) ∙ e) l
+      pub log-played : length (p .words) ≤ p .played → answer.refused 23 1 h ≡ appendOf h p
+      log-played l = log-refused 23 (past-voice ∙ row-applies 23 _ (le-leb (length (p .words)) (p .played) l)) (lit< tt)
 
-      past-history : Accepted h → firstThatApplies (appendRows h s v) ≡ firstThatApplies ((noRoom h, 19) ∷ [])
-      past-history ok = past-voice ∙ rows-pass (historyRows h) _ refl ok
+      module _ (fewer : p .played < length (p .words)) where
+        past-played : firstThatApplies (appendRows h p) ≡ firstThatApplies (historyRows h ++ ((noRoom h, 19) ∷ []))
+        past-played = past-voice ∙ row-passed 23 _ (lt-leb (length (p .words)) (p .played) fewer)
 
-      pub log-room : Accepted h → noRoom h ≡ true → answer.refused 19 1 h ≡ appendOf h s v
-      log-room ok e = log-refused 19 (past-history ok ∙ row-applies 19 [] e) (lit< tt)
+        pub log-history : (n : ℕ) → historyRefusal h ≡ n → 0 < n → answer.refused n 1 h ≡ appendOf h p
+        log-history n e l = log-refused n (past-played ∙ rows-stop (historyRows h) _ (omega arith) ∙ e) l
 
-      pub log-accepted : {k : ℕ} {after : List ℕ} → Accepted h → noRoom h ≡ false → k ≡ suc (recordsOf h) → after ≡ appended h s v
-          → answer.given (k ∷ []) after ≡ appendOf h s v
-      unfolding appendOf firstThatApplies
-      log-accepted ok r e f = rw (e, f) (sym (answer-accepted (suc (recordsOf h) ∷ []) h (appended h s v) (past-history ok ∙ row-passed 19 [] r)))
+        past-history : Accepted h → firstThatApplies (appendRows h p) ≡ firstThatApplies ((noRoom h, 19) ∷ [])
+        past-history ok = past-played ∙ rows-pass (historyRows h) _ refl ok
+
+        pub log-room : Accepted h → noRoom h ≡ true → answer.refused 19 1 h ≡ appendOf h p
+        log-room ok e = log-refused 19 (past-history ok ∙ row-applies 19 [] e) (lit< tt)
+
+        pub log-accepted : {k : ℕ} {after : List ℕ} → Accepted h → noRoom h ≡ false → k ≡ suc (recordsOf h) → after ≡ appended h p
+            → answer.given (k ∷ []) after ≡ appendOf h p
+        unfolding appendOf firstThatApplies
+        log-accepted ok r e f = rw (e, f) (sym (answer-accepted (suc (recordsOf h) ∷ []) h (appended h p) (past-history ok ∙ row-passed 19 [] r)))
 
 -- 19, from what the code has tested
 module _ (h : List ℕ) where

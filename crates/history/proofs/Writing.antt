@@ -8,6 +8,7 @@ use lib.ListN.{length, getD, take, drop, replicate, length-append, length-replic
 use lib.Seq.{paste, take-length, length-take-le, length-paste, getD-take, getD-drop, getD-append-add}
 use Rattle.lists.proofs.Places.{getD-same, getD-left, getD-right}
 use Rattle.history.specs.Layout.{recordsOf, headOf, recordAt}
+use Rattle.history.specs.Playback.{Playback}
 use Rattle.history.specs.Writing.{overwritten, twoBytes, recordBytes, fourthByte, appended}
 
 -- zeros after a list change no entry: past its end an entry is 0 anyway
@@ -73,7 +74,7 @@ module _ (h : List ℕ) (at : ℕ) (bs : List ℕ) (fits : at + length bs ≤ le
 -- ---- the whole of it
 
 -- the record first, then K, then the head
-pub written : (h s : List ℕ) (v new at old : ℕ) {a b c : List ℕ} → new ≡ suc (recordsOf h) → at ≡ recordAt new → old ≡ headOf h
-    → a ≡ overwritten h at (recordBytes old (fourthByte v) s) → b ≡ overwritten a 0 (twoBytes new) → c ≡ overwritten b 2 (twoBytes new) → c ≡ appended h s v
+pub written : (h : List ℕ) (p : Playback) (new at old : ℕ) {a b c : List ℕ} → new ≡ suc (recordsOf h) → at ≡ recordAt new → old ≡ headOf h
+    → a ≡ overwritten h at (recordBytes old (fourthByte p) (p .words)) → b ≡ overwritten a 0 (twoBytes new) → c ≡ overwritten b 2 (twoBytes new) → c ≡ appended h p
 unfolding appended
-written h s v new at old n i o e f g = rw (g, f, e, i, o, n)
+written h p new at old n i o e f g = rw (g, f, e, i, o, n)

@@ -10,6 +10,7 @@ use Rattle.answers.specs.Length.{badLength}
 use Rattle.answers.specs.Voice.{badVoice}
 use Rattle.history.specs.Layout.{recordsOf}
 use Rattle.history.specs.Refusals.{historyRows}
+use Rattle.history.specs.Playback.{Playback, badPlayed}
 use Rattle.history.specs.Writing.{appended}
 
 -- ---- *Check diary*
@@ -24,10 +25,10 @@ checkHistory h = answer (historyRows h) (recordsOf h ∷ []) [] []
 unfoldable pub noRoom : List ℕ → Bool
 noRoom h = eqb (recordsOf h) 1000 || ltb (length h) (4 + 20 * suc (recordsOf h))
 
--- the lines 9, 22, 11 to 14 and 19, in their order
-abbrev pub appendRows : (h s : List ℕ) (v : ℕ) → List Row
-appendRows h s v = (badLength (length s), 9) ∷ (badVoice v, 22) ∷ (historyRows h ++ ((noRoom h, 19) ∷ []))
+-- the lines 9, 22, 23, 11 to 14 and 19, in their order
+abbrev pub appendRows : (h : List ℕ) (p : Playback) → List Row
+appendRows h p = (badLength (length (p .words)), 9) ∷ (badVoice (p .voice), 22) ∷ (badPlayed p, 23) ∷ (historyRows h ++ ((noRoom h, 19) ∷ []))
 
--- "*Log* (diary buffer, sentence) writes record K + 1 in full [..], gives the new K." It takes a voice too (document 02, U4).
-unfoldable pub appendOf : (h s : List ℕ) (v : ℕ) → Answer
-appendOf h s v = answer (appendRows h s v) (suc (recordsOf h) ∷ []) h (appended h s v)
+-- "*Log* (diary buffer, sentence) writes record K + 1 in full [..], gives the new K." It takes a voice (document 02, U4) and the words played (U5) as well.
+unfoldable pub appendOf : (h : List ℕ) (p : Playback) → Answer
+appendOf h p = answer (appendRows h p) (suc (recordsOf h) ∷ []) h (appended h p)

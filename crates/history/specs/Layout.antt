@@ -1,8 +1,9 @@
 -- The bytes of a history (document 01: diary, section 'Diary bytes'). A history is here the list of its bytes, slack included.
 -- Assumes nothing: these are definitions.
 use mathlib.Core.List.{List}
-use Prim.Native.Nat.{ℕ, _+_, _-_, _*_, _/_}
+use Prim.Native.Nat.{ℕ, _+_, _-_, _*_, _/_, _%_}
 use lib.ListN.{getD, take, drop}
+use Rattle.history.specs.Playback.{Playback, playback}
 
 -- "Two-byte fields have the low byte first."
 unfoldable pub twoAt : List ℕ → ℕ → ℕ
@@ -33,6 +34,14 @@ fourthOf h r = getD h (recordAt r + 3) 0
 abbrev pub voiceOf : List ℕ → ℕ → ℕ
 voiceOf h r = fourthOf h r / 16
 
+-- "The low four bits of the fourth byte give the words played; 0 means all." (document 02, U5)
+abbrev pub playedOf : List ℕ → ℕ → ℕ
+playedOf h r = fourthOf h r % 16
+
 -- the words of record r: a sentence
 unfoldable pub recordWords : List ℕ → ℕ → List ℕ
 recordWords h r = take (lengthOf h r) (drop (recordAt r + 4) h)
+
+-- what record r tells of
+abbrev pub playbackOf : List ℕ → ℕ → Playback
+playbackOf h r = playback (recordWords h r) (voiceOf h r) (playedOf h r)

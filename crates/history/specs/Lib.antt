@@ -1,3 +1,4 @@
+pub mod Playback
 pub mod Layout
 pub mod Chain
 pub mod Refusals

@@ -5,7 +5,7 @@ use mathlib.Core.Bool.{Bool, not, _||_}
 use mathlib.Core.List.{List, [], _∷_}
 use Prim.Native.Nat.{ℕ, _+_, _-_, _*_, _%_}
 use lib.ListN.{length, getD}
-use lib.Dec.{ltb, eqb}
+use lib.Dec.{ltb, leb, eqb}
 use Rattle.lists.specs.Searched.{someBelow, someTo, times}
 use Rattle.answers.specs.Answer.{Row, firstThatApplies}
 use Rattle.answers.specs.Length.{badLength}
@@ -21,11 +21,12 @@ abbrev pub someNonzero : (h : List ℕ) (at count : ℕ) → Bool
 someNonzero h at count = someBelow (λ i. not (eqb (getD h (at + i) 0) 0)) count
 
 -- a record that stands at `at` has "a wrong length, a fourth byte that is not 0, or a non-zero byte beyond its words"; of the fourth byte,
--- "Refusal 12 no longer minds the high four bits" (document 02, U4)
+-- "Refusal 12 no longer minds the high four bits" (document 02, U4) and "covers, in place of low four bits that are not 0, a record whose figure is
+-- its length or more" (U5)
 unfoldable pub misfit : (h : List ℕ) (at : ℕ) → Bool
 misfit h at =
     let n = getD h (at + 2) 0 in
-    badLength n || (not (eqb (getD h (at + 3) 0 % 16) 0) || someNonzero h (at + 4 + n) (16 - n))
+    badLength n || (leb n (getD h (at + 3) 0 % 16) || someNonzero h (at + 4 + n) (16 - n))
 
 -- "12. Some record has a wrong length, a fourth byte that is not 0, or a non-zero byte beyond its words."
 unfoldable pub badRecord : List ℕ → Bool

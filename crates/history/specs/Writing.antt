@@ -1,9 +1,10 @@
--- What *Log* writes (document 01, section 'Operations'; document 02, U4).
+-- What *Log* writes (document 01, section 'Operations'; document 02, U4 and U5).
 -- Assumes nothing: these are definitions.
 use mathlib.Core.List.{List, [], _∷_, _++_}
 use Prim.Native.Nat.{ℕ, suc, _+_, _-_, _*_, _/_, _%_}
 use lib.ListN.{length, take, drop, replicate}
 use Rattle.history.specs.Layout.{recordsOf, headOf, recordAt}
+use Rattle.history.specs.Playback.{Playback}
 
 -- the bytes with bs in the place of as many from at on
 unfoldable pub overwritten : (h : List ℕ) (at : ℕ) (bs : List ℕ) → List ℕ
@@ -17,12 +18,12 @@ twoBytes x = x % 256 ∷ x / 256 ∷ []
 unfoldable pub recordBytes : (next fourth : ℕ) (s : List ℕ) → List ℕ
 recordBytes next fourth s = twoBytes next ++ (length s ∷ fourth ∷ (s ++ replicate (16 - length s) 0))
 
--- "The high four bits of a record's fourth byte hold it": the voice (document 02, U4)
-abbrev pub fourthByte : (v : ℕ) → ℕ
-fourthByte v = 16 * v
+-- "The high four bits of a record's fourth byte hold it": the voice (document 02, U4). "The low four bits of the fourth byte give the words played" (U5).
+abbrev pub fourthByte : Playback → ℕ
+fourthByte p = 16 * p .voice + p .played
 
 -- "writes record K + 1 in full with next = old head, sets head and K to K + 1 [..] No other byte changes."
-unfoldable pub appended : (h s : List ℕ) (v : ℕ) → List ℕ
-appended h s v =
+unfoldable pub appended : (h : List ℕ) (p : Playback) → List ℕ
+appended h p =
     let new = suc (recordsOf h) in
-    overwritten (overwritten (overwritten h (recordAt new) (recordBytes (headOf h) (fourthByte v) s)) 0 (twoBytes new)) 2 (twoBytes new)
+    overwritten (overwritten (overwritten h (recordAt new) (recordBytes (headOf h) (fourthByte p) (p .words))) 0 (twoBytes new)) 2 (twoBytes new)

@@ -2,6 +2,7 @@
 ghost use mathlib.Core.Path.{_≡_};
 ghost use Prim.Native.Nat.{_+_, _≤_, _<_};
 ghost use lib.ListN.{length, getD};
+ghost use Rattle.history.specs.Playback.{playback};
 ghost use Rattle.history.specs.Writing.{overwritten, twoBytes, recordBytes, appended};
 ghost use Rattle.history.specs.Inner.Checks.{Room};
 ghost use Rattle.history.specs.Answers.{appendOf};
@@ -55,19 +56,21 @@ fn put_two(h: &mut [u8], at: usize, x: usize)
     h[at + 1] = (x / 256) as u8;
 }
 
-// Record `new`, with the old head as its next, and K and head set to `new`. The voice stands in the fourth byte's high four bits.
-fn write(h: &mut [u8], new: usize, sentence: &[u8], voice: u8)
-    requires { ⌜ Room (now h) new × (length (now sentence) ≤ 16) × (voice ≤ 15) ⌝ }
-    ensures { λ _. ⌜ now (h .exit) ≡ appended (now (h .entry)) (now (sentence .entry)) voice ⌝ }
+// Record `new`, with the old head as its next, and K and head set to `new`. The fourth byte's high four bits hold the voice, the low ones
+// the words played.
+fn write(h: &mut [u8], new: usize, sentence: &[u8], voice: u8, played: u8)
+    requires { ⌜ Room (now h) new × (length (now sentence) ≤ 16) × (voice ≤ 15) × (played ≤ 15) ⌝ }
+    ensures { λ _. ⌜ now (h .exit) ≡ appended (now (h .entry)) (playback (now (sentence .entry)) voice played) ⌝ }
 {
     let old = records::two_at(h, 2);
-    put_record(h, records::record_at(new), old, 16 * voice, sentence);
+    let fourth = 16 * voice + played;
+    put_record(h, records::record_at(new), old, fourth, sentence);
     put_two(h, 0, new);
     put_two(h, 2, new);
 }
 
-pub fn append(h: &mut [u8], sentence: &[u8], voice: u64) -> AppendAnswer
-    ensures { λ a. ⌜ appendSays a (now (h .exit)) ≡ appendOf (now (h .entry)) (now (sentence .entry)) voice ⌝ }
+pub fn append(h: &mut [u8], sentence: &[u8], voice: u64, played: u64) -> AppendAnswer
+    ensures { λ a. ⌜ appendSays a (now (h .exit)) ≡ appendOf (now (h .entry)) (playback (now (sentence .entry)) voice played) ⌝ }
 {
     if sentence.len() < 1 {
         return AppendAnswer::Refused(Refusal::BadLength);
@@ -77,6 +80,9 @@ pub fn append(h: &mut [u8], sentence: &[u8], voice: u64) -> AppendAnswer
     }
     if 15 < voice {
         return AppendAnswer::Refused(Refusal::BadVoice);
+    }
+    if sentence.len() as u64 <= played {
+        return AppendAnswer::Refused(Refusal::BadPlayed);
     }
     let a = checks::check(h);
     match a {
@@ -89,7 +95,7 @@ pub fn append(h: &mut [u8], sentence: &[u8], voice: u64) -> AppendAnswer
             if h.len() < 4 + 20 * new {
                 return AppendAnswer::Refused(Refusal::HistoryFull);
             }
-            write(h, new, sentence, voice as u8);
+            write(h, new, sentence, voice as u8, played as u8);
             AppendAnswer::Given(k + 1)
         }
     }

@@ -57,8 +57,8 @@ fn misfit(h: &[u8], at: usize) -> bool
     if 16 < n {
         return true;
     }
-    // the high four bits hold the voice, and may be any
-    if h[at + 3] % 16 != 0 {
+    // the low four bits are the words played, fewer than all; the high four bits hold the voice, and may be any
+    if n <= records::wide(h[at + 3]) % 16 {
         return true;
     }
     // nothing lies beyond sixteen words

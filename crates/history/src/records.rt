@@ -57,10 +57,11 @@ pub fn words(h: &[u8], r: usize) -> &[u8]
     &h[at..end]
 }
 
-// Whether record r makes its sentence heard in a voice.
+// Whether record r makes its sentence heard in a voice: it has that voice, and was played in full.
 pub fn makes_heard(h: &[u8], r: usize, voice: u64) -> bool
     requires { ⌜ Accepted (now h) × Inside (now h) r ⌝ }
     ensures { λ b. ⌜ b ≡ makesHeard (now (h .entry)) voice r ⌝ }
 {
-    (byte(h, r, 3) / 16) as u64 == voice
+    let fourth = byte(h, r, 3);
+    (fourth / 16) as u64 == voice && fourth % 16 == 0
 }

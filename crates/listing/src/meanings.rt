@@ -33,7 +33,7 @@ pub fn explain(r: Refusal) {
             b"listing: refused: the history has fewer than 4 bytes, K is above 1,000, or it has fewer than 4 + 20K bytes\n",
         ),
         Refusal::HistoryBadRecord => say(
-            b"listing: refused: some record has a wrong length, a fourth byte whose low four bits are not 0, or a non-zero byte beyond its words\n",
+            b"listing: refused: some record has a wrong length, a count of words played that is its length or more, or a non-zero byte beyond its words\n",
         ),
         Refusal::HistoryBadLink => say(
             b"listing: refused: the history's head or some next is above K\n",
@@ -55,5 +55,8 @@ pub fn explain(r: Refusal) {
             b"listing: refused: the sentence's buffer is shorter than the length\n",
         ),
         Refusal::BadVoice => say(b"listing: refused: the voice is above 15\n"),
+        Refusal::BadPlayed => say(
+            b"listing: refused: the count of words played is the sentence's length or more\n",
+        ),
     }
 }

@@ -1,10 +1,14 @@
 -- The demands hold. Demand 1's part on refusals is how every answer is made; demands 2 and 3 and the examples stand in the crates `ranking`
 -- and `sampling`.
 -- Assumes nothing.
-use mathlib.Core.Path.{sym, ap, _∙_}
+use mathlib.Core.Path.{_≡_, sym, ap, _∙_}
+use mathlib.Core.Logic.{_≢_}
+use mathlib.Core.Bool.{and-false}
 use mathlib.Core.List.{List, [], _∷_, _++_}
 use Prim.Native.Nat.{ℕ, suc, _≤_}
 use native.Mathlib.Omega.{arith}
+use borrow.Author.Tests.{ne-eqb}
+use lib.Dec.{eqb}
 use lib.ListN.{length, drop}
 use Rattle.answers.specs.Answer.{Row, Answer, firstThatApplies, answer}
 use Rattle.answers.proofs.Refusals.{answer-number, answer-refused}
@@ -18,24 +22,26 @@ use Rattle.counting.proofs.Ten.{ten, counts-small}
 use Rattle.history.specs.Layout.{recordsOf}
 use Rattle.history.specs.Refusals as history
 use Rattle.history.specs.Refusals.{historyRows}
+use Rattle.history.specs.Heard.{heard}
+use Rattle.history.specs.Playback.{Playback}
 use Rattle.history.specs.Writing.{appended}
 use Rattle.history.specs.Answers.{checkHistory, appendRows, appendOf}
-use Rattle.history.proofs.Appended.{logged}
+use Rattle.history.proofs.Appended.{logs, logged}
 use Rattle.ranking.specs.Answers.{totalOf, entryOf, readingsOf, numberOf, unrankRows, unrankOf, rankRows, rankOf}
 use Rattle.ranking.proofs.Demand2.{demand-2}
-use Rattle.sampling.specs.Question.{plainly}
-use Rattle.sampling.specs.Demand3.{Single, Premises}
+use Rattle.sampling.specs.Question.{Question, plainly}
+use Rattle.sampling.specs.Demand3.{Single, Premises, Alike}
 use Rattle.sampling.specs.Unheard.{heardOf, leftOf}
 use Rattle.sampling.specs.Answers.{drawn, remainingRows, remainingTo, drawRows, drawTo}
 use Rattle.sampling.proofs.Premises.{premises, fifteen}
 use Rattle.sampling.proofs.Demand3.{demand-3, once, alike}
-use Rattle.sampling.proofs.Examples.{examples, example-premises, example-voiced, logged-twice}
+use Rattle.sampling.proofs.Examples.{examples, example-premises, example-voiced, example-broken, logged-twice}
 use Rattle.matrix.specs.Table.{table}
 use Rattle.matrix.proofs.Rules.{is-accepted}
 use Rattle.matrix.proofs.Counts.{sentences-of-five, no-others}
 use Rattle.matrix.proofs.Single.{no-two, counts-fit}
 use Rattle.pumpfennel.specs.Demands.{Refuses, Demand1, Demands}
-use Rattle.pumpfennel.proofs.Voices.{former-voices}
+use Rattle.pumpfennel.proofs.Earlier.{former-voices, former-playbacks}
 use Rattle.pumpfennel.proofs.Former.{former-numbers, former-answers}
 
 -- an answer by its list of refusals
@@ -59,8 +65,20 @@ demand-1 = record {
   number = λ g s. refuses (rankRows g s) (numberOf g s ∷ totalOf g (length s) ∷ readingsOf g s ∷ []) [] [];
   left = λ g h a. refuses (remainingRows g h a) (totalOf g (a .length) ∷ heardOf g h a ∷ leftOf g h a ∷ []) [] [];
   draw = λ g h a q out. refuses (drawRows g h a q out) (leftOf g h a ∷ drawn g h a q .number ∷ []) out (sentence (drawn g h a q .tree) ++ drop (a .length) out);
-  log = λ h s v. refuses (appendRows h s v) (suc (recordsOf h) ∷ []) h (appended h s v);
+  log = λ h p. refuses (appendRows h p) (suc (recordsOf h) ∷ []) h (appended h p);
 }
+
+-- ---- a log that was broken off: what is heard is as it was, in every voice
+
+still-heard : (h : List ℕ) (p : Playback) → appendOf h p .refusal ≡ 0 → p .played ≢ 0 → (v : ℕ) (s : List ℕ) → heard (appended h p) v s ≡ heard h v s
+still-heard h p ok n v s = logged h p ok .after v s ∙ rw (ne-eqb (p .played) 0 n, and-false (eqb (p .voice) v))
+
+broken-off : (h : List ℕ) (p : Playback) → appendOf h p .refusal ≡ 0 → p .played ≢ 0 → (g : List ℕ) (a : Question) → Alike g (appended h p) h a
+broken-off h p ok n g a =
+    alike g (appended h p) h a (logged h p ok .accepted) (logs h p ok .accepted)
+    (λ s l.
+    let e = still-heard h p ok n (a .voice) s in
+    (λ b. (sym e ∙ b .0, b .1), λ b. (e ∙ b .0, b .1)))
 
 -- ---- the house matrix bank
 
@@ -87,13 +105,16 @@ demands = record {
   alike = alike;
   premises = premises;
   logged = logged;
+  broken-off = broken-off;
   voices = former-voices;
+  playbacks = former-playbacks;
   ten = ten;
   former = former-answers;
   numbers = former-numbers;
   fifteen = fifteen;
   instance = example-premises;
   voiced = example-voiced;
+  broken = example-broken;
   logged-twice = logged-twice;
   house = record { accepted = is-accepted; five = sentences-of-five; others = no-others; single = house-single };
   house-once = λ h v diary voiced. once table h (plainly 5 v) (house-premises h v diary voiced) (λ s l. house-single s);

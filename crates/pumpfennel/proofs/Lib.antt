@@ -1,5 +1,5 @@
 -- What the calls answer case by case, and the theorem of the demands.
 pub mod Cases
-pub mod Voices
+pub mod Earlier
 pub mod Former
 pub mod Demands

@@ -3,7 +3,7 @@
 -- Assumes nothing: these are definitions.
 use mathlib.Core.Path.{_≡_}
 use mathlib.Core.Logic.{_↔_, _≢_}
-use mathlib.Core.Bool.{true}
+use mathlib.Core.Bool.{true, false}
 use mathlib.Core.List.{List, [], _∷_}
 use Prim.Native.Nat.{ℕ, _≤_, _<_}
 use lib.ListN.{length, replicate}
@@ -17,6 +17,8 @@ use Rattle.history.specs.Refusals as history
 use Rattle.history.specs.Refusals.{historyRows}
 use Rattle.history.specs.Answers.{checkHistory, appendRows, appendOf}
 use Rattle.history.specs.Heard.{heard}
+use Rattle.history.specs.Playback.{Playback}
+use Rattle.history.specs.Writing.{appended}
 use Rattle.history.specs.Logged.{Logged}
 use Rattle.ranking.specs.Answers.{totalOf, unrankRows, unrankOf, rankRows, rankOf}
 use Rattle.ranking.specs.Demand2.{Demand2}
@@ -24,9 +26,9 @@ use Rattle.sampling.specs.Question.{Question, plainly}
 use Rattle.sampling.specs.Unheard.{Fifteen}
 use Rattle.sampling.specs.Answers.{remainingRows, remainingTo, drawRows, drawTo}
 use Rattle.sampling.specs.Demand3.{Single, Premises, Demand3, Once, SameBarred, Alike}
-use Rattle.sampling.specs.Examples.{Examples, F, heard01, heardTwice, heardInFive}
+use Rattle.sampling.specs.Examples.{Examples, F, G, heard01, heardTwice, heardInFive, brokenOff}
 use Rattle.matrix.specs.Table.{table}
-use Rattle.pumpfennel.specs.Former.{FormerVoices, FormerNumbers, FormerAnswers}
+use Rattle.pumpfennel.specs.Former.{FormerVoices, FormerPlaybacks, FormerNumbers, FormerAnswers}
 
 -- ---- demand 1: "The first fitting refusal of its list is returned, every figure zero, every lent buffer unchanged."
 
@@ -44,7 +46,7 @@ pub record Demand1 : Type 0 where
   pub number : (g s : List ℕ) → Refuses (rankRows g s) 3 [] (rankOf g s)
   pub left : (g h : List ℕ) (a : Question) → Refuses (remainingRows g h a) 3 [] (remainingTo g h a)
   pub draw : (g h : List ℕ) (a : Question) (q : ℕ) (out : List ℕ) → Refuses (drawRows g h a q out) 2 out (drawTo g h a q out)
-  pub log : (h s : List ℕ) (v : ℕ) → Refuses (appendRows h s v) 1 h (appendOf h s v)
+  pub log : (h : List ℕ) (p : Playback) → Refuses (appendRows h p) 1 h (appendOf h p)
 
 -- ---- the house matrix bank: "It has 100,000 sentences of length 5 and none of another length."
 
@@ -69,20 +71,26 @@ pub record Demands : Type 0 where
   pub alike : (g h h′ : List ℕ) (a : Question) → history.Accepted h → history.Accepted h′ → SameBarred g h h′ a → Alike g h h′ a
   -- the premises are no more than that *Left* isn't refused
   pub premises : (g h : List ℕ) (a : Question) → (Premises g h a ↔ (remainingTo g h a .refusal ≡ 0))
-  -- what an accepted *Log* does to the history's meaning: the sentence is heard in its voice then, and what was heard in any voice still is
-  pub logged : (h s : List ℕ) (v : ℕ) → appendOf h s v .refusal ≡ 0 → Logged h s v
+  -- what an accepted *Log* does to the history's meaning: the sentence, if it was played in full, is heard in its voice then, and what was heard in any
+  -- voice still is. One that was broken off leaves every answer of *Left* and *Draw* as it was (document 02, U5).
+  pub logged : (h : List ℕ) (p : Playback) → appendOf h p .refusal ≡ 0 → Logged h p
+  pub broken-off : (h : List ℕ) (p : Playback) → appendOf h p .refusal ≡ 0 → p .played ≢ 0 → (g : List ℕ) (a : Question) → Alike g (appended h p) h a
   -- "Old diaries read as voice 0" (document 02, U4)
   pub voices : FormerVoices
+  -- a history without a record that was broken off has its former answers (document 02, U5)
+  pub playbacks : FormerPlaybacks
   -- "10 applies exactly if the count of a needed pair is above 2^64 - 1", and "Every call that did not return 10 has its former answer" (document 02, U2)
   pub ten : (g : List ℕ) (n : ℕ) → Ten g n
   pub former : FormerAnswers
   -- "A sentence with one derivation has its former number", and "Refusal 15 is returned for the same diaries, by way of the new figure" (document 02, U6)
   pub numbers : FormerNumbers
   pub fifteen : (g h : List ℕ) (a : Question) → countOf g (a .length) .refusal ≡ 0 → history.Accepted h → Fifteen g h a
-  -- there is such a grammar, history and length, and one with a record in another voice; there are two histories that bar the same; and the house
-  -- bank is as document 01 says, so that with every accepted history and in every voice each of its unheard sentences comes exactly once
+  -- there is such a grammar, history and length, one with a record in another voice, and one with a sentence of two derivations broken off, which isn't
+  -- heard; there are two histories that bar the same; and the house bank is as document 01 says, so that with every accepted history and in every voice
+  -- each of its unheard sentences comes exactly once
   pub instance : Premises F heard01 (plainly 2 0)
   pub voiced : Premises F heardInFive (plainly 2 5) × (heard heardInFive 5 (0 ∷ 1 ∷ []) ≡ true)
+  pub broken : Premises G brokenOff (plainly 3 0) × (heard brokenOff 0 (0 ∷ 0 ∷ 0 ∷ []) ≡ false)
   pub logged-twice : history.Accepted heard01 × history.Accepted heardTwice × SameBarred F heard01 heardTwice (plainly 2 0)
   pub house : House
   pub house-once : (h : List ℕ) (v : ℕ) → history.Accepted h → v ≤ 15 → (out : ℕ → List ℕ) → ((q : ℕ) → 5 ≤ length (out q)) → Once table h (plainly 5 v) out

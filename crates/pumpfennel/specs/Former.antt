@@ -4,93 +4,102 @@ use mathlib.Core.Path.{_≡_}
 use mathlib.Core.Logic.{_≢_}
 use mathlib.Core.Bool.{Bool, true, false, cond, not, _&&_, _||_}
 use mathlib.Core.List.{List, [], _∷_, _++_, map}
-use Prim.Native.Nat.{ℕ, suc, _+_, _-_, _≤_}
+use Prim.Native.Nat.{ℕ, suc, _+_, _-_, _*_, _/_, _%_, _≤_}
 use lib.Dec.{ltb, leb, eqb}
 use lib.ListN.{length, getD, drop}
 use Rattle.lists.specs.Searched.{someOf, someTo, same, keep}
 use Rattle.answers.specs.Answer.{Row, Answer, given, refused, answer}
 use Rattle.answers.specs.Length.{badLength}
+use Rattle.answers.specs.Voice.{badVoice}
 use Rattle.grammar.specs.Trees.{leaf, sentence}
 use Rattle.counting.specs.Refusals.{preparedRows, formerTooLarge}
 use Rattle.counting.specs.Answers.{countOf}
 use Rattle.ranking.specs.Answers.{fullList, totalOf, entryOf, readingsOf, numberOf, unrankRows, unrankOf, rankOf}
-use Rattle.history.specs.Layout.{recordsOf, headOf, recordAt, fourthOf, recordWords}
+use Rattle.history.specs.Layout.{recordsOf, headOf, recordAt, fourthOf, playedOf, recordWords}
 use Rattle.history.specs.Chain.{numbers}
 use Rattle.history.specs.Refusals.{badSize, someNonzero, badLink, badChain}
 use Rattle.history.specs.Heard.{heard}
+use Rattle.history.specs.Playback.{playback}
 use Rattle.history.specs.Writing.{overwritten, twoBytes, recordBytes}
 use Rattle.history.specs.Answers.{checkHistory, noRoom, appendOf}
 use Rattle.sampling.specs.Question.{plainly}
 use Rattle.sampling.specs.Unheard.{Entry, entriesFrom, distinct, heardOf}
-use Rattle.sampling.specs.Answers.{remainingOf, drawOf}
+use Rattle.sampling.specs.Answers.{askedRows, remainingOf, drawOf}
 
--- ---- before voices, U4: "Old diaries read as voice 0"
+-- ---- a history before U4 and U5
 
--- How a record's fourth byte was read: whether 12 let it pass, and whether such a record made its sentence heard.
-pub record Fourth : Type 0 where
+-- What *Left* and *Draw* did otherwise: the lines before 11, whether 12 let a record's fourth byte pass, and whether such a record made its sentence heard.
+pub record Earlier : Type 0 where
+  pub opening : (g : List ℕ) (n : ℕ) → List Row
   pub passes : ℕ → Bool
   pub hears : ℕ → Bool
 
--- "12. Some record has [..] a fourth byte that is not 0", and "A sentence is heard if a record has its length and words."
-abbrev pub unvoiced : Fourth
-unvoiced = record { passes = λ x. eqb x 0; hears = λ x. true }
-
 -- the history's refusals, its sentences of n words and what is heard, by that reading
-abbrev pub misfitBy : (f : Fourth) (h : List ℕ) (at : ℕ) → Bool
+abbrev pub misfitBy : (f : Earlier) (h : List ℕ) (at : ℕ) → Bool
 misfitBy f h at =
     let n = getD h (at + 2) 0 in
     badLength n || (not (f .passes (getD h (at + 3) 0)) || someNonzero h (at + 4 + n) (16 - n))
 
-abbrev pub rowsBy : (f : Fourth) (h : List ℕ) → List Row
+abbrev pub rowsBy : (f : Earlier) (h : List ℕ) → List Row
 rowsBy f h = (badSize h, 11) ∷ (someTo (λ r. misfitBy f h (recordAt r)) (recordsOf h), 12) ∷ (badLink h, 13) ∷ (badChain h, 14) ∷ []
 
-abbrev pub sentencesBy : (f : Fourth) (h : List ℕ) (n : ℕ) → List (List ℕ)
+abbrev pub sentencesBy : (f : Earlier) (h : List ℕ) (n : ℕ) → List (List ℕ)
 sentencesBy f h n = keep (λ s. eqb (length s) n) (map (recordWords h) (keep (λ r. f .hears (fourthOf h r)) (numbers h)))
 
-abbrev pub heardBy : (f : Fourth) (h s : List ℕ) → Bool
+abbrev pub heardBy : (f : Earlier) (h s : List ℕ) → Bool
 heardBy f h s = someTo (λ r. f .hears (fourthOf h r) && same (recordWords h r) s) (recordsOf h)
 
 -- *Left*: "heard (distinct heard sentences of that length with one derivation) and left = T - heard"
-abbrev pub countedBy : (f : Fourth) (g h : List ℕ) (n : ℕ) → ℕ
+abbrev pub countedBy : (f : Earlier) (g h : List ℕ) (n : ℕ) → ℕ
 countedBy f g h n = length (distinct (keep (λ s. eqb (readingsOf g s) 1) (sentencesBy f h n)))
 
-abbrev pub restBy : (f : Fourth) (g h : List ℕ) (n : ℕ) → ℕ
+abbrev pub restBy : (f : Earlier) (g h : List ℕ) (n : ℕ) → ℕ
 restBy f g h n = totalOf g n - countedBy f g h n
 
 -- "15. A diary sentence of the named length has two or more derivations from S (*Left*, *Draw*)."
-abbrev pub leftRowsBy : (f : Fourth) (g h : List ℕ) (n : ℕ) → List Row
-leftRowsBy f g h n = preparedRows g n ++ (rowsBy f h ++ ((someOf (λ s. leb 2 (readingsOf g s)) (sentencesBy f h n), 15) ∷ []))
+abbrev pub leftRowsBy : (f : Earlier) (g h : List ℕ) (n : ℕ) → List Row
+leftRowsBy f g h n = f .opening g n ++ (rowsBy f h ++ ((someOf (λ s. leb 2 (readingsOf g s)) (sentencesBy f h n), 15) ∷ []))
 
-abbrev pub leftBy : (f : Fourth) (g h : List ℕ) (n : ℕ) → Answer
+abbrev pub leftBy : (f : Earlier) (g h : List ℕ) (n : ℕ) → Answer
 leftBy f g h n = answer (leftRowsBy f g h n) (totalOf g n ∷ countedBy f g h n ∷ restBy f g h n ∷ []) [] []
 
 -- *Draw*: "the derivation with an unheard sentence that has exactly q such derivations before it"
-abbrev pub drawnBy : (f : Fourth) (g h : List ℕ) (n q : ℕ) → Entry
+abbrev pub drawnBy : (f : Earlier) (g h : List ℕ) (n q : ℕ) → Entry
 drawnBy f g h n q = getD (keep (λ e. not (heardBy f h (sentence (e .tree)))) (entriesFrom 0 (fullList g n))) q (record { number = 0; tree = leaf 0 0 })
 
-abbrev pub drawRowsBy : (f : Fourth) (g h : List ℕ) (n q : ℕ) (out : List ℕ) → List Row
+abbrev pub drawRowsBy : (f : Earlier) (g h : List ℕ) (n q : ℕ) (out : List ℕ) → List Row
 drawRowsBy f g h n q out = leftRowsBy f g h n ++ ((leb (restBy f g h n) q, 16) ∷ (ltb (length out) n, 20) ∷ [])
 
-abbrev pub drawBy : (f : Fourth) (g h : List ℕ) (n q : ℕ) (out : List ℕ) → Answer
+abbrev pub drawBy : (f : Earlier) (g h : List ℕ) (n q : ℕ) (out : List ℕ) → Answer
 drawBy f g h n q out =
     answer (drawRowsBy f g h n q out) (restBy f g h n ∷ drawnBy f g h n q .number ∷ []) out (sentence (drawnBy f g h n q .tree) ++ drop n out)
 
--- *Check diary*, and *Log*, which wrote "one byte 0"
-abbrev pub unvoicedCheck : (h : List ℕ) → Answer
-unvoicedCheck h = answer (rowsBy unvoiced h) (recordsOf h ∷ []) [] []
+-- *Check diary*, and *Log*, by its lines before 11 and the fourth byte that it wrote
+abbrev pub checkBy : (f : Earlier) (h : List ℕ) → Answer
+checkBy f h = answer (rowsBy f h) (recordsOf h ∷ []) [] []
 
-abbrev pub unvoicedLog : (h s : List ℕ) → Answer
-unvoicedLog h s =
+abbrev pub logBy : (f : Earlier) (opening : List Row) (fourth : ℕ) (h s : List ℕ) → Answer
+logBy f opening fourth h s =
     let new = suc (recordsOf h) in
-    answer ((badLength (length s), 9) ∷ (rowsBy unvoiced h ++ ((noRoom h, 19) ∷ []))) (new ∷ []) h
-    (overwritten (overwritten (overwritten h (recordAt new) (recordBytes (headOf h) 0 s)) 0 (twoBytes new)) 2 (twoBytes new))
+    answer (opening ++ (rowsBy f h ++ ((noRoom h, 19) ∷ []))) (new ∷ []) h
+    (overwritten (overwritten (overwritten h (recordAt new) (recordBytes (headOf h) fourth s)) 0 (twoBytes new)) 2 (twoBytes new))
 
--- a history whose records all have the fourth byte 0 has its former answers in voice 0, and in every other voice nothing is heard
+-- ---- U4: "Old diaries read as voice 0"
+
+-- as U4 found them: "12. Some record has [..] a fourth byte that is not 0", and "A sentence is heard if a record has its length and words."
+abbrev pub unvoiced : Earlier
+unvoiced = record { opening = preparedRows; passes = λ x. eqb x 0; hears = λ x. true }
+
+-- "one byte 0"
+abbrev pub unvoicedLog : (h s : List ℕ) → Answer
+unvoicedLog h s = logBy unvoiced ((badLength (length s), 9) ∷ []) 0 h s
+
+-- a history whose records all have the fourth byte 0 has its former answers in voice 0, played in full, and in every other voice nothing is heard
 pub record FormerVoice (h : List ℕ) : Type 0 where
-  pub check : checkHistory h ≡ unvoicedCheck h
+  pub check : checkHistory h ≡ checkBy unvoiced h
   pub left : (g : List ℕ) (n : ℕ) → remainingOf g h n 0 ≡ leftBy unvoiced g h n
   pub draw : (g : List ℕ) (n q : ℕ) (out : List ℕ) → drawOf g h n 0 q out ≡ drawBy unvoiced g h n q out
-  pub log : (s : List ℕ) → appendOf h s 0 ≡ unvoicedLog h s
+  pub log : (s : List ℕ) → appendOf h (playback s 0 0) ≡ unvoicedLog h s
   pub others : (v : ℕ) → v ≢ 0 → (s : List ℕ) → heard h v s ≡ false
   pub none : (v : ℕ) → v ≢ 0 → (g : List ℕ) (n : ℕ) → heardOf g h (plainly n v) ≡ 0
 
@@ -100,10 +109,35 @@ AllZero h = (r : ℕ) → 1 ≤ r → r ≤ recordsOf h → fourthOf h r ≡ 0
 pub record FormerVoices : Type 0 where
   pub stay : (h : List ℕ) → AllZero h → FormerVoice h
   -- every history that was accepted is such a one
-  pub old : (h : List ℕ) → unvoicedCheck h .refusal ≡ 0 → AllZero h
+  pub old : (h : List ℕ) → checkBy unvoiced h .refusal ≡ 0 → AllZero h
   -- the former texts: the sentences were those of all records along the chain, and heard was that "a record has its length and words"
   pub sentences : (h : List ℕ) (n : ℕ) → sentencesBy unvoiced h n ≡ keep (λ s. eqb (length s) n) (map (recordWords h) (numbers h))
   pub heard : (h s : List ℕ) → heardBy unvoiced h s ≡ someTo (λ r. same (recordWords h r) s) (recordsOf h)
+
+-- ---- U5: a history without a record that was broken off
+
+-- as U5 found them, in the voice v: "Refusal 12 no longer minds the high four bits", and "A sentence is heard only if words and voice both agree."
+abbrev pub unbroken : (v : ℕ) → Earlier
+unbroken v = record { opening = λ g n. askedRows g (plainly n v); passes = λ x. eqb (x % 16) 0; hears = λ x. eqb (x / 16) v }
+
+-- "The high four bits of a record's fourth byte hold it."
+abbrev pub unbrokenLog : (h s : List ℕ) (v : ℕ) → Answer
+unbrokenLog h s v = logBy (unbroken v) ((badLength (length s), 9) ∷ (badVoice v, 22) ∷ []) (16 * v) h s
+
+-- it has its former answers, in every voice, and a *Log* of a sentence played in full does what it did
+pub record FormerPlayback (h : List ℕ) (v : ℕ) : Type 0 where
+  pub check : checkHistory h ≡ checkBy (unbroken v) h
+  pub left : (g : List ℕ) (n : ℕ) → remainingOf g h n v ≡ leftBy (unbroken v) g h n
+  pub draw : (g : List ℕ) (n q : ℕ) (out : List ℕ) → drawOf g h n v q out ≡ drawBy (unbroken v) g h n q out
+  pub log : (s : List ℕ) → appendOf h (playback s v 0) ≡ unbrokenLog h s v
+
+abbrev pub AllFull : List ℕ → Type 0
+AllFull h = (r : ℕ) → 1 ≤ r → r ≤ recordsOf h → playedOf h r ≡ 0
+
+pub record FormerPlaybacks : Type 0 where
+  pub stay : (h : List ℕ) → AllFull h → (v : ℕ) → FormerPlayback h v
+  -- every history that was accepted is such a one
+  pub old : (h : List ℕ) (v : ℕ) → checkBy (unbroken v) h .refusal ≡ 0 → AllFull h
 
 -- ---- U6: "A sentence with one derivation has its former number."
 

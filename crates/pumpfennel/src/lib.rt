@@ -5,6 +5,7 @@ ghost use mathlib.Core.List.{[], _∷_};
 ghost use Rattle.grammar.specs.Answers.{checkGrammar};
 ghost use Rattle.counting.specs.Answers.{countOf};
 ghost use Rattle.history.specs.Answers.{checkHistory, appendOf};
+ghost use Rattle.history.specs.Playback.{playback};
 ghost use Rattle.ranking.specs.Answers.{unrankOf, rankOf};
 ghost use Rattle.sampling.specs.Answers.{remainingOf, drawOf};
 ghost use Rattle.pumpfennel.specs.Calls.{gives};
@@ -220,11 +221,12 @@ pub extern "C" fn pumpfennel_append(
     history: &mut [u8],
     sentence: &[u8],
     voice: u64,
+    played: u64,
     records: &mut u64,
 ) -> u8
-    ensures { λ r. ⌜ gives r (now (records .exit) ∷ []) (now (history .exit)) ≡ appendOf (now (history .entry)) (now (sentence .entry)) voice ⌝ }
+    ensures { λ r. ⌜ gives r (now (records .exit) ∷ []) (now (history .exit)) ≡ appendOf (now (history .entry)) (playback (now (sentence .entry)) voice played) ⌝ }
 {
-    let a = append::append(history, sentence, voice);
+    let a = append::append(history, sentence, voice, played);
     match a {
         AppendAnswer::Given(k) => {
             *records = k;

@@ -16,6 +16,7 @@ use Rattle.lists.specs.Searched.{someBelow, same}
 use Rattle.answers.specs.Answer.{firstThatApplies, given, refused}
 use Rattle.answers.specs.Length.{badLength}
 use Rattle.answers.proofs.Refusals.{row-applies, row-passed, rows-pass, answer-accepted, answer-refused}
+use Rattle.grammar.specs.Layout.{start}
 use Rattle.grammar.specs.Chains.{Rule, wordsOf, pairsOf, rest, chain}
 use Rattle.grammar.specs.Refusals.{tooShort, outOfRange, wrongSize, fits, badRule, badLink, metTwice, onNoChain, someAlike, repeated, Accepted}
 use Rattle.grammar.specs.Trees.{leaf, node, sentence}
@@ -31,11 +32,11 @@ use Rattle.history.specs.Layout.{twoAt, recordWords}
 use Rattle.history.specs.Chain.{numbersFrom}
 use Rattle.history.specs.Heard.{makesHeard, heard}
 use Rattle.history.specs.Refusals as history
-use Rattle.sampling.specs.Question.{plainly}
+use Rattle.sampling.specs.Question.{Question, plainly}
 use Rattle.sampling.specs.Unheard.{unheard, heardOf, leftOf, ambiguous}
 use Rattle.sampling.specs.Answers.{remainingRows, remainingOf, drawn, drawRows, drawOf, remainingTo, drawTo}
 use Rattle.sampling.specs.Demand3.{Premises, SameBarred}
-use Rattle.sampling.specs.Examples.{F, G, heard01, heardTwice, heardInFive, Examples}
+use Rattle.sampling.specs.Examples.{F, G, heard01, heardTwice, heardInFive, brokenOff, Examples}
 use Rattle.sampling.proofs.Premises.{prepared-pass, heard-single, premises-pass}
 
 -- ---- the grammar F, and any other with its rules of nonterminals 0 and 1
@@ -135,18 +136,22 @@ heard01-clear : ambiguous F heard01 (plainly 2 0) ≡ false
 unfolding ambiguous makesHeard twoAt recordWords numbersFrom trees treesTo metFrom rest
 heard01-clear = refl
 
--- the premises of demand 3 hold of F, length 2 and a history that has no ambiguous sentence
+-- the premises of demand 3, of a history that has no ambiguous sentence
+premised : (g h : List ℕ) (a : Question) → Accepted g → 1 ≤ a .length → a .length ≤ 16 → a .voice ≤ 15 → AllFit (chain g) (λ p w. 1) (start g) (a .length)
+    → history.Accepted h → ambiguous g h a ≡ false → Premises g h a
+premised g h a bank l u v fit ok clear = record {
+  bank = bank;
+  some = l;
+  short = u;
+  voiced = v;
+  counts = fit;
+  diary = ok;
+  single = heard-single g h a ok .0 clear;
+}
+
 two-premises : (h : List ℕ) (v : ℕ) → v ≤ 15 → history.Accepted h → ambiguous F h (plainly 2 v) ≡ false → Premises F h (plainly 2 v)
 two-premises h v l ok clear =
-    record {
-      bank = F-accepted;
-      some = omega arith;
-      short = omega arith;
-      voiced = l;
-      counts = F-fits 2 (omega arith) (omega arith);
-      diary = ok;
-      single = heard-single F h (plainly 2 v) ok .0 clear;
-    }
+    premised F h (plainly 2 v) F-accepted (omega arith) (omega arith) l (F-fits 2 (omega arith) (omega arith)) ok clear
 
 pub example-premises : Premises F heard01 (plainly 2 0)
 example-premises = two-premises heard01 0 (omega arith) heard01-accepted heard01-clear
@@ -235,9 +240,11 @@ G-counts zero (suc (suc (suc (suc zero)))) a l u = omega (arith, ap (λ (x : Lis
 G-counts zero (suc (suc (suc (suc (suc m))))) a l u = absurd (omega arith)
 G-counts (suc A) m a l u = absurd (omega arith)
 
+G-fits : (n : ℕ) → 1 ≤ n → n ≤ 4 → AllFit (chain G) (λ p w. 1) 0 n
+G-fits n l u A m a = let w = needed-within G n G-accepted l a in G-counts A m (w .0) (w .1) (omega (arith, w .2))
+
 G-prepared : (n : ℕ) → 1 ≤ n → n ≤ 4 → firstThatApplies (preparedRows G n) ≡ 0
-G-prepared n l u =
-    prepared-pass G n G-accepted l (omega arith) (λ A m a. let w = needed-within G n G-accepted l a in G-counts A m (w .0) (w .1) (omega (arith, w .2)))
+G-prepared n l u = prepared-pass G n G-accepted l (omega arith) (G-fits n l u)
 
 G-count : (n t : ℕ) → 1 ≤ n → n ≤ 4 → T (chain G) 0 n ≡ t → countOf G n ≡ given (t ∷ []) []
 unfolding countOf
@@ -249,6 +256,26 @@ two-readings =
     answer-accepted (0 ∷ T (chain G) 0 3 ∷ 2 ∷ []) [] []
     (rows-pass (preparedRows G 3) ((false, 17) ∷ []) refl (G-prepared 3 (omega arith) (omega arith)))
     ∙ rw (ap (λ (x : List ℕ). getD x 2 0) G-totals)
+
+-- ---- a record that was broken off
+
+broken-accepted : history.Accepted brokenOff
+unfolding firstThatApplies history.badSize history.misfit history.badRecord history.badLink history.badChain badLength someBelow twoAt numbersFrom metFrom
+broken-accepted = refl
+
+broken-clear : ambiguous G brokenOff (plainly 3 0) ≡ false
+unfolding ambiguous makesHeard twoAt recordWords numbersFrom metFrom
+broken-clear = refl
+
+broken-unheard : heard brokenOff 0 (0 ∷ 0 ∷ 0 ∷ []) ≡ false
+unfolding heard makesHeard someBelow twoAt recordWords
+broken-unheard = refl
+
+pub example-broken : Premises G brokenOff (plainly 3 0) × (heard brokenOff 0 (0 ∷ 0 ∷ 0 ∷ []) ≡ false)
+example-broken = (
+  premised G brokenOff (plainly 3 0) G-accepted (omega arith) (omega arith) (omega arith) (G-fits 3 (omega arith) (omega arith)) broken-accepted broken-clear,
+  broken-unheard,
+)
 
 -- ---- all of them
 

@@ -51,6 +51,13 @@ heardInFive =
     0 ∷ 0 ∷ 2 ∷ 80 ∷ 0 ∷ 1 ∷
     0 ∷ 0 ∷ 0 ∷ 0 ∷ 0 ∷ 0 ∷ 0 ∷ 0 ∷ 0 ∷ 0 ∷ 0 ∷ 0 ∷ 0 ∷ 0 ∷ []
 
+-- the sentence 0 0 0, which has two derivations of G, broken off after one word
+abbrev pub brokenOff : List ℕ
+brokenOff =
+    1 ∷ 0 ∷ 1 ∷ 0 ∷
+    0 ∷ 0 ∷ 3 ∷ 1 ∷ 0 ∷ 0 ∷ 0 ∷
+    0 ∷ 0 ∷ 0 ∷ 0 ∷ 0 ∷ 0 ∷ 0 ∷ 0 ∷ 0 ∷ 0 ∷ 0 ∷ 0 ∷ 0 ∷ []
+
 pub record Examples : Type 0 where
   -- "P1: F, length 1: T 0. P2: length 2: T 4. P3: length 16: T 65,536."
   pub p1 : countOf F 1 ≡ given (0 ∷ []) []

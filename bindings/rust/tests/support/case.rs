@@ -50,7 +50,7 @@ impl Call {
     }
 
     /// The refusals that the documents allow it, in the order in which they are tested: a line concerns every call that
-    /// takes what the line names, and 18 none any more; 22 comes right after 9.
+    /// takes what the line names, and 18 none any more; 22 comes right after 9, and 23 right after 22.
     pub fn refusals(self) -> Vec<u8> {
         match self {
             Call::CheckGrammar => (1..=8).collect(),
@@ -60,7 +60,7 @@ impl Call {
             Call::Rank => (1..=10).chain([17]).collect(),
             Call::Remaining => (1..=9).chain([22]).chain(10..=15).collect(),
             Call::Draw => (1..=9).chain([22]).chain(10..=16).chain([20]).collect(),
-            Call::Append => [9, 22].into_iter().chain(11..=14).chain([19]).collect(),
+            Call::Append => [9, 22, 23].into_iter().chain(11..=14).chain([19]).collect(),
         }
     }
 
@@ -78,6 +78,10 @@ impl Call {
 
     pub fn takes_voice(self) -> bool {
         matches!(self, Call::Remaining | Call::Draw | Call::Append)
+    }
+
+    pub fn takes_played(self) -> bool {
+        self == Call::Append
     }
 
     pub fn takes_number(self) -> bool {
@@ -98,6 +102,7 @@ pub struct Case {
     pub history: Vec<u8>,
     pub length: u64,
     pub voice: u64,
+    pub played: u64,
     pub number: u64,
     pub sentence: Vec<u8>,
 }
@@ -131,7 +136,7 @@ fn unhex(text: &str) -> Vec<u8> {
 
 impl Case {
     pub fn new(call: Call) -> Case {
-        Case { call, grammar: vec![], history: vec![], length: 0, voice: 0, number: 0, sentence: vec![] }
+        Case { call, grammar: vec![], history: vec![], length: 0, voice: 0, played: 0, number: 0, sentence: vec![] }
     }
 
     /// What the written buffer holds before the call.
@@ -158,6 +163,9 @@ impl Case {
         if self.call.takes_voice() {
             lines.push(format!("voice {}", self.voice));
         }
+        if self.call.takes_played() {
+            lines.push(format!("played {}", self.played));
+        }
         if self.call.takes_number() {
             lines.push(format!("number {}", self.number));
         }
@@ -177,8 +185,8 @@ impl Case {
 pub type Stored = (Case, Option<Answer>);
 
 /// The stored cases of a file. One begins at each line `call`; `#` begins a comment; without a line `voice` the voice
-/// is 0, without a line `answer` the reference alone says what is right, and without a line `buffer` the buffer stays
-/// as it was.
+/// is 0, without a line `played` the sentence was played in full, without a line `answer` the reference alone says what
+/// is right, and without a line `buffer` the buffer stays as it was.
 pub fn parse(text: &str) -> Vec<Stored> {
     let mut cases: Vec<Stored> = vec![];
     for line in text.lines().map(str::trim).filter(|line| !line.is_empty() && !line.starts_with('#')) {
@@ -194,6 +202,7 @@ pub fn parse(text: &str) -> Vec<Stored> {
             "history" => case.history = unhex(value),
             "length" => case.length = value.parse().expect("a length"),
             "voice" => case.voice = value.parse().expect("a voice"),
+            "played" => case.played = value.parse().expect("a count of words"),
             "number" => case.number = value.parse().expect("a number"),
             "sentence" => case.sentence = unhex(value),
             "answer" => {

@@ -1,4 +1,4 @@
-//! Cases from a seed: grammars of several families, histories, voices, numbers, and damage of every kind.
+//! Cases from a seed: grammars of several families, histories, voices, words played, numbers, and damage of every kind.
 use super::case::{Call, Case};
 use super::reference::{Full, Grammar, next, read_grammar, totals};
 
@@ -388,8 +388,19 @@ pub fn damage_grammar(rng: &mut Rng, bytes: &mut Vec<u8>, aim: u8) {
 
 // ---- Histories
 
-/// A voice, and the words of a sentence heard in it.
-pub type Spoken = (u8, Vec<u8>);
+/// The words of a sentence, the voice it was played in, and how many of the words were played: 0 for all.
+#[derive(Clone)]
+pub struct Spoken {
+    pub voice: u8,
+    pub played: u8,
+    pub words: Vec<u8>,
+}
+
+impl Spoken {
+    pub fn in_full(voice: u8, words: Vec<u8>) -> Spoken {
+        Spoken { voice, played: 0, words }
+    }
+}
 
 /// The bytes of a history with these sentences along its chain. Numbered backward it is what *Log* leaves.
 pub fn history(sentences: &[Spoken], numbers: &[usize], slack: &[u8]) -> Vec<u8> {
@@ -397,11 +408,11 @@ pub fn history(sentences: &[Spoken], numbers: &[usize], slack: &[u8]) -> Vec<u8>
     let mut bytes = vec![0; 4 + 20 * k];
     bytes[..2].copy_from_slice(&(k as u16).to_le_bytes());
     let mut link = 2;
-    for ((voice, words), &number) in sentences.iter().zip(numbers) {
+    for (Spoken { voice, played, words }, &number) in sentences.iter().zip(numbers) {
         bytes[link..link + 2].copy_from_slice(&(number as u16).to_le_bytes());
         link = 4 + 20 * (number - 1);
         bytes[link + 2] = words.len() as u8;
-        bytes[link + 3] = 16 * voice;
+        bytes[link + 3] = 16 * voice + played;
         bytes[link + 4..link + 4 + words.len()].copy_from_slice(words);
     }
     bytes.extend(slack);
@@ -467,15 +478,21 @@ pub fn damage_history(rng: &mut Rng, bytes: &mut Vec<u8>, aim: u8) {
         },
         12 if k > 0 => {
             let at = 4 + 20 * rng.below(k);
-            let length = usize::from(bytes[at + 2]);
-            match rng.below(6) {
+            let (length, voice, played) = (usize::from(bytes[at + 2]), bytes[at + 3] & 0xf0, bytes[at + 3] & 0x0f);
+            match rng.below(8) {
                 0 => bytes[at + 2] = rng.pick(&[0, 17, 18, 32, 128, 255]),
-                // Low bits beside the voice, low bits alone, and voices that do no harm.
-                1 => bytes[at + 3] |= 1 + rng.below(15) as u8,
-                2 => bytes[at + 3] = 1 + rng.below(15) as u8,
-                3 => bytes[at + 3] = rng.pick(&[1, 8, 15, 16, 17, 128, 136, 240, 241, 255]),
-                4 if length < 16 => bytes[at + 4 + length] = 1 + rng.below(255) as u8,
-                5 if length < 16 => bytes[at + 19] = 1 + rng.below(255) as u8,
+                // As many words played as there are or more, any figure, any fourth byte: not all do harm.
+                1 => bytes[at + 3] = voice + length.min(15) as u8,
+                2 => bytes[at + 3] = voice + (length + 1 + rng.below(15)).min(15) as u8,
+                3 => bytes[at + 3] = voice + rng.below(16) as u8,
+                4 => bytes[at + 3] = rng.pick(&[1, 8, 15, 16, 17, 128, 136, 240, 241, 255]),
+                // The words that were played, and no others.
+                5 if played > 0 => {
+                    bytes[at + 2] = played;
+                    bytes[at + 4 + usize::from(played)..at + 20].fill(0);
+                }
+                6 if length < 16 => bytes[at + 4 + length] = 1 + rng.below(255) as u8,
+                7 if length < 16 => bytes[at + 19] = 1 + rng.below(255) as u8,
                 _ => bytes[at + 2] = (length as u8).saturating_sub(1),
             }
         }
@@ -496,8 +513,15 @@ pub fn damage_history(rng: &mut Rng, bytes: &mut Vec<u8>, aim: u8) {
 const BAD_LENGTHS: [u64; 12] =
     [0, 17, 18, 32, 255, 256, 256 + 3, 65536 + 5, (1 << 32) + 2, (1 << 32) + 5, 1 << 63, u64::MAX];
 
-/// Voices that 22 refuses.
-pub const BAD_VOICES: [u64; 12] = [16, 17, 31, 32, 128, 255, 256, 65536, 1 << 32, (1 << 32) + 256, 1 << 63, u64::MAX];
+/// What 22 refuses as a voice, and 23 as the words played of any sentence.
+pub const ABOVE_FIFTEEN: [u64; 12] =
+    [16, 17, 31, 32, 128, 255, 256, 65536, 1 << 32, (1 << 32) + 256, 1 << 63, u64::MAX];
+
+/// A number above 15, often with these low bits.
+fn above_fifteen(rng: &mut Rng, low: u64) -> u64 {
+    let above = if rng.once_in(4) { rng.next() | 16 } else { rng.pick(&ABOVE_FIFTEEN) };
+    if rng.once_in(2) { above | low } else { above }
+}
 
 /// A voice from 0 to 15.
 fn voice(rng: &mut Rng) -> u8 {
@@ -507,11 +531,7 @@ fn voice(rng: &mut Rng) -> u8 {
 
 /// The voice that a call is handed: mostly the one that is meant, else one above 15, often with the same low bits.
 fn voice_asked(rng: &mut Rng, voice: u8) -> u64 {
-    if !rng.once_in(30) {
-        return u64::from(voice);
-    }
-    let bad = if rng.once_in(4) { rng.next() | 16 } else { rng.pick(&BAD_VOICES) };
-    if rng.once_in(2) { bad | u64::from(voice) } else { bad }
+    if rng.once_in(30) { above_fifteen(rng, u64::from(voice)) } else { u64::from(voice) }
 }
 
 /// The voices of a history: mostly the one that is meant and perhaps another, so that sentences are heard in it;
@@ -523,6 +543,29 @@ fn voices(rng: &mut Rng, voice: u8) -> Vec<u8> {
         5..=8 => vec![voice, voice, other],
         9 => vec![other],
         _ => (0..16).collect(),
+    }
+}
+
+/// How many quarters of a history's records are broken off: often none, sometimes nearly all.
+fn quarters(rng: &mut Rng) -> usize {
+    rng.pick(&[0, 0, 0, 1, 2, 2, 4])
+}
+
+/// How many words of a sentence were played, 0 for all; broken off so many times in four.
+fn played(rng: &mut Rng, words: &[u8], quarters: usize) -> u8 {
+    if rng.below(4) < quarters { rng.below(words.len()) as u8 } else { 0 }
+}
+
+/// The words played that *Log* is handed: mostly all, or fewer than the sentence has; else as many, more, or far more.
+fn played_asked(rng: &mut Rng, length: usize) -> u64 {
+    let fewer = rng.below_u64(length.max(1) as u64);
+    match rng.below(24) {
+        0 => length as u64,
+        1 => length as u64 + 1 + rng.below_u64(4),
+        2 => rng.below_u64(17),
+        3 => above_fifteen(rng, fewer),
+        4..=13 => fewer,
+        _ => 0,
     }
 }
 
@@ -587,24 +630,28 @@ fn buffer(rng: &mut Rng, length: usize) -> Vec<u8> {
     rng.bytes(size)
 }
 
-/// Adds a sentence's words again, in all these voices or in some, in one perhaps several times.
+/// Adds a sentence's words again, in all these voices or in some, in one perhaps several times; in full or broken off.
 fn again(rng: &mut Rng, sentences: &mut Vec<Spoken>, voices: &[u8]) {
     if sentences.is_empty() {
         return;
     }
-    let words = sentences[rng.below(sentences.len())].1.clone();
+    let words = sentences[rng.below(sentences.len())].words.clone();
+    let mut add = |rng: &mut Rng, voice: u8| {
+        sentences.push(Spoken { voice, played: played(rng, &words, 2), words: words.clone() });
+    };
     if rng.once_in(3) {
-        sentences.extend(voices.iter().map(|&voice| (voice, words.clone())));
+        voices.iter().for_each(|&voice| add(rng, voice));
     }
     for _ in 0..1 + rng.below(5) {
-        sentences.push((rng.pick(voices), words.clone()));
+        let voice = rng.pick(voices);
+        add(rng, voice);
     }
     rng.shuffle(sentences);
     sentences.truncate(1000);
 }
 
-/// The sentences of a history for a grammar, heard in the named voice and in others: derivable ones of the named length
-/// and of others, repeats, strangers.
+/// The sentences of a history for a grammar, played in the named voice and in others, in full or broken off: derivable
+/// ones of the named length and of others, repeats, strangers.
 fn sentences(rng: &mut Rng, grammar: &Grammar, length: usize, voice: u8, count: usize) -> Vec<Spoken> {
     let full = Full::new(grammar, length).ok();
     let total = full.as_ref().map_or(0, Full::total);
@@ -612,25 +659,29 @@ fn sentences(rng: &mut Rng, grammar: &Grammar, length: usize, voice: u8, count: 
     let other = if rng.once_in(3) { Full::new(grammar, other_length).ok() } else { None };
     let (all, voices): (Vec<u8>, Vec<u8>) = ((0..16).collect(), voices(rng, voice));
     let others: Vec<u8> = (0..16).filter(|&other| other != voice).collect();
+    let quarters = quarters(rng);
     let mut sentences: Vec<Spoken> = vec![];
     if (1..=60).contains(&total) && rng.once_in(8) {
         // All of them, or all but one.
-        sentences = (0..total).map(|d| (voice, full.as_ref().unwrap().sentence(d))).collect();
+        sentences = (0..total).map(|d| Spoken::in_full(voice, full.as_ref().unwrap().sentence(d))).collect();
         if rng.once_in(2) {
             let out = rng.below(sentences.len());
             sentences.remove(out);
         }
         if rng.once_in(3) {
-            sentences.iter_mut().for_each(|sentence| sentence.0 = rng.pick(&voices));
+            sentences.iter_mut().for_each(|sentence| sentence.voice = rng.pick(&voices));
+        }
+        if rng.once_in(3) {
+            sentences.iter_mut().for_each(|sentence| sentence.played = played(rng, &sentence.words, quarters));
         }
         rng.shuffle(&mut sentences);
         return sentences;
     }
     let from = rng.below_u64(total.max(1)); // a run of neighbours begins there
-    let ambiguous = rng.below(5); // 0: ambiguous ones too, 1: in other voices only
+    let ambiguous = rng.below(6); // 0: ambiguous ones too, 1: in other voices only, 2: broken off only
     for i in 0..count {
         let next = match (rng.below(12), &full) {
-            (0, _) if i > 0 => sentences[rng.below(i)].1.clone(),
+            (0, _) if i > 0 => sentences[rng.below(i)].words.clone(),
             (1, _) => {
                 let length = 1 + rng.below(16);
                 random_sentence(rng, usize::from(grammar.words), length)
@@ -657,18 +708,22 @@ fn sentences(rng: &mut Rng, grammar: &Grammar, length: usize, voice: u8, count: 
             _ => random_sentence(rng, usize::from(grammar.words), length),
         };
         let many = next.len() == length && full.as_ref().is_some_and(|full| full.readings(&next).count > 1);
-        let spoken = rng.pick(&voices);
-        sentences.push(match ambiguous {
-            0 if many => (spoken, next),
-            1 if many => (rng.pick(&others), next),
-            _ if many => (spoken, rng.bytes(length)),
-            _ => (spoken, next),
-        });
+        let mut spoken = Spoken { voice: rng.pick(&voices), played: played(rng, &next, quarters), words: next };
+        match ambiguous {
+            0 => {}
+            1 if many => spoken.voice = rng.pick(&others),
+            2 if many => spoken.played = 1 + rng.below(length - 1) as u8,
+            _ if many => spoken.words = rng.bytes(length),
+            _ => {}
+        }
+        sentences.push(spoken);
     }
     match rng.below(9) {
         0 => again(rng, &mut sentences, &others),
-        1 if ambiguous != 1 => again(rng, &mut sentences, &voices),
-        2 if ambiguous != 1 => again(rng, &mut sentences, &all),
+        _ if [1, 2].contains(&ambiguous) => {}
+        1 => again(rng, &mut sentences, &voices),
+        2 => again(rng, &mut sentences, &all),
+        3 | 4 => again(rng, &mut sentences, &[voice]),
         _ => {}
     }
     sentences
@@ -723,11 +778,12 @@ fn history_case(rng: &mut Rng, call: Call) -> Case {
     let count = size(rng, 100);
     let words = rng.pick(&[2, 5, 50, 255]);
     let voice = voice(rng);
-    let voices = voices(rng, voice);
+    let (voices, quarters) = (voices(rng, voice), quarters(rng));
     let sentences: Vec<Spoken> = (0..count)
         .map(|_| {
             let length = 1 + rng.below(16);
-            (rng.pick(&voices), random_sentence(rng, words, length))
+            let words = random_sentence(rng, words, length);
+            Spoken { voice: rng.pick(&voices), played: played(rng, &words, quarters), words }
         })
         .collect();
     case.history = random_history(rng, &sentences);
@@ -735,6 +791,7 @@ fn history_case(rng: &mut Rng, call: Call) -> Case {
         case.voice = voice_asked(rng, voice);
         let length = if rng.once_in(12) { rng.pick(&[0, 17, 18, 20, 255, 256, 257, 272]) } else { 1 + rng.below(16) };
         case.sentence = random_sentence(rng, words, length);
+        case.played = played_asked(rng, length);
         // Room for the record, often just so; what stands there is junk.
         let size = 4 + 20 * (count + 1);
         let size = match rng.below(8) {
@@ -780,7 +837,8 @@ pub fn case(rng: &mut Rng, call: Call) -> Case {
         let large = if read.chains.len() > 12 { 1500 } else { 250 };
         let count = size(rng, large);
         let sentences = sentences(rng, &read, n, voice, count);
-        heard = sentences.iter().filter(|(spoken, words)| *spoken == voice && words.len() == n).count() as u64;
+        let heard_here = |spoken: &&Spoken| spoken.voice == voice && spoken.played == 0 && spoken.words.len() == n;
+        heard = sentences.iter().filter(heard_here).count() as u64;
         case.history = random_history(rng, &sentences);
         if rng.once_in(8) {
             spoil_history(rng, &mut case.history);

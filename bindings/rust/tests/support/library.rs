@@ -80,7 +80,7 @@ fn through_c(case: &Case) -> Result<Answer, String> {
     let mut loan = Loan::new(case, 0xa5);
     let mut figures = [JUNK; 7];
     let [_, first, _, second, _, third, _] = &mut figures;
-    let Case { length, voice, number, .. } = *case;
+    let Case { length, voice, played, number, .. } = *case;
     let (g, h, s) = (loan.grammar.slice(), loan.history.slice(), loan.sentence.slice());
     let (gp, gl, hp, hl, sp, sl) = (g.as_ptr(), g.len(), h.as_ptr(), h.len(), s.as_ptr(), s.len());
     // SAFETY: slices with their lengths, figures of this function; what is written is borrowed just before.
@@ -101,7 +101,7 @@ fn through_c(case: &Case) -> Result<Answer, String> {
             }
             Call::Append => {
                 let out = loan.history.slice_mut().as_mut_ptr();
-                ffi::pumpfennel_append(out, hl, sp, sl, voice, first)
+                ffi::pumpfennel_append(out, hl, sp, sl, voice, played, first)
             }
         }
     };
@@ -117,7 +117,7 @@ fn through_c(case: &Case) -> Result<Answer, String> {
 /// Through the safe function, with other guard bytes and in other places.
 fn through_rust(case: &Case) -> Result<Answer, String> {
     let mut loan = Loan::new(case, 0x5a);
-    let Case { length, voice, .. } = *case;
+    let Case { length, voice, played, .. } = *case;
     let (g, h) = (loan.grammar.slice(), loan.history.slice());
     let result: Result<Vec<u64>, Refusal> = match case.call {
         Call::CheckGrammar => pumpfennel::check_grammar(g).map(|c| vec![c.nonterminals, c.words]),
@@ -134,7 +134,8 @@ fn through_rust(case: &Case) -> Result<Answer, String> {
             pumpfennel::draw(g, h, length, voice, DrawNumber(case.number), out).map(|d| vec![d.remaining, d.number.0])
         }
         Call::Append => {
-            pumpfennel::append(loan.history.slice_mut(), loan.sentence.slice(), voice).map(|records| vec![records])
+            let out = loan.history.slice_mut();
+            pumpfennel::append(out, loan.sentence.slice(), voice, played).map(|records| vec![records])
         }
     };
     let buffer = loan.back(case)?;

@@ -1,6 +1,6 @@
-//! Document 01, with document 02's U2, U4 and U6, once more in plain Rust, for the tests alone: slow, and written from
-//! the documents' text. Where there are few derivations they are written down one by one; else the answers come from
-//! exact counts.
+//! Document 01, with document 02's U2, U4, U5 and U6, once more in plain Rust, for the tests alone: slow, and written
+//! from the documents' text. Where there are few derivations they are written down one by one; else the answers come
+//! from exact counts.
 use super::case::{Answer, Call, Case};
 use std::collections::BTreeSet;
 
@@ -325,38 +325,46 @@ fn two_bytes(bytes: &[u8], at: usize) -> usize {
     usize::from(bytes[at]) + 256 * usize::from(bytes[at + 1])
 }
 
-/// "Diary bytes", and 11 to 14: the sentences along the chain, each with its voice. Document 02, U4: "The high four bits
-/// of a record's fourth byte hold it."
-pub fn read_history(bytes: &[u8]) -> Result<Vec<(u8, &[u8])>, u8> {
+/// A record's sentence. Document 02, U4, of the voice: "The high four bits of a record's fourth byte hold it." U5: "The
+/// low four bits of the fourth byte give the words played; 0 means all."
+#[derive(Clone, Copy, Debug, PartialEq, Eq)]
+pub struct Record<'a> {
+    pub voice: u8,
+    pub played: u8,
+    pub words: &'a [u8],
+}
+
+/// "Diary bytes", and 11 to 14: the records along the chain.
+pub fn read_history(bytes: &[u8]) -> Result<Vec<Record<'_>>, u8> {
     if bytes.len() < 4 || two_bytes(bytes, 0) > 1000 || bytes.len() < 4 + 20 * two_bytes(bytes, 0) {
         return Err(11);
     }
     let (k, head) = (two_bytes(bytes, 0), two_bytes(bytes, 2));
     let records: Vec<&[u8]> = bytes[4..4 + 20 * k].chunks(20).collect();
     for record in &records {
-        let length = usize::from(record[2]);
-        let low = record[3] & 0x0f;
-        if !(1..=16).contains(&length) || low != 0 || record[4 + length..].iter().any(|&byte| byte != 0) {
+        let (length, played) = (usize::from(record[2]), usize::from(record[3] & 0x0f));
+        if !(1..=16).contains(&length) || played >= length || record[4 + length..].iter().any(|&byte| byte != 0) {
             return Err(12);
         }
     }
     if head > k || records.iter().any(|record| two_bytes(record, 0) > k) {
         return Err(13);
     }
-    let (mut met, mut at, mut sentences) = (vec![false; k], head, vec![]);
+    let (mut met, mut at, mut chain) = (vec![false; k], head, vec![]);
     while at != 0 {
         if met[at - 1] {
             return Err(14);
         }
         met[at - 1] = true;
         let record = records[at - 1];
-        sentences.push((record[3] >> 4, &record[4..4 + usize::from(record[2])]));
+        let words = &record[4..4 + usize::from(record[2])];
+        chain.push(Record { voice: record[3] >> 4, played: record[3] & 0x0f, words });
         at = two_bytes(record, 0);
     }
     if met.contains(&false) {
         return Err(14);
     }
-    Ok(sentences)
+    Ok(chain)
 }
 
 /// 9.
@@ -369,15 +377,21 @@ fn fitting_voice(voice: u64) -> Result<u8, u8> {
     if voice <= 15 { Ok(voice as u8) } else { Err(22) }
 }
 
+/// 23: the figure of *Log* "is the sentence's length or more".
+fn fitting_played(played: u64, length: usize) -> Result<u8, u8> {
+    if played < length as u64 { Ok(played as u8) } else { Err(23) }
+}
+
 /// The sentences of that length heard in that voice, and the derivation numbers of those that have a derivation; or 15.
+/// "Only a record played in full makes a sentence heard."
 fn heard<'a>(
-    sentences: &[(u8, &'a [u8])],
+    records: &[Record<'a>],
     length: usize,
     voice: u8,
     full: &Full,
 ) -> Result<(BTreeSet<&'a [u8]>, BTreeSet<u64>), u8> {
-    let asked = sentences.iter().filter(|(spoken, words)| *spoken == voice && words.len() == length);
-    let heard: BTreeSet<&[u8]> = asked.map(|&(_, words)| words).collect();
+    let in_full = records.iter().filter(|record| record.voice == voice && record.played == 0);
+    let heard: BTreeSet<&[u8]> = in_full.map(|record| record.words).filter(|words| words.len() == length).collect();
     let mut struck = BTreeSet::new();
     for sentence in &heard {
         match full.readings(sentence) {
@@ -427,8 +441,8 @@ fn attempt(case: &Case) -> Result<(Vec<u64>, Vec<u8>), u8> {
             let length = fitting(case.length)?;
             let voice = fitting_voice(case.voice)?;
             let full = Full::new(&grammar, length)?;
-            let sentences = read_history(&case.history)?;
-            let (heard, struck) = heard(&sentences, length, voice, &full)?;
+            let records = read_history(&case.history)?;
+            let (heard, struck) = heard(&records, length, voice, &full)?;
             let (left, _) = full.unheard(&heard, &struck, 0);
             assert_eq!(left, full.total() - struck.len() as u64);
             Ok((vec![full.total(), struck.len() as u64, left], vec![]))
@@ -438,8 +452,8 @@ fn attempt(case: &Case) -> Result<(Vec<u64>, Vec<u8>), u8> {
             let length = fitting(case.length)?;
             let voice = fitting_voice(case.voice)?;
             let full = Full::new(&grammar, length)?;
-            let sentences = read_history(&case.history)?;
-            let (heard, struck) = heard(&sentences, length, voice, &full)?;
+            let records = read_history(&case.history)?;
+            let (heard, struck) = heard(&records, length, voice, &full)?;
             let (left, entry) = full.unheard(&heard, &struck, case.number);
             let number = entry.ok_or(16)?;
             if case.sentence.len() < length {
@@ -450,6 +464,7 @@ fn attempt(case: &Case) -> Result<(Vec<u64>, Vec<u8>), u8> {
         Call::Append => {
             let length = fitting(case.sentence.len() as u64)?;
             let voice = fitting_voice(case.voice)?;
+            let played = fitting_played(case.played, length)?;
             let k = read_history(&case.history)?.len();
             if k == 1000 || case.history.len() < 4 + 20 * (k + 1) {
                 return Err(19);
@@ -461,7 +476,7 @@ fn attempt(case: &Case) -> Result<(Vec<u64>, Vec<u8>), u8> {
             record.fill(0);
             record[..2].copy_from_slice(&case.history[2..4]);
             record[2] = length as u8;
-            record[3] = voice << 4;
+            record[3] = voice << 4 | played;
             record[4..4 + length].copy_from_slice(&case.sentence);
             Ok((vec![k as u64 + 1], after))
         }

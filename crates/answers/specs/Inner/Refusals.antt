@@ -2,7 +2,7 @@
 -- Assumes nothing: these are definitions.
 use Prim.Native.Nat.{ℕ}
 use Rattle.answers.specs.declared.refusal.Refusal.{Refusal}
-use Rattle.answers.specs.declared.refusal.Refusal.the-variants.{GrammarTooShort, GrammarOutOfRange, GrammarWrongSize, GrammarBadRule, GrammarBadLink, GrammarRuleMetTwice, GrammarRuleOnNoChain, GrammarEqualRules, BadLength, TooManyDerivations, HistoryWrongSize, HistoryBadRecord, HistoryBadLink, HistoryBadChain, HeardAmbiguous, NumberBeyond, SentenceUnderivable, HistoryFull, BufferTooShort, BadVoice}
+use Rattle.answers.specs.declared.refusal.Refusal.the-variants.{GrammarTooShort, GrammarOutOfRange, GrammarWrongSize, GrammarBadRule, GrammarBadLink, GrammarRuleMetTwice, GrammarRuleOnNoChain, GrammarEqualRules, BadLength, TooManyDerivations, HistoryWrongSize, HistoryBadRecord, HistoryBadLink, HistoryBadChain, HeardAmbiguous, NumberBeyond, SentenceUnderivable, HistoryFull, BufferTooShort, BadVoice, BadPlayed}
 
 abbrev pub refusalNumber : Refusal → ℕ
 -- the grammar has fewer than 4 bytes
@@ -27,7 +27,7 @@ refusalNumber BadLength = 9
 refusalNumber TooManyDerivations = 10
 -- the history has fewer than 4 bytes, K is above 1,000, or it has fewer than 4 + 20K bytes
 refusalNumber HistoryWrongSize = 11
--- some record has a wrong length, a fourth byte whose low four bits are not 0, or a non-zero byte beyond its words
+-- some record has a wrong length, a count of words played that is its length or more, or a non-zero byte beyond its words
 refusalNumber HistoryBadRecord = 12
 -- the history's head or some next is above K
 refusalNumber HistoryBadLink = 13
@@ -45,3 +45,5 @@ refusalNumber HistoryFull = 19
 refusalNumber BufferTooShort = 20
 -- the voice is above 15
 refusalNumber BadVoice = 22
+-- the count of words played is the sentence's length or more
+refusalNumber BadPlayed = 23
