@@ -3,8 +3,10 @@
  * full.
  *
  *   session BANK DIARY LENGTH COUNT [VOICE [SOURCE]]
+ *   session BANK DIARY PATTERN COUNT [VOICE [SOURCE]]
  *
- * BANK and DIARY are files in document 01's layout; where there is no file DIARY, a new diary begins. VOICE is 0 to 15, 0
+ * BANK and DIARY are files in document 01's layout; where there is no file DIARY, a new diary begins. PATTERN is a word
+ * or _ for each place, parted by spaces, as in "3 _ _ 31 _": then only sentences that fit are drawn. VOICE is 0 to 15, 0
  * if none is named; SOURCE is a file of random bytes, /dev/urandom if none is named. Each sentence is a line: its
  * derivation number, a colon, its words. The diary is saved with a sentence before that is printed, so that nothing
  * played is missing in it.
@@ -16,6 +18,7 @@
 
 #include <errno.h>
 #include <inttypes.h>
+#include <limits.h>
 #include <stdio.h>
 #include <stdlib.h>
 #include <string.h>
@@ -80,15 +83,32 @@ static uint64_t numeral(const char *text) {
     return value;
 }
 
+/* A pattern's bytes, and how many; none where the text is a length. */
+static size_t pattern_of(const char *text, uint8_t *pattern, size_t most) {
+    size_t places = 0;
+    if (strpbrk(text, " _") == NULL) return 0;
+    for (const char *at = text; *at != 0;) {
+        char *end = (char *)at + 1;
+        unsigned long word = *at == '_' ? PUMPFENNEL_BLANK : *at >= '0' && *at <= '9' ? strtoul(at, &end, 10) : ULONG_MAX;
+        if (word > UINT8_MAX || (*at != '_' && word == PUMPFENNEL_BLANK) || places == most || (*end != 0 && *end != ' '))
+            fail(text, "not a pattern");
+        pattern[places++] = (uint8_t)word;
+        at = *end == ' ' ? end + 1 : end;
+    }
+    return places;
+}
+
 int main(int argc, char **argv) {
     static uint8_t bank[PUMPFENNEL_LARGEST_GRAMMAR + 1]; /* a longer bank is cut, and refused all the same */
     static uint8_t diary[PUMPFENNEL_LARGEST_HISTORY];
-    uint8_t sentence[PUMPFENNEL_LONGEST_SENTENCE];
+    uint8_t sentence[PUMPFENNEL_LONGEST_SENTENCE], pattern[PUMPFENNEL_LONGEST_SENTENCE];
     uint64_t nonterminals, words, records, total, heard, left, number;
-    if (argc < 5 || argc > 7) fail("usage", "session BANK DIARY LENGTH COUNT [VOICE [SOURCE]]");
+    if (argc < 5 || argc > 7) fail("usage", "session BANK DIARY LENGTH|PATTERN COUNT [VOICE [SOURCE]]");
     size_t bank_size = load(argv[1], bank, sizeof bank, 0);
     size_t diary_size = load(argv[2], diary, sizeof diary, PUMPFENNEL_HISTORY_SIZE(0));
-    uint64_t length = numeral(argv[3]), count = numeral(argv[4]), voice = argc > 5 ? numeral(argv[5]) : 0;
+    size_t places = pattern_of(argv[3], pattern, sizeof pattern);
+    uint64_t length = places != 0 ? places : numeral(argv[3]);
+    uint64_t count = numeral(argv[4]), voice = argc > 5 ? numeral(argv[5]) : 0;
     const char *name = argc > 6 ? argv[6] : "/dev/urandom";
     FILE *source = fopen(name, "rb");
     if (source == NULL) fail(name, strerror(errno));
@@ -97,15 +117,20 @@ int main(int argc, char **argv) {
     accepted(argv[1], pumpfennel_check_grammar(bank, bank_size, &nonterminals, &words));
     accepted(argv[2], pumpfennel_check_history(diary, diary_size, &records));
     for (; count > 0; count--) {
-        accepted("left", pumpfennel_remaining(bank, bank_size, diary, sizeof diary, length, voice, &total, &heard, &left));
+        accepted("left", places != 0 ? pumpfennel_remaining_matching(bank, bank_size, diary, sizeof diary, pattern, places,
+                                                                     voice, &total, &heard, &left)
+                                     : pumpfennel_remaining(bank, bank_size, diary, sizeof diary, length, voice, &total,
+                                                            &heard, &left));
         if (left == 0) {
             fprintf(stderr, "session: nothing is left: %" PRIu64 " of %" PRIu64 " were heard in voice %" PRIu64 "\n", heard,
                     total, voice);
             return 1;
         }
         uint64_t draw = below(left, source);
-        accepted("draw", pumpfennel_draw(bank, bank_size, diary, sizeof diary, length, voice, draw, sentence,
-                                         sizeof sentence, &left, &number));
+        accepted("draw", places != 0 ? pumpfennel_draw_matching(bank, bank_size, diary, sizeof diary, pattern, places, voice,
+                                                                draw, sentence, sizeof sentence, &left, &number)
+                                     : pumpfennel_draw(bank, bank_size, diary, sizeof diary, length, voice, draw, sentence,
+                                                       sizeof sentence, &left, &number));
         const uint64_t played = 0; /* in full; where playback was broken off, how many words were played */
         uint8_t refusal = pumpfennel_append(diary, sizeof diary, sentence, length, voice, played, &records);
         if (refusal == PUMPFENNEL_HISTORY_FULL) {

@@ -2,22 +2,23 @@
  * Pumpfennel's calls for C (C99 and later) and C++. Link with libpumpfennel.a, which is for x86-64.
  *
  * A grammar (document 01: bank) and a history (document 01: diary) are runs of bytes in document 01's layout; a
- * sentence is one byte a word, a voice a number from 0 to 15. Each call returns 0 where it is accepted, or else the
- * number of the first refusal that applies; they are looked at in the order that is named with the call. Then every
- * figure is 0 and every buffer is as it was. Refusals have document 01's letters: a grammar has N nonterminals, W words,
- * R rules and the start S, a history K records.
+ * sentence is one byte a word, a voice a number from 0 to 15. A pattern is one byte a place: PUMPFENNEL_BLANK, where any
+ * word fits, or the word that stands there. Each call returns 0 where it is accepted, or else the number of the first
+ * refusal that applies; they are looked at in the order that is named with the call. Then every figure is 0 and every
+ * buffer is as it was. Refusals have document 01's letters: a grammar has N nonterminals, W words, R rules and the
+ * start S, a history K records.
  *
  * Every answer is proved, for any bytes and any numbers. What C can't check is left to the caller:
  * - A pointer is valid for the length given with it. Where that is 0 nothing is read or written through it, and it may
  *   be NULL.
  * - A figure's pointer points to a uint64_t. A call writes all its figures, whatever they held.
- * - What a call writes (figures, and the buffer of unrank, draw and append) overlaps nothing else that it is given.
- *   What it only reads may overlap.
+ * - What a call writes (figures, and the buffer of unrank, draw, draw_matching and append) overlaps nothing else that
+ *   it is given. What it only reads may overlap.
  * - No other thread writes to what a call is given, or reads what it writes, until it returns.
  *
  * The library keeps nothing between calls, and neither allocates nor reads or writes any file: calls on different
- * buffers may run in several threads. Tables lie on the stack: PUMPFENNEL_LARGE_STACK and PUMPFENNEL_SMALL_STACK below
- * say how much of it a call takes.
+ * buffers may run in several threads. Tables lie on the stack: PUMPFENNEL_MATCHING_STACK, PUMPFENNEL_LARGE_STACK and
+ * PUMPFENNEL_SMALL_STACK below say how much of it a call takes.
  */
 #ifndef PUMPFENNEL_H
 #define PUMPFENNEL_H
@@ -27,8 +28,8 @@
 
 /* version: from VERSION, by tools/generate */
 /* The version, as text and as one number: major * 10,000 + minor * 100 + patch. */
-#define PUMPFENNEL_VERSION "0.5.0"
-#define PUMPFENNEL_VERSION_NUMBER 500
+#define PUMPFENNEL_VERSION "0.5.1"
+#define PUMPFENNEL_VERSION_NUMBER 501
 /* A name that the archive has for this interface alone: it changes with major and minor. */
 #define PUMPFENNEL_INTERFACE pumpfennel_interface_0_5
 /* end of version */
@@ -37,12 +38,19 @@
 #define PUMPFENNEL_LONGEST_SENTENCE 16
 #define PUMPFENNEL_LARGEST_GRAMMAR 1056
 
+/* The byte of a pattern that any word fits. */
+#define PUMPFENNEL_BLANK 255
+
 /* The most records of a history, how many bytes so many records take, and the most bytes of a history without slack. */
 #define PUMPFENNEL_MOST_RECORDS 1000
 #define PUMPFENNEL_HISTORY_SIZE(records) (4 + 20 * (records))
 #define PUMPFENNEL_LARGEST_HISTORY 20004
 
-/* The most bytes of stack that a call takes: rank, remaining and draw the large one, the others the small one. */
+/*
+ * The most bytes of stack that a call takes: remaining and draw with a pattern the first, rank and the plain remaining
+ * and draw the large one, the others the small one.
+ */
+#define PUMPFENNEL_MATCHING_STACK 163840
 #define PUMPFENNEL_LARGE_STACK 102400
 #define PUMPFENNEL_SMALL_STACK 16384
 
@@ -94,6 +102,8 @@ enum pumpfennel_refusal {
     PUMPFENNEL_HISTORY_FULL = 19,
     /* The sentence's buffer is shorter than the length. */
     PUMPFENNEL_BUFFER_TOO_SHORT = 20,
+    /* A byte of the pattern is neither 255 nor a word of the grammar. */
+    PUMPFENNEL_BAD_PATTERN = 21,
     /* The voice is above 15. */
     PUMPFENNEL_BAD_VOICE = 22,
     /* The count of words played is the sentence's length or more. */
@@ -145,6 +155,8 @@ static inline const char *pumpfennel_refusal_text(uint8_t refusal) {
         return "the history has 1,000 records or no room for one more";
     case PUMPFENNEL_BUFFER_TOO_SHORT:
         return "the sentence's buffer is shorter than the length";
+    case PUMPFENNEL_BAD_PATTERN:
+        return "a byte of the pattern is neither 255 nor a word of the grammar";
     case PUMPFENNEL_BAD_VOICE:
         return "the voice is above 15";
     case PUMPFENNEL_BAD_PLAYED:
@@ -213,6 +225,17 @@ uint8_t pumpfennel_remaining(const uint8_t *grammar, size_t grammar_len, const u
                              uint64_t length, uint64_t voice, uint64_t *total, uint64_t *heard, uint64_t *remaining);
 
 /*
+ * Left, with a pattern: gives the same figures of the derivations whose sentence fits the pattern: how many there are,
+ * how many of the sentences that pumpfennel_remaining counts as heard fit, and how many derivations remain. The length
+ * is the pattern's. 10 and 15 don't look at what fits: they read the counts of all derivations, and every sentence of
+ * that length heard in that voice. With blanks only the answer is that of pumpfennel_remaining; without a blank,
+ * `remaining` is how many derivations that sentence has, or 0 where it was heard. Refusals 1 to 9, 22, 10, 21, 11 to 15.
+ */
+uint8_t pumpfennel_remaining_matching(const uint8_t *grammar, size_t grammar_len, const uint8_t *history,
+                                      size_t history_len, const uint8_t *pattern, size_t pattern_len, uint64_t voice,
+                                      uint64_t *total, uint64_t *heard, uint64_t *remaining);
+
+/*
  * Draw: takes the derivation with a sentence unheard in that voice that has exactly `draw` such ones before it, `draw`
  * from 0 to remaining - 1, and writes its sentence into the buffer's first bytes; the others keep their content. Gives
  * what remains, this one counted, and its derivation number. It logs nothing. Refusals 1 to 9, 22, 10 to 16, 20.
@@ -220,6 +243,15 @@ uint8_t pumpfennel_remaining(const uint8_t *grammar, size_t grammar_len, const u
 uint8_t pumpfennel_draw(const uint8_t *grammar, size_t grammar_len, const uint8_t *history, size_t history_len,
                         uint64_t length, uint64_t voice, uint64_t draw, uint8_t *sentence, size_t sentence_len,
                         uint64_t *remaining, uint64_t *number);
+
+/*
+ * Draw, with a pattern: the same among the derivations whose sentence fits the pattern. `draw` and `remaining` count
+ * the fitting ones alone; the derivation number is that among all derivations of that length, as pumpfennel_unrank takes
+ * it. The length is the pattern's. Refusals 1 to 9, 22, 10, 21, 11 to 16, 20.
+ */
+uint8_t pumpfennel_draw_matching(const uint8_t *grammar, size_t grammar_len, const uint8_t *history, size_t history_len,
+                                 const uint8_t *pattern, size_t pattern_len, uint64_t voice, uint64_t draw,
+                                 uint8_t *sentence, size_t sentence_len, uint64_t *remaining, uint64_t *number);
 
 /*
  * Log: writes the sentence, played in that voice, as the history's newest record into the buffer, which has

@@ -4,7 +4,9 @@
  *   check_grammar GRAMMAR             check_history HISTORY
  *   count GRAMMAR LENGTH              unrank GRAMMAR LENGTH NUMBER BUFFER
  *   rank GRAMMAR SENTENCE             remaining GRAMMAR HISTORY LENGTH VOICE
+ *   remaining_matching GRAMMAR HISTORY PATTERN VOICE
  *   draw GRAMMAR HISTORY LENGTH VOICE DRAW BUFFER
+ *   draw_matching GRAMMAR HISTORY PATTERN VOICE DRAW BUFFER
  *   append BUFFER SENTENCE VOICE PLAYED
  *
  * Bytes are in hex after an x, which stands alone where there are none; null is NULL with length 0. An answer is the
@@ -28,22 +30,25 @@
 #define AREA (16 * PAGE)
 #define STACK (256 * 1024)
 #define PAINT 0xa5
+#define CALLS 10
+#define RUNS 4 /* the most runs of bytes that a call takes */
 
 struct bytes {
     uint8_t *area, *at;
     size_t size;
 };
 
-static const char *const names[] = {"check_grammar", "check_history", "count", "unrank", "rank", "remaining", "draw", "append"};
-static const char *const kinds[] = {"r", "r", "rn", "rnnw", "rr", "rrnn", "rrnnnw", "wrnn"};
-static struct bytes data[3];
+static const char *const names[CALLS] = {"check_grammar", "check_history",      "count", "unrank",        "rank",
+                                         "remaining",     "remaining_matching", "draw",  "draw_matching", "append"};
+static const char *const kinds[CALLS] = {"r", "r", "rn", "rnnw", "rr", "rrnn", "rrrn", "rrnnnw", "rrrnnw", "wrnn"};
+static struct bytes data[RUNS];
 static uint64_t numbers[3], figures[3];
 static uint8_t answer;
 static int call, figure_count;
 static uintptr_t top;
 
 static void *make_call(void *unused) {
-    struct bytes a = data[0], b = data[1], c = data[2];
+    struct bytes a = data[0], b = data[1], c = data[2], d = data[3];
     uint64_t m = numbers[0], n = numbers[1], q = numbers[2], *f = figures, *g = figures + 1, *h = figures + 2;
     top = (uintptr_t)__builtin_frame_address(0);
     switch (call) {
@@ -53,8 +58,13 @@ static void *make_call(void *unused) {
     case 3: figure_count = 1, answer = pumpfennel_unrank(a.at, a.size, m, n, b.at, b.size, f); break;
     case 4: figure_count = 3, answer = pumpfennel_rank(a.at, a.size, b.at, b.size, f, g, h); break;
     case 5: figure_count = 3, answer = pumpfennel_remaining(a.at, a.size, b.at, b.size, m, n, f, g, h); break;
-    case 6: figure_count = 2, answer = pumpfennel_draw(a.at, a.size, b.at, b.size, m, n, q, c.at, c.size, f, g); break;
-    case 7: figure_count = 1, answer = pumpfennel_append(a.at, a.size, b.at, b.size, m, n, f); break;
+    case 6: figure_count = 3, answer = pumpfennel_remaining_matching(a.at, a.size, b.at, b.size, c.at, c.size, m, f, g, h); break;
+    case 7: figure_count = 2, answer = pumpfennel_draw(a.at, a.size, b.at, b.size, m, n, q, c.at, c.size, f, g); break;
+    case 8:
+        figure_count = 2;
+        answer = pumpfennel_draw_matching(a.at, a.size, b.at, b.size, c.at, c.size, m, n, d.at, d.size, f, g);
+        break;
+    case 9: figure_count = 1, answer = pumpfennel_append(a.at, a.size, b.at, b.size, m, n, f); break;
     }
     return unused;
 }
@@ -96,15 +106,15 @@ static struct bytes *read_arguments(const char *kind) {
 
 int main(void) {
     char *line = NULL;
-    size_t room = 0, most[8] = {0};
+    size_t room = 0, most[CALLS] = {0};
     uint8_t *stack = area(STACK);
     pthread_attr_t attributes;
     CHECK(pthread_attr_init(&attributes) == 0 && pthread_attr_setstack(&attributes, stack, STACK) == 0);
-    for (int i = 0; i < 3; i++) data[i].area = area(AREA);
+    for (int i = 0; i < RUNS; i++) data[i].area = area(AREA);
     while (getline(&line, &room, stdin) > 0) {
         const char *name = strtok(line, " \n");
-        for (call = 0; call < 8 && strcmp(names[call], name) != 0; call++) {}
-        CHECK(call < 8);
+        for (call = 0; call < CALLS && strcmp(names[call], name) != 0; call++) {}
+        CHECK(call < CALLS);
         struct bytes *buffer = read_arguments(kinds[call]);
         for (int i = 0; i < 3; i++) figures[i] = UINT64_MAX - i;
         memset(stack, PAINT, STACK);
@@ -120,7 +130,7 @@ int main(void) {
         for (size_t i = 0; buffer != NULL && i < buffer->size; i++) printf("%02x", buffer->at[i]);
         printf("\n");
     }
-    for (int i = 0; i < 8; i++) printf(i == 0 ? "%zu" : " %zu", most[i]);
+    for (int i = 0; i < CALLS; i++) printf(i == 0 ? "%zu" : " %zu", most[i]);
     printf("\n");
     return 0;
 }

@@ -1,5 +1,5 @@
 #!/usr/bin/env python3
-"""Brute-force answers to every call of document 01, with the requests of document 02 that have landed (U2, U4,
+"""Brute-force answers to every call of document 01, with the requests of document 02 that have landed (U1, U2, U4,
 U5, U6), for the tests.
 
 Written from the documents alone: the headings below are sections of document 01, and each definition cites its
@@ -8,7 +8,8 @@ would be long (LISTED), the same answers come from exact counts; the tests hold 
 each other.
 
 Grammar is document 01's bank, history its diary, unrank Give, rank Number, remaining Left and append
-Log. Every call returns (refusal, figures.., buffer after), where refusal 0 means accepted.
+Log; remaining_matching and draw_matching are Left and Draw with a pattern. Every call returns (refusal,
+figures.., buffer after), where refusal 0 means accepted.
 
   oracle.py check_grammar GRAMMAR             N W
   oracle.py check_history HISTORY             K
@@ -17,6 +18,8 @@ Log. Every call returns (refusal, figures.., buffer after), where refusal 0 mean
   oracle.py rank GRAMMAR WORD..               number T derivations
   oracle.py remaining GRAMMAR HISTORY LENGTH VOICE   T heard left
   oracle.py draw GRAMMAR HISTORY LENGTH VOICE Q      left number, then the buffer
+  oracle.py remaining_matching GRAMMAR HISTORY VOICE BYTE..   the same, of the pattern's bytes
+  oracle.py draw_matching GRAMMAR HISTORY VOICE Q BYTE..      the same, of the pattern's bytes
   oracle.py append HISTORY VOICE PLAYED WORD..       K, then the buffer
   oracle.py listing INPUT                     what the listing program prints
 
@@ -31,6 +34,7 @@ from typing import NamedTuple
 MOST = 2**64 - 1  # opening paragraph: "counts and numbers have 64 bits"
 LISTED = 200_000  # the most derivations, over all needed pairs, that are listed as trees
 WORD, PAIR = 0, 1  # Bank bytes: "The kind is 0 for a word rule, 1 for a pair rule"
+BLANK = 255  # document 02, U1: "Byte 255 is a blank"
 
 # Examples. F and G; F with any number of words is f_words.
 F = bytes([2, 2, 4, 0, 1, 3, 1, 1, 1, 2, 1, 0, 1, 0, 0, 0, 0, 4, 0, 1, 0, 0])
@@ -215,6 +219,11 @@ def read(grammar):
 
 # ---- The draws as one list
 
+def fits(sentence, pattern):
+    """Document 02, U1: "Byte 255 is a blank and any other byte is that word"."""
+    return len(sentence) == len(pattern) and all(byte in (BLANK, word) for word, byte in zip(sentence, pattern))
+
+
 class Listed:
     """The full list: "every derivation of S with length n, each once, in the order above. Its entry d,
     counted from 0, so has derivation number d"."""
@@ -250,6 +259,25 @@ class Listed:
 
     def draw(self, heard, q):
         return self.unheard(heard)[q]
+
+    @memo
+    def fitting(self, pattern):
+        """The full list where a pattern is given: "Only derivations whose sentence fits the pattern .., in the old
+        order". "The derivation number given is the one among all of that length"."""
+        return [(d, sentence) for d, sentence in enumerate(self.entries) if fits(sentence, pattern)]
+
+    @memo
+    def unheard_fitting(self, heard, pattern):
+        return [(d, sentence) for d, sentence in self.fitting(pattern) if sentence not in heard]
+
+    def total_fitting(self, pattern):
+        return len(self.fitting(pattern))
+
+    def left_fitting(self, heard, pattern):
+        return len(self.unheard_fitting(heard, pattern))
+
+    def draw_fitting(self, heard, pattern, q):
+        return self.unheard_fitting(heard, pattern)[q]
 
 
 class Counted:
@@ -314,6 +342,52 @@ class Counted:
             if number <= d:
                 d += 1
         return d, self.sentence(d)
+
+    def total_fitting(self, pattern):
+        return self.fitting_from(self.grammar.start, pattern)
+
+    @memo
+    def fitting_from(self, a, pattern):
+        """How many derivations of a have a sentence that fits."""
+        if len(pattern) == 1:
+            return sum(fits(bytes([word]), pattern) for _, word in self.grammar.words(a))
+        return sum(self.fitting_from(b, pattern[:k]) * self.fitting_from(c, pattern[k:])
+                   for _, b, c, k in self.grammar.splits(a, len(pattern)))
+
+    def unrank_fitting(self, a, pattern, i):
+        """The derivation of a that fits and has i such ones before it: its number among all of them, and its sentence."""
+        if len(pattern) == 1:
+            words = [bytes([word]) for _, word in self.grammar.words(a)]
+            return [(d, word) for d, word in enumerate(words) if fits(word, pattern)][i]
+        before = 0
+        for _, b, c, k in self.grammar.splits(a, len(pattern)):
+            rights = self.fitting_from(c, pattern[k:])
+            both = self.fitting_from(b, pattern[:k]) * rights
+            all_rights = self.grammar.total(c, len(pattern) - k)
+            if i < both:
+                left, first = self.unrank_fitting(b, pattern[:k], i // rights)
+                right, rest = self.unrank_fitting(c, pattern[k:], i % rights)
+                return before + left * all_rights + right, first + rest
+            i -= both
+            before += self.grammar.total(b, k) * all_rights
+        raise IndexError(i)
+
+    @memo
+    def struck_fitting(self, heard, pattern):
+        return [number for number in self.struck(heard) if fits(self.sentence(number), pattern)]
+
+    def left_fitting(self, heard, pattern):
+        return self.total_fitting(pattern) - len(self.struck_fitting(heard, pattern))
+
+    def draw_fitting(self, heard, pattern, q):
+        """A struck number that isn't above the number reached moves that on to the next one that fits."""
+        i = q
+        drawn = self.unrank_fitting(self.grammar.start, pattern, i)
+        for number in self.struck_fitting(heard, pattern):
+            if number <= drawn[0]:
+                i += 1
+                drawn = self.unrank_fitting(self.grammar.start, pattern, i)
+        return drawn
 
 
 @lru_cache(maxsize=4)
@@ -415,8 +489,14 @@ def total_lines(grammar, length):
     yield 10, any(total > MOST for total in read(grammar).totals(length))
 
 
+def pattern_lines(grammar, pattern):
+    """Document 02, U1: "21, a pattern byte other than 255 is W or more, after 10"."""
+    yield 21, any(byte != BLANK and byte >= grammar[1] for byte in pattern)
+
+
 def ambiguous_lines(grammar, history, length, voice):
-    """Document 02, U4: "15 reads only records of the given voice", and U5: "15 reads only records played in full"."""
+    """Document 02, U4: "15 reads only records of the given voice", and U5: "15 reads only records played in full". With
+    a pattern, U1: "15 still reads every diary sentence of that length"."""
     full = full_list(grammar, length)
     yield 15, any(full.count(sentence) >= 2 for sentence in heard_of(history, length, voice))
 
@@ -428,6 +508,13 @@ def count_lines(grammar, length):
 def remaining_lines(grammar, history, length, voice):
     return concat(grammar_lines(grammar), length_lines(length), voice_lines(voice), total_lines(grammar, length),
                   history_lines(history), ambiguous_lines(grammar, history, length, voice))
+
+
+def matching_lines(grammar, history, pattern, voice):
+    """Document 02, U1: "The named length is the pattern's"."""
+    length = len(pattern)
+    return concat(grammar_lines(grammar), length_lines(length), voice_lines(voice), total_lines(grammar, length),
+                  pattern_lines(grammar, pattern), history_lines(history), ambiguous_lines(grammar, history, length, voice))
 
 
 def unrank_lines(grammar, length, number, buffer):
@@ -442,6 +529,12 @@ def rank_lines(grammar, sentence):
 
 def draw_lines(grammar, history, length, voice, q, buffer):
     yield 16, q >= full_list(grammar, length).left(heard_of(history, length, voice))
+    yield 20, len(buffer) < length
+
+
+def draw_matching_lines(grammar, history, pattern, voice, q, buffer):
+    length = len(pattern)
+    yield 16, q >= full_list(grammar, length).left_fitting(heard_of(history, length, voice), pattern)
     yield 20, len(buffer) < length
 
 
@@ -517,6 +610,31 @@ def draw(grammar, history, length, voice, q, buffer):
     return 0, full.left(barred), number, written(buffer, sentence)
 
 
+def remaining_matching(grammar, history, pattern, voice):
+    """Document 02, U1: "T counts the fitting derivations and heard the fitting ones of the sentences it counts without
+    a pattern"."""
+    refusal = first_that_applies(matching_lines(grammar, history, pattern, voice))
+    if refusal:
+        return refusal, 0, 0, 0
+    full, barred = full_list(grammar, len(pattern)), heard_of(history, len(pattern), voice)
+    total = full.total_fitting(pattern)
+    heard = sum(full.count(sentence) == 1 and fits(sentence, pattern) for sentence in barred)
+    # "left, the unheard list .. then cover only what fits".
+    assert total - heard == full.left_fitting(barred, pattern)
+    return 0, total, heard, total - heard
+
+
+def draw_matching(grammar, history, pattern, voice, q, buffer):
+    """Draw with a pattern: left, the derivation number "among all of that length", and the buffer."""
+    refusal = first_that_applies(matching_lines(grammar, history, pattern, voice),
+                                 draw_matching_lines(grammar, history, pattern, voice, q, buffer))
+    if refusal:
+        return refusal, 0, 0, buffer
+    full, barred = full_list(grammar, len(pattern)), heard_of(history, len(pattern), voice)
+    number, sentence = full.draw_fitting(barred, pattern, q)
+    return 0, full.left_fitting(barred, pattern), number, written(buffer, sentence)
+
+
 def append(buffer, sentence, voice, played):
     """Log: the new K and the buffer: "writes record K + 1 in full with next = old head, sets head and K
     to K + 1". "No other byte changes". Document 02, U4: "The high four bits of a record's fourth byte hold it", and U5:
@@ -561,7 +679,7 @@ def listing(data):
 
 # ---- Command line
 
-COMMANDS = {  # each call, how many files it takes, and how many numbers (None: the words of a sentence, with Log behind voice and figure)
+COMMANDS = {  # each call, how many files it takes, and how many numbers (None: some, and then a sentence or a pattern)
     'check_grammar': (check_grammar, 1, 0),
     'check_history': (check_history, 1, 0),
     'count': (count, 1, 1),
@@ -569,6 +687,8 @@ COMMANDS = {  # each call, how many files it takes, and how many numbers (None: 
     'rank': (rank, 1, None),
     'remaining': (remaining, 2, 2),
     'draw': (draw, 2, 3),
+    'remaining_matching': (remaining_matching, 2, None),
+    'draw_matching': (draw_matching, 2, None),
     'append': (append, 1, None),
     'listing': (listing, 1, 0),
 }
@@ -596,11 +716,12 @@ def main(name='', *args):
     if call is None or len(args) < files or expected not in (None, len(numbers)):
         sys.exit(__doc__)
     values = numbers
-    if call is rank:
-        values = [bytes(numbers)]
-    elif call is append:
-        values = [bytes(numbers[2:]), *numbers[:2]]
-    if call in (unrank, draw):
+    if expected is None:
+        before = {rank: 0, remaining_matching: 1, draw_matching: 2, append: 2}[call]
+        if len(numbers) < before:
+            sys.exit(__doc__)
+        values = [bytes(numbers[before:]), *numbers[:before]]
+    if call in (unrank, draw, draw_matching):
         values.append(bytes(16))
     result = call(*map(file_bytes, args[:files]), *values)
     print(result.decode(), end='') if call is listing else print(shown(*result))

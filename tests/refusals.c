@@ -78,6 +78,8 @@ int main(void) {
         {PUMPFENNEL_HISTORY_FULL, pumpfennel_append(history, 4, BYTES(0), 0, 0, &f), "no room"},
         /* one word, and room for none */
         {PUMPFENNEL_BUFFER_TOO_SHORT, pumpfennel_unrank(ONE, 1, 0, sentence, 0, &f), "buffer"},
+        /* word 1 of 1, and no history */
+        {PUMPFENNEL_BAD_PATTERN, pumpfennel_remaining_matching(ONE, NULL, 0, BYTES(1), 0, &f, &g, &h), "the pattern is neither"},
         /* no record, no room for one, and the voice 16 */
         {PUMPFENNEL_BAD_VOICE, pumpfennel_append(history, 4, BYTES(0), 16, 0, &f), "the voice is above"},
         /* no record, no room for one, and both of two words played */

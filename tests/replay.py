@@ -108,7 +108,31 @@ def history_lines(library, data):
         buffer.data()
 
 
-LINES = {'grammar': grammar_lines, 'ranking': ranking_lines, 'history': history_lines}
+def sampling_lines(library, data):
+    at, grammar, history = 0, b'', b''
+    while at < len(data):
+        call, length, voice, draw = data[at], *(number(data[i:i + 8]) for i in (at + 1, at + 9, at + 17))
+        size = number(data[at + 25:at + 27])
+        rest = data[at + 27:at + 27 + size]
+        at += 27 + size
+        if call == 0:
+            grammar = rest
+        elif call == 1:
+            history = rest
+        else:
+            matching = call in (4, 5)
+            named = shared(rest) if matching else (ctypes.c_uint64(length),)
+            given = (*shared(grammar), *shared(history), *named, ctypes.c_uint64(voice))
+            name = '_matching' if matching else ''
+            if call in (2, 4):
+                yield library.call('remaining' + name, given, 3)
+            else:
+                buffer = Lent([7] * (length if matching else len(rest)))
+                line = library.call('draw' + name, (*given, ctypes.c_uint64(draw), *buffer.arguments()), 2)
+                yield line + shown(buffer)
+
+
+LINES = {'grammar': grammar_lines, 'ranking': ranking_lines, 'history': history_lines, 'sampling': sampling_lines}
 
 
 def main():

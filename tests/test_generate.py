@@ -63,24 +63,24 @@ class Generate(unittest.TestCase):
         self.assertEqual(self.run_tool(), (0, [], ''))
 
     def test_a_new_refusal_comes_to_every_language(self):
-        self.write('refusals.txt', self.read('refusals.txt') + '24 PatternBadWord: a letter is W or more\n')
+        self.write('refusals.txt', self.read('refusals.txt') + '24 BadWeights: a weight is 0\n')
         self.check_differ(MARKED + CRATES)
         for name, lines in {
                 'include/pumpfennel.h': [
-                    '    /* A letter is W or more. */\n    PUMPFENNEL_PATTERN_BAD_WORD = 24\n};',
-                    '    case PUMPFENNEL_PATTERN_BAD_WORD:\n        return "a letter is W or more";\n'],
+                    '    /* A weight is 0. */\n    PUMPFENNEL_BAD_WEIGHTS = 24\n};',
+                    '    case PUMPFENNEL_BAD_WEIGHTS:\n        return "a weight is 0";\n'],
                 'bindings/rust/src/refusal.rs': [
-                    '    /// A letter is W or more.\n    PatternBadWord = 24,\n}',
-                    'ALL: [Refusal; 23] = [\n', '        Refusal::PatternBadWord,\n    ];',
-                    '            Refusal::PatternBadWord => "a letter is W or more",\n'],
-                'README.md': ['| 24 | `PatternBadWord` | a letter is W or more |\n\n'],
-                'crates/answers/src/refusal.rt': ['    PatternBadWord,\n}', '        Refusal::PatternBadWord => 24,\n    }'],
+                    '    /// A weight is 0.\n    BadWeights = 24,\n}',
+                    'ALL: [Refusal; 24] = [\n', '        Refusal::BadWeights,\n    ];',
+                    '            Refusal::BadWeights => "a weight is 0",\n'],
+                'README.md': ['| 24 | `BadWeights` | a weight is 0 |\n\n'],
+                'crates/answers/src/refusal.rt': ['    BadWeights,\n}', '        Refusal::BadWeights => 24,\n    }'],
                 'crates/answers/specs/Inner/Refusals.antt': [
-                    ', PatternBadWord}\n', '-- a letter is W or more\nrefusalNumber PatternBadWord = 24\n'],
-                'crates/answers/proofs/Numbers.antt': [', PatternBadWord}\n', 'number-some PatternBadWord = lit< tt\n'],
-                'crates/answers/proofs/refusal/number/Proof.antt': ['    (λ c. rw (c .enum-told22 .given .1)))\n'],
+                    ', BadWeights}\n', '-- a weight is 0\nrefusalNumber BadWeights = 24\n'],
+                'crates/answers/proofs/Numbers.antt': [', BadWeights}\n', 'number-some BadWeights = lit< tt\n'],
+                'crates/answers/proofs/refusal/number/Proof.antt': ['    (λ c. rw (c .enum-told23 .given .1)))\n'],
                 'crates/listing/src/meanings.rt': [
-                    '        Refusal::PatternBadWord => say(b"listing: refused: a letter is W or more\\n"),\n    }']}.items():
+                    '        Refusal::BadWeights => say(b"listing: refused: a weight is 0\\n"),\n    }']}.items():
             for line in lines:
                 self.assertIn(line, self.read(name), name)
 
@@ -93,7 +93,7 @@ class Generate(unittest.TestCase):
                     '    /* No longer returned: a rule is on no chain. */\n    PUMPFENNEL_GRAMMAR_RULE_ON_NO_CHAIN = 7,\n',
                     '    case PUMPFENNEL_GRAMMAR_RULE_ON_NO_CHAIN:\n        return "a rule is on no chain";\n'],
                 'bindings/rust/src/refusal.rs': [
-                    '    /// No longer returned: a rule is on no chain.\n    GrammarRuleOnNoChain = 7,\n', 'ALL: [Refusal; 22] = [\n'],
+                    '    /// No longer returned: a rule is on no chain.\n    GrammarRuleOnNoChain = 7,\n', 'ALL: [Refusal; 23] = [\n'],
                 'README.md': ['| 7 | `GrammarRuleOnNoChain` | no longer returned: a rule is on no chain |\n'],
                 'crates/answers/src/refusal.rt': ['    GrammarRuleMetTwice,\n    GrammarEqualRules,\n', 'Refusal::GrammarEqualRules => 8,\n']}.items():
             for line in lines:

@@ -23,7 +23,8 @@ HEADER = ROOT / 'include' / 'pumpfennel.h'
 ARCHIVE = ROOT / 'target' / 'staticlib' / 'libpumpfennel.a'
 STRICT = ['-Wall', '-Wextra', '-Werror']
 MOST = oracle.MOST
-CALLS = ['check_grammar', 'check_history', 'count', 'unrank', 'rank', 'remaining', 'draw', 'append']
+CALLS = ['check_grammar', 'check_history', 'count', 'unrank', 'rank', 'remaining', 'remaining_matching', 'draw', 'draw_matching', 'append']
+BLANK = oracle.BLANK
 
 
 def run(*words, given=None):
@@ -199,6 +200,33 @@ def cases_of(length, bank, diary, voice=0):
         yield 'append', diary + b'\7' * 21, sentence, voice, 0
     for slack in (0, 19, 20):
         yield 'append', diary + b'\7' * slack, b'\1' * 16, voice, 0
+    blanks = bytes([BLANK]) * size
+    for pattern in [blanks, b'', bytes(17), *patterns_of(size, bank, sentences[4:])]:
+        yield from matching_cases(bank, diary, pattern, voice)
+    for other in (15 - voice, 15, 16, 256 + voice, MOST):
+        yield 'remaining_matching', bank, diary, blanks, other
+        yield 'draw_matching', bank, diary, blanks, other, 0, old
+    for room in (16, length, max(length, 1) - 1, 0):
+        yield 'draw_matching', bank, diary, blanks, voice, 0, old[:room]
+
+
+def patterns_of(size, bank, sentences):
+    """Sentences, the same with blanks, and with a byte that is the last word, none and 254."""
+    for sentence in sentences:
+        yield sentence
+        yield bytes(BLANK if place % 2 else byte for place, byte in enumerate(sentence))
+    for byte in (bank[1] - 1, bank[1], 254) if len(bank) > 1 and bank[1] else ():
+        yield (bytes([BLANK]) * size)[1:] + bytes([byte])
+
+
+def matching_cases(bank, diary, pattern, voice):
+    """Left and Draw with a pattern, at the edges of what is left; a buffer that is too short."""
+    yield 'remaining_matching', bank, diary, pattern, voice
+    left = oracle.remaining_matching(bank, diary, pattern, voice)[3]
+    for number in in_64_bits(0, 1, left // 2, left - 1, left, MOST) if left else [0]:
+        yield 'draw_matching', bank, diary, pattern, voice, number, b'\7' * 18
+    if left:
+        yield 'draw_matching', bank, diary, pattern, voice, 0, b'\7' * (len(pattern) - 1)
 
 
 def deep_banks():
@@ -227,6 +255,8 @@ def full_diaries():
         yield 'unrank', bank, 16, numbers[-1], bytes(16)
         yield 'remaining', bank, history(heard), 16, 0
         yield 'draw', bank, history(heard), 16, 0, 60000, bytes(16)
+        for pattern in (bytes([BLANK]) * 16, heard[-1][:1] + bytes([BLANK]) * 15, heard[-1][:8] + bytes([BLANK]) * 8, heard[-1]):
+            yield from matching_cases(bank, history(heard), pattern, 0)
         yield 'append', history(heard[1:], slack=bytes(20)), heard[0], 0, 0
 
 
@@ -278,6 +308,34 @@ def broken_off_diaries():
     yield from (('draw', oracle.matrix(), diary, 5, 0, q, bytes(5)) for q in range(0, 100000, 997))
 
 
+def patterned_diaries():
+    """The traps; every pattern of F and every byte of a pattern; carrier phrases of the house bank with diaries of up to a thousand records."""
+    for _, _, bank, diary, pattern, voice, q, room in vectors.PATTERN_TRAPS:
+        yield 'remaining_matching', bank, diary, pattern, voice
+        yield 'draw_matching', bank, diary, pattern, voice, q, b'\7' * room
+    for length in (1, 2, 3):
+        for pattern in vectors.patterns_of([0, 1, BLANK], length):
+            for voice in (0, 5, 15):
+                yield from matching_cases(F, vectors.HEARD, pattern, voice)
+    for byte in range(256):
+        for bank in (F, oracle.matrix(), largest_bank()):
+            yield 'remaining_matching', bank, history([bytes([byte])]), bytes([byte]), 0
+            yield 'draw_matching', bank, history([bytes([0])]), bytes([byte]), 0, 0, b'\7'
+    for bank, sentences in ambiguous().values():
+        for sentence in sentences:
+            for pattern in patterns_of(len(sentence), bank, [sentence]):
+                for diary in (history([]), history([sentence]), history([sentence], voices=[3]), history([sentence], played=[len(sentence) // 2])):
+                    yield from matching_cases(bank, diary, pattern, 0)
+    rng = Rng(44)
+    said = [oracle.unrank(oracle.matrix(), 5, 31000 + rng.below(1000), bytes(5))[2] for _ in range(1000)]
+    for many in (1, 99, 100, 101, 1000):
+        diary = history(said[:many], rng.shuffled(range(1, many + 1)), voices=[rng.choice([0, 0, 9]) for _ in range(many)])
+        for pattern in (bytes([3, BLANK, 24, 31, BLANK]), bytes([3, 11, BLANK, BLANK, BLANK]), bytes([BLANK] * 5), said[0],
+                        bytes([BLANK, 3, BLANK, BLANK, BLANK])):
+            for voice in (0, 9):
+                yield from matching_cases(oracle.matrix(), diary, pattern, voice)
+
+
 def all_cases():
     for length in (1, 2, 3, 16):
         yield from cases_of(length, F, history([bytes([0, 1])]))
@@ -299,6 +357,7 @@ def all_cases():
     yield from full_diaries()
     yield from voiced_diaries()
     yield from broken_off_diaries()
+    yield from patterned_diaries()
     for bank, diary in [(b'', b''), (F, b''), (b'', bytes(4)), (largest_bank(), full_diary(1000)), (F, full_diary(1001))]:
         yield from cases_of(1, bank, diary)
     for _, _, bank in vectors.TRAPS:
@@ -310,6 +369,9 @@ def all_cases():
         yield 'append', diary, b'\1\2', 5, 1
         yield 'remaining', F, diary, 2, 0
         yield 'draw', F, diary, 2, 0, 1, bytes(2)
+        for pattern in (bytes([BLANK, 1]), bytes([BLANK, BLANK])):
+            yield 'remaining_matching', F, diary, pattern, 0
+            yield 'draw_matching', F, diary, pattern, 0, 1, bytes(2)
     rng = Rng(41)
     for length, bank, diary in listings.random_listings(rng, 40):
         yield from cases_of(length, bank, diary)
@@ -340,10 +402,39 @@ class Calls(unittest.TestCase):
         for call, line in self.expected.items():
             met[call.split()[0]].add(int(line.split()[0]))
         bank, diary = set(range(9)), {0, 11, 12, 13, 14}
+        left = bank | diary | {9, 10, 15, 22}
         self.assertEqual(met, {
             'check_grammar': bank, 'check_history': diary, 'count': bank | {9, 10}, 'unrank': bank | {9, 10, 16, 20},
-            'rank': bank | {9, 10, 17}, 'remaining': bank | diary | {9, 10, 15, 22},
-            'draw': bank | diary | {9, 10, 15, 16, 20, 22}, 'append': diary | {9, 19, 22, 23}})
+            'rank': bank | {9, 10, 17}, 'remaining': left, 'remaining_matching': left | {21},
+            'draw': left | {16, 20}, 'draw_matching': left | {16, 20, 21}, 'append': diary | {9, 19, 22, 23}})
+
+    def test_blanks_only_answer_as_the_plain_calls(self):
+        """With every refusal that both can have."""
+        answers, compared = dict(zip(self.expected, self.lines)), collections.Counter()
+        for call, line in answers.items():
+            name, *args = call.split()
+            if name.endswith('_matching') and re.fullmatch('x(ff)*|null', args[2]):
+                length = 0 if args[2] == 'null' else len(args[2]) // 2
+                plain = ' '.join([name.removesuffix('_matching'), *args[:2], str(length), *args[3:]])
+                if plain in answers:
+                    self.assertEqual(line, answers[plain], call)
+                    compared[name, int(line.split()[0])] += 1
+        self.assertEqual({refusal for name, refusal in compared if name == 'remaining_matching'}, {*range(16), 22})
+        self.assertEqual({refusal for name, refusal in compared if name == 'draw_matching'}, {*range(17), 20, 22})
+        self.assertGreater(sum(compared.values()), 1000)
+
+    def test_without_a_blank_left_is_how_many_derivations_the_sentence_has(self):
+        """Or 0 if it is heard; Number says how many."""
+        answers, compared = dict(zip(self.expected, self.lines)), collections.Counter()
+        for call, line in answers.items():
+            name, *args = call.split()
+            if name == 'remaining_matching' and 'ff' not in re.findall('..', args[2][1:]) and line.startswith('0 '):
+                bank, diary, pattern = (bytes.fromhex(arg[1:]) for arg in args[:3])
+                heard = (int(args[3]), 0, pattern) in oracle.sentences_of(diary)
+                refusal, _, _, count = map(int, answers.get(call_line('rank', bank, pattern), answer_line('rank', bank, pattern)).split())
+                self.assertEqual(int(line.split()[3]), 0 if refusal or heard else count, call)
+                compared['none' if refusal else 'heard' if heard else min(count, 2)] += 1
+        self.assertGreater(min(compared[kind] for kind in ('none', 'heard', 1, 2)), 10, compared)
 
     def test_null_with_length_0(self):
         """It stood for every pointer that has a length, and the answer was that for a run of no bytes."""
@@ -352,13 +443,15 @@ class Calls(unittest.TestCase):
             name, *args = call.split()
             met[name].update(place for place, arg in enumerate(args) if arg == 'null')
         self.assertEqual(met, {'check_grammar': {0}, 'check_history': {0}, 'count': {0}, 'unrank': {0, 3}, 'rank': {0, 1},
-                               'remaining': {0, 1}, 'draw': {0, 1, 5}, 'append': {0, 1}})
+                               'remaining': {0, 1}, 'remaining_matching': {0, 1, 2}, 'draw': {0, 1, 5}, 'draw_matching': {0, 1, 2, 5},
+                               'append': {0, 1}})
 
     def test_stack(self):
         """No call takes more than the header says, and one of its kind takes more than half of that."""
         used = dict(zip(CALLS, map(int, self.lines[-1].split())))
+        matching = {call: used.pop(call) for call in ('remaining_matching', 'draw_matching')}
         large = {call: used.pop(call) for call in ('rank', 'remaining', 'draw')}
-        for most, taken in [(limit('LARGE_STACK'), large), (limit('SMALL_STACK'), used)]:
+        for most, taken in [(limit('MATCHING_STACK'), matching), (limit('LARGE_STACK'), large), (limit('SMALL_STACK'), used)]:
             self.assertLess(max(taken.values()), most, taken)
             self.assertGreater(max(taken.values()), most // 2, taken)
 
@@ -499,6 +592,28 @@ class Session(unittest.TestCase):
         status, lines, errors = self.session(F, 2, 5, source)
         self.assertEqual((status, sorted(number for number, _ in lines)), (1, [0, 1, 3]))
         self.check_drawn(F, 2, source, before, lines)
+
+    def test_a_pattern(self):
+        """Carrier phrases: only what fits is drawn, until nothing is left of it, and the rest of the bank stays."""
+        bank, before = oracle.matrix(), bytes(4)
+        for pattern, fitting in [('3 _ 24 31 45', 10), ('3 11 _ 31 45', 10), ('3 11 24 31 45', 0), ('_ _ _ _ _', 2)]:
+            source = random_bytes(70 + fitting, 8 * 12)
+            status, lines, errors = self.session(bank, pattern, min(fitting + 1, 12), source)
+            asked = bytes(oracle.BLANK if word == '_' else int(word) for word in pattern.split())
+            left = oracle.remaining_matching(bank, before, asked, 0)[3]
+            self.assertEqual((status, len(lines)), (int(left <= fitting), min(left, fitting + 1)), errors)
+            drawn = iter(source)
+            for number, sentence in lines:
+                _, _, _, left = oracle.remaining_matching(bank, before, asked, 0)
+                self.assertEqual(oracle.draw_matching(bank, before, asked, 0, below(left, drawn), bytes(5)), (0, left, number, sentence))
+                records = oracle.two_bytes(before, 0)
+                before = oracle.append(before[:4 + 20 * records] + bytes(20), sentence, 0, 0)[2]
+            self.assertEqual(self.diary.read_bytes(), before)
+
+    def test_no_pattern(self):
+        for text in ('3 x', '255 _', '_ 256', '3  _', ' _', '__', '_3', '3_', '-1 _', ' '.join(['_'] * 17)):
+            status, lines, errors = self.session(F, text, 1, bytes(8))
+            self.assertEqual((status, lines, errors.splitlines()[-1]), (2, [], f'session: {text}: not a pattern'))
 
     def test_bytes_that_would_favour_a_draw_are_passed_over(self):
         """Of 15^16 sentences; the numbers from twice that on are passed over."""

@@ -1,5 +1,6 @@
 """Tests of the brute-force program: document 01's examples, and small random grammars on which its
 enumeration, its counts and an order of trees written apart from it must agree."""
+import collections
 import unittest
 import unittest.mock
 
@@ -105,6 +106,8 @@ class Refusals(unittest.TestCase):
             self.assertEqual(oracle.rank(bad, b''), (refusal, 0, 0, 0))
             self.assertEqual(oracle.remaining(bad, b'', 0, 0), (refusal, 0, 0, 0))
             self.assertEqual(oracle.draw(bad, b'', 0, 0, 0, b'\7'), (refusal, 0, 0, b'\7'))
+            self.assertEqual(oracle.remaining_matching(bad, b'', b'', 0), (refusal, 0, 0, 0))
+            self.assertEqual(oracle.draw_matching(bad, b'', b'', 0, 0, b'\7'), (refusal, 0, 0, b'\7'))
 
     def test_length(self):
         for length in (0, 17, 255, 256, PAST):
@@ -360,6 +363,149 @@ class Playbacks(unittest.TestCase):
         self.assertEqual(oracle.listing(listing_input(2, F, diary)), b'2 4 1 3\n0 0 0 0\n1 1 0 1\n2 2 1 0\n')
 
 
+class Patterns(unittest.TestCase):
+    """Document 02, U1: "Only derivations whose sentence fits the pattern are counted and drawn, in the old order"."""
+
+    def check_draws(self, grammar, diary, pattern, draws, voice=0):
+        """These derivation numbers and sentences are all that Draw gives."""
+        for q, (number, sentence) in enumerate(draws):
+            answer = oracle.draw_matching(grammar, diary, pattern, voice, q, b'\7' * 17)
+            self.assertEqual(answer, (0, len(draws), number, sentence + b'\7' * (17 - len(pattern))))
+        for q in (len(draws), PAST):
+            self.assertEqual(oracle.draw_matching(grammar, diary, pattern, voice, q, b'\7' * 17), (16, 0, 0, b'\7' * 17))
+
+    def test_what_fits(self):
+        """A blank is a byte of the pattern alone: a word 255 fits it, and no other byte."""
+        for sentence, pattern, fits in [(b'\0\1', b'\0\1', True), (b'\0\1', b'\377\1', True), (b'\0\1', b'\377\377', True), (b'\0\1', b'\1\377', False),
+                                        (b'\0\1', b'\0\376', False), (b'\377\1', b'\377\1', True), (b'\377\1', b'\0\1', False), (b'\0', b'\0\377', False),
+                                        (b'\0\1', b'\0', False)]:
+            self.assertEqual(oracle.fits(sentence, pattern), fits, (sentence, pattern))
+
+    def test_some_blanks(self):
+        pattern = bytes([255, 1, 255])
+        self.assertEqual(oracle.remaining_matching(F, EMPTY, pattern, 0), (0, 4, 0, 4))
+        self.check_draws(F, EMPTY, pattern, [(2, b'\0\1\0'), (3, b'\0\1\1'), (6, b'\1\1\0'), (7, b'\1\1\1')])
+
+    def test_heard_sentences_that_fit_and_others(self):
+        """Repeated, of another length, foreign, and with the word 255, which no pattern byte but a blank is."""
+        said = [b'\1\1\0', b'\0\0\1', b'\1\1\0', b'\1\1', b'\0\1\2', b'\377\1\0', b'\1\0\0']
+        diary = history(said, [3, 1, 7, 2, 6, 5, 4])
+        self.assertEqual(oracle.remaining(F, diary, 3, 0), (0, 8, 3, 5))
+        self.assertEqual(oracle.remaining_matching(F, diary, bytes([255, 1, 255]), 0), (0, 4, 1, 3))
+        self.check_draws(F, diary, bytes([255, 1, 255]), [(2, b'\0\1\0'), (3, b'\0\1\1'), (7, b'\1\1\1')])
+        self.assertEqual(oracle.remaining_matching(F, diary, bytes([0, 1, 255]), 0), (0, 2, 0, 2))
+        self.check_draws(F, diary, bytes([0, 1, 255]), [(2, b'\0\1\0'), (3, b'\0\1\1')])
+        self.assertEqual(oracle.remaining_matching(F, diary, bytes([255, 1, 0]), 0), (0, 2, 1, 1))
+
+    def test_the_derivation_number_is_that_of_give(self):
+        matrix, pattern = oracle.matrix(), bytes([3, 255, 24, 31, 255])
+        self.assertEqual(oracle.remaining_matching(matrix, EMPTY, pattern, 0), (0, 100, 0, 100))
+        for q in range(100):
+            number = 30410 + 1000 * (q // 10) + q % 10
+            sentence = bytes([3, 10 + q // 10, 24, 31, 40 + q % 10])
+            self.assertEqual(oracle.draw_matching(matrix, EMPTY, pattern, 0, q, bytes(5)), (0, 100, number, sentence))
+            self.assertEqual(oracle.unrank(matrix, 5, number, bytes(5)), (0, 100000, sentence))
+
+    def test_without_a_blank(self):
+        """Left is how many derivations the sentence has, or 0 if it is heard."""
+        self.assertEqual(oracle.remaining_matching(F, EMPTY, b'\0\1', 0), (0, 1, 0, 1))
+        self.assertEqual(oracle.remaining_matching(F, HEARD_01, b'\0\1', 0), (0, 1, 1, 0))
+        self.assertEqual(oracle.remaining_matching(F, EMPTY, b'\0', 0), (0, 0, 0, 0))
+        for name, (grammar, sentences) in generate.ambiguous().items():
+            for sentence, (number, _, count) in sentences.items():
+                with self.subTest(name, sentence=sentence):
+                    self.assertEqual(oracle.remaining_matching(grammar, EMPTY, sentence, 0), (0, count, 0, count))
+                    first = oracle.draw_matching(grammar, EMPTY, sentence, 0, 0, bytes(16))
+                    self.assertEqual(first, (0, count, number, sentence + bytes(16 - len(sentence))))
+                    heard = oracle.remaining_matching(grammar, history([sentence]), sentence, 0)
+                    self.assertEqual(heard, (0, 1, 1, 0) if count == 1 else (15, 0, 0, 0))
+
+    def test_blanks_only(self):
+        """They agree with the plain calls on every input: no place and seventeen, refused ones, other voices, large counts."""
+        broken = history([bytes([0, 1])], voices=[3], played=[1])
+        met = set()
+        for grammar in (F, G, F[:-1], b'', oracle.matrix(), oracle.f_words(16), generate.brimful()):
+            for diary in (EMPTY, HEARD_01, broken, history([bytes(3)]), b'', bytes([0, 0, 1, 0])):
+                for length in (0, 1, 2, 3, 5, 15, 16, 17):
+                    if grammar == G and length > 5:
+                        continue
+                    for voice in (0, 3, 16):
+                        plain = oracle.remaining(grammar, diary, length, voice)
+                        self.assertEqual(oracle.remaining_matching(grammar, diary, b'\377' * length, voice), plain)
+                        met.add(plain[0])
+                        for q in {0, 1, plain[3] // 2, max(plain[3], 1) - 1, plain[3], PAST}:
+                            for buffer in (b'\7' * 18, b'\7'):
+                                plain = oracle.draw(grammar, diary, length, voice, q, buffer)
+                                self.assertEqual(oracle.draw_matching(grammar, diary, b'\377' * length, voice, q, buffer), plain)
+                                met.add(plain[0])
+        self.assertEqual(met, {0, 1, 3, 9, 10, 11, 13, 15, 16, 20, 22})
+
+    def test_an_ambiguous_sentence_that_does_not_fit(self):
+        """15 still reads it; where it was broken off, in another voice or of another length it does not."""
+        grammar, ones = generate.ambiguous()['every tree'][0], bytes([1, 1, 1])
+        for diary, voice, refusal in [(history([bytes(3)]), 0, 15), (history([bytes(3)], played=[1]), 0, 0),
+                                      (history([bytes(3)], voices=[4]), 0, 0), (history([bytes(3)], voices=[4]), 4, 15),
+                                      (history([bytes(2)]), 0, 0)]:
+            given = (refusal, 0, 0, 0) if refusal else (0, 2, 0, 2)
+            self.assertEqual(oracle.remaining_matching(grammar, diary, ones, voice), given)
+            self.assertEqual(oracle.draw_matching(grammar, diary, ones, voice, PAST, b'\7'), (refusal or 16, 0, 0, b'\7'))
+
+    def test_voices_and_what_was_broken_off(self):
+        diary = history([b'\0\1', b'\1\1', b'\1\0'], [2, 3, 1], voices=[9, 9, 9], played=[0, 1, 0])
+        self.assertEqual(oracle.remaining_matching(F, diary, b'\377\1', 9), (0, 2, 1, 1))
+        self.check_draws(F, diary, b'\377\1', [(3, b'\1\1')], 9)
+        self.assertEqual(oracle.remaining_matching(F, diary, b'\377\1', 8), (0, 2, 0, 2))
+        self.check_draws(F, diary, b'\377\1', [(1, b'\0\1'), (3, b'\1\1')], 8)
+
+    def test_every_byte(self):
+        """21 where it is W or more and not 255; a bank of 255 words has no such byte."""
+        for words, bytes_tried in [(2, range(256)), (15, range(256)), (253, [0, 1, 252, 253, 254, 255])]:
+            grammar = oracle.f_words(words)
+            for byte in bytes_tried:
+                for pattern in (bytes([byte, 255]), bytes([0, byte])):
+                    refused = words <= byte < 255
+                    total = words ** list(pattern).count(255)
+                    answer = oracle.remaining_matching(grammar, EMPTY, pattern, 0)
+                    self.assertEqual(answer, (21, 0, 0, 0) if refused else (0, total, 0, total))
+        full = generate.grammar(255, 0, [[word(a) for a in range(255)]])
+        self.assertEqual({oracle.remaining_matching(full, EMPTY, bytes([byte]), 0) for byte in range(255)}, {(0, 1, 0, 1)})
+        self.assertEqual(oracle.remaining_matching(full, EMPTY, b'\377', 0), (0, 255, 0, 255))
+
+    def test_order_of_refusals(self):
+        """9, 22, 10, 21, 11: each before the next, and 16 and 20 last."""
+        large, bad = oracle.f_words(16), bytes([254]) * 17
+        for grammar, pattern, voice, refusal in [
+                (large[:-1], b'', 16, 3), (large, b'', 16, 9), (large, bad, 16, 9), (large, bad[:16], 16, 22), (large, bad[:16], 15, 10),
+                (large, bytes(16), 0, 10), (large, bad[:15], 15, 21), (large, bytes([16] + [255] * 14), 0, 21), (large, bytes(15), 15, 11)]:
+            self.assertEqual(oracle.remaining_matching(grammar, b'', pattern, voice), (refusal, 0, 0, 0))
+            self.assertEqual(oracle.draw_matching(grammar, b'', pattern, voice, PAST, b'\7'), (refusal, 0, 0, b'\7'))
+        for diary, q, refusal in [(bytes([0, 0, 1, 0]), PAST, 13), (EMPTY, 1, 16), (EMPTY, 0, 20), (history([b'\1\1']), 0, 16)]:
+            self.assertEqual(oracle.draw_matching(F, diary, b'\1\1', 0, q, b'\7'), (refusal, 0, 0, b'\7'))
+
+    def test_ten_reads_the_plain_counts(self):
+        """A pattern that leaves one sentence of 2^64 and more doesn't help; a count that isn't needed doesn't matter."""
+        self.assertEqual(oracle.remaining_matching(oracle.f_words(16), EMPTY, bytes(16), 0), (10, 0, 0, 0))
+        self.assertEqual(oracle.remaining_matching(generate.brimful(1), EMPTY, bytes([16] * 16), 0), (10, 0, 0, 0))
+        for name, (grammar, refused) in generate.reaching().items():
+            for length in range(1, 17):
+                with self.subTest(name, length=length):
+                    self.assertEqual(oracle.remaining_matching(grammar, b'', bytes(length), 0)[0], 10 if length in refused else 11)
+
+    def test_large_counts(self):
+        """By the counts: all but the first word open in 15^16, and the last sentences of 2^64 - 1."""
+        grammar, pattern = oracle.f_words(15), bytes([14] + [255] * 15)
+        heard = history([bytes([14] * 16), bytes([13] * 16), bytes([14] + [0] * 15)])
+        self.assertEqual(oracle.remaining_matching(grammar, heard, pattern, 0), (0, 15**15, 2, 15**15 - 2))
+        first = oracle.draw_matching(grammar, heard, pattern, 0, 0, bytes(16))
+        self.assertEqual(first, (0, 15**15 - 2, 14 * 15**15 + 1, bytes([14] + [0] * 14 + [1])))
+        last = oracle.draw_matching(grammar, heard, pattern, 0, 15**15 - 3, bytes(16))
+        self.assertEqual(last, (0, 15**15 - 2, 15**16 - 2, bytes([14] * 15 + [13])))
+        full = generate.brimful()
+        _, _, sentence = oracle.unrank(full, 16, PAST - 1, bytes(16))
+        self.assertEqual(oracle.draw_matching(full, EMPTY, sentence, 0, 0, bytes(16)), (0, 1, PAST - 1, sentence))
+        self.assertEqual(oracle.draw_matching(full, EMPTY, b'\377' * 16, 0, PAST - 1, bytes(16)), (0, PAST, PAST - 1, sentence))
+
+
 class Listings(unittest.TestCase):
     """Document 01, House bank and listing program."""
 
@@ -432,6 +578,18 @@ def stands_before(grammar, nonterminal, x, y):
     if x.left != y.left:
         return stands_before(grammar, a, x.left, y.left)
     return stands_before(grammar, b, x.right, y.right)
+
+
+def random_patterns(rng, words, sentences, length):
+    """Blanks only, a sentence and one with blanks, any bytes that are let pass, and each word in one place."""
+    yield b'\377' * length
+    for _ in range(3 if sentences else 0):
+        sentence = rng.choice(sentences)
+        yield sentence
+        yield bytes(rng.choice([255, byte]) for byte in sentence)
+    yield bytes(rng.choice([255, rng.below(words)]) for _ in range(length))
+    place, byte = rng.below(length), rng.below(words)
+    yield b'\377' * place + bytes([byte]) + b'\377' * (length - place - 1)
 
 
 def ways_down(read, a, m):
@@ -535,6 +693,48 @@ class SmallGrammars(unittest.TestCase):
             self.assertEqual(counted.left(heard), listed.left(heard))
             for q in range(listed.left(heard)):
                 self.assertEqual(counted.draw(heard, q), listed.draw(heard, q))
+
+    def test_counts_give_what_the_list_gives_of_a_pattern(self):
+        rng, tried = Rng(6), 0
+        for grammar, length in self.lists(300):
+            listed, counted = oracle.Listed(oracle.read(grammar), length), oracle.Counted(oracle.read(grammar), length)
+            once = [sentence for sentence in listed.places if listed.count(sentence) == 1]
+            heard = frozenset(rng.shuffled(once)[:rng.below(len(once) + 1)] + [b'\377' * length])
+            for pattern in random_patterns(rng, grammar[1], listed.entries, length):
+                self.assertEqual(counted.total_fitting(pattern), listed.total_fitting(pattern))
+                left = listed.left_fitting(heard, pattern)
+                self.assertEqual(counted.left_fitting(heard, pattern), left)
+                for q in range(left):
+                    self.assertEqual(counted.draw_fitting(heard, pattern, q), listed.draw_fitting(heard, pattern, q))
+                tried += 0 < left < listed.total_fitting(pattern) < listed.total
+        self.assertGreater(tried, 100)  # so often only a part fits, and only a part of that is heard
+
+    def test_the_draws_with_a_pattern_are_what_fits_of_the_unheard_list(self):
+        """With the test of a place written apart from the program."""
+        rng, kinds = Rng(7), collections.Counter()
+        for grammar, length in self.lists(60):
+            sentences = [oracle.sentence_of(tree) for tree in oracle.read(grammar).derivations(grammar[3], length)]
+            once = [sentence for sentence in sentences if sentences.count(sentence) == 1]
+            records = [rng.choice(once) for _ in range(rng.below(6)) if once] + [b'\377' * length, b'\0' * (length % 16 + 1)]
+            voices = [rng.choice([0, 7]) for _ in records]
+            played = [rng.choice([0, rng.below(len(record))]) for record in records]
+            diary = history(records, rng.shuffled(range(1, len(records) + 1)), voices=voices, played=played)
+            for pattern in random_patterns(rng, grammar[1], sentences, length):
+                fixed = {place: byte for place, byte in enumerate(pattern) if byte < 255}
+                fitting = [(d, sentence) for d, sentence in enumerate(sentences) if all(sentence[place] == fixed[place] for place in fixed)]
+                for voice in (0, 7):
+                    own = [sentence for sentence, said, figure in zip(records, voices, played) if said == voice and figure == 0]
+                    unheard = [(d, sentence) for d, sentence in fitting if sentence not in own]
+                    left = len(unheard)
+                    answer = oracle.remaining_matching(grammar, diary, pattern, voice)
+                    self.assertEqual(answer, (0, len(fitting), len(fitting) - left, left))
+                    draws = [oracle.draw_matching(grammar, diary, pattern, voice, q, b'\7' * 17) for q in range(left)]
+                    self.assertEqual(draws, [(0, left, d, sentence + b'\7' * (17 - length)) for d, sentence in unheard])
+                    for q in (left, left + 1, PAST):
+                        self.assertEqual(oracle.draw_matching(grammar, diary, pattern, voice, q, b'\7' * 17), (16, 0, 0, b'\7' * 17))
+                    kinds.update({'some fit': 0 < len(fitting) < len(sentences), 'some of them heard': 0 < left < len(fitting),
+                                  'others heard': any(sentence in own for sentence in {*once} - {fit for _, fit in fitting})})
+        self.assertGreater(min(kinds[kind] for kind in ('some fit', 'some of them heard', 'others heard')), 300, kinds)
 
     def test_the_draws_are_the_unheard_list(self):
         rng = Rng(5)

@@ -1,7 +1,8 @@
-"""Tests of tools/pumpfennel-text: texts of grammars and histories become the bytes that document 01 describes, and come back."""
+"""Tests of tools/pumpfennel-text: texts of grammars, histories and patterns become the bytes that the documents describe, and come back."""
 import importlib.machinery
 import importlib.util
 import pathlib
+import re
 import subprocess
 import sys
 import tempfile
@@ -84,12 +85,15 @@ class Examples(unittest.TestCase):
             self.assertEqual(back(there(lines)), bare(lines))
 
     def test_the_help_has_examples_that_hold(self):
-        grammar, diary = ['\n'.join(line[4:] for line in part.split('\n') if line.startswith('    '))
-                          for part in text.__doc__.split('A history has')]
+        grammar, diary, pattern = ['\n'.join(line[4:] for line in part.split('\n') if line.startswith('    '))
+                                   for part in re.split('A history has|A pattern is', text.__doc__)]
         chains = [[(1, 1, 1), (1, 0, 1)], [(0, 0, 0), (0, 1, 0), (0, 2, 0)]]
         self.assertEqual(meaning(text.grammar_bytes(grammar)), (2, 3, 0, chains))
         said = [bytes([0, 2, 1]), bytes([2, 2]), bytes([0, 1, 2]), bytes([0, 1, 2])]
         self.assertEqual(text.history_bytes(diary), logged(said, 40, [3, 0, 3, 0], [2, 1, 0, 0]))
+        self.assertEqual(text.pattern_bytes(pattern), bytes([0, 255, 2]))
+        bank, diary = text.grammar_bytes(grammar), text.history_bytes(diary)
+        self.assertEqual(oracle.remaining_matching(bank, diary, text.pattern_bytes(pattern), 0), (0, 3, 1, 2))
 
 
 class Grammars(unittest.TestCase):
@@ -302,6 +306,50 @@ class Histories(unittest.TestCase):
             self.assertEqual(str(caught.exception), message)
 
 
+class Patterns(unittest.TestCase):
+    def test_a_place_is_a_word_or_a_blank(self):
+        for line, pattern in [('0', [0]), ('_', [255]), ('3 _ 24 31 _', [3, 255, 24, 31, 255]), ('254 _ 0', [254, 255, 0]),
+                              ('_ ' * 16, [255] * 16), ('# carrier\r\n\r\n\t3   _\t04 # phrase\r\n', [3, 255, 4])]:
+            self.assertEqual(text.pattern_bytes(line), bytes(pattern), line)
+
+    def test_every_byte_and_every_length_come_back(self):
+        rng = Rng(36)
+        for pattern in [*(bytes([byte]) for byte in range(256)), *(bytes(rng.choice([255, rng.below(255)]) for _ in range(length)) for length in range(1, 17))]:
+            lines = text.pattern_text(pattern)
+            self.assertEqual(text.pattern_bytes(lines), pattern)
+            self.assertEqual(lines.split().count('_'), pattern.count(255))
+        self.assertEqual(text.pattern_text(bytes([3, 255, 24, 31, 255])), '3 _ 24 31 _\n')
+
+    def test_a_carrier_phrase_of_the_house_bank(self):
+        bank = text.grammar_bytes((ROOT / 'examples' / 'matrix.txt').read_text())
+        diary = text.history_bytes((ROOT / 'examples' / 'diary.txt').read_text())
+        self.assertEqual(oracle.remaining_matching(bank, diary, text.pattern_bytes('0 10 20 30 _'), 0), (0, 10, 3, 7))
+
+    def test_what_the_library_refuses_is_its_own_matter(self):
+        """A word that the grammar hasn't."""
+        self.assertEqual(oracle.remaining_matching(F, history([]), text.pattern_bytes('2 _'), 0)[0], 21)
+
+    def test_errors(self):
+        for lines, message in [
+            ('', 'there is no pattern'),
+            ('# none\n\n', 'there is no pattern'),
+            ('1 _\n\n_ 1', 'line 3: there is a pattern already'),
+            ('1 255', 'line 1: a word is above 254: 255'),
+            ('\n1 dog', "line 2: a word is not a number: 'dog'"),
+            ('1 __', "line 1: a word is not a number: '__'"),
+            ('1 _2', "line 1: a word is not a number: '_2'"),
+            ('1, voice 2', "line 1: a word is not a number: '1,'"),
+            ('_ ' * 17, 'line 1: the pattern has 17 places, and 16 is the most'),
+        ]:
+            with self.subTest(lines), self.assertRaises(text.Wrong) as caught:
+                text.pattern_bytes(lines)
+            self.assertEqual(str(caught.exception), message)
+        for size in (0, 17, 300):
+            with self.assertRaises(text.Wrong) as caught:
+                text.pattern_text(bytes(size))
+            self.assertEqual(str(caught.exception), f'there are {size} bytes, and a pattern has 1 to 16')
+
+
 class Commands(unittest.TestCase):
     def tool(self, *args, given=b''):
         run = subprocess.run([TOOL, *map(str, args)], input=given, capture_output=True)
@@ -313,6 +361,8 @@ class Commands(unittest.TestCase):
         self.assertEqual(self.tool('grammar', 'to-text', given=oracle.matrix()), (0, bare(matrix.read_text()).encode(), ''))
         self.assertEqual(self.tool('history', 'to-bytes', '-', given=b'5\n'), (0, history([b'\5']), ''))
         self.assertEqual(self.tool('history', 'to-text', given=history([b'\5'])), (0, b'5\n', ''))
+        self.assertEqual(self.tool('pattern', 'to-bytes', given=b'5 _\n'), (0, b'\5\377', ''))
+        self.assertEqual(self.tool('pattern', 'to-text', '-', given=b'\5\377'), (0, b'5 _\n', ''))
 
     def test_listing(self):
         with tempfile.TemporaryDirectory() as name:
@@ -361,7 +411,8 @@ class Commands(unittest.TestCase):
         self.assertEqual(self.tool('history', 'to-bytes', given=b'\377')[::2], (1, 'pumpfennel-text: -: this is no text\n'))
         for name, why in [(ROOT / 'no such file', 'No such file or directory'), (ROOT, 'Is a directory')]:
             self.assertEqual(self.tool('grammar', 'to-text', name), (1, b'', f'pumpfennel-text: {name}: {why}\n'))
-        for args in [(), ('grammar',), ('grammar', 'to-hex'), ('listing', '5'), ('grammar', 'to-text', '-', '-')]:
+        self.assertEqual(self.tool('pattern', 'to-bytes', given=b'_\n_'), (1, b'', 'pumpfennel-text: -: line 2: there is a pattern already\n'))
+        for args in [(), ('grammar',), ('grammar', 'to-hex'), ('pattern',), ('pattern', '5 _'), ('listing', '5'), ('grammar', 'to-text', '-', '-')]:
             self.assertEqual(self.tool(*args)[:2], (2, b''))
         self.assertEqual(self.tool('--help')[0], 0)
 

@@ -208,5 +208,164 @@ class HistoryVectors(unittest.TestCase):
         self.assertEqual(vectors.history_cases(), self.cases)
 
 
+def frames(stdin):
+    """The parts of each frame of kind sampling: call, length, voice, draw number, bytes."""
+    at = 0
+    while at < len(stdin):
+        end = at + 27 + oracle.two_bytes(stdin, at + 25)
+        yield stdin[at], *(int.from_bytes(stdin[i:i + 8], 'little') for i in (at + 1, at + 9, at + 17)), stdin[at + 27:end]
+        at = end
+
+
+class SamplingVectors(unittest.TestCase):
+    @classmethod
+    def setUpClass(cls):
+        cls.cases = vectors.sampling_cases()
+        cls.lines = {case.name: case.line for case in cls.cases}
+        cls.stated = vectors.PATTERN_TRAPS + list(vectors.sampling_defects())
+        cls.calls = []  # each with its bank, its diary and its line
+        lines, bank, diary = iter(cls.cases), b'', b''
+        for frame in frames(vectors.files(cls.cases)['stdin']):
+            if frame[0] == vectors.BANK:
+                bank = frame[-1]
+            elif frame[0] == vectors.DIARY:
+                diary = frame[-1]
+            else:
+                cls.calls.append((bank, diary, *frame, next(lines).line))
+
+    def test_each_trap_and_each_set_of_defects_gets_the_stated_refusal(self):
+        for name, refusal, bank, diary, pattern, voice, q, room in self.stated:
+            with self.subTest(name):
+                buffer = b'\7' * room
+                *answer, after = oracle.draw_matching(bank, diary, pattern, voice, q, buffer)
+                self.assertEqual(answer[0], refusal)
+                self.assertTrue(refusal == 0 or (answer[1:], after) == ([0, 0], buffer))
+                left = oracle.remaining_matching(bank, diary, pattern, voice)
+                self.assertEqual(left[0], 0 if refusal in (16, 20) else refusal)
+
+    def test_the_defects_are_all_there(self):
+        """Each refusal is the first in some set of them, and with each that comes after it."""
+        order = [*range(1, 10), 22, 10, 21, *range(11, 17), 20]
+        sets = [[int(number) for number in name.removeprefix('defects [').rstrip(']').split(', ') if number] for name, *_ in vectors.sampling_defects()]
+        self.assertEqual(len(sets), 512)
+        self.assertTrue(all(chosen == sorted(chosen, key=order.index) for chosen in sets))
+        met = {(chosen[0], other) for chosen in sets if chosen for other in chosen[1:]}
+        apart = [range(1, 9), range(11, 15)]  # of these a set has one
+        for i, refusal in enumerate(order):
+            for other in order[i + 1:]:
+                self.assertEqual((refusal, other) in met, not any(refusal in kind and other in kind for kind in apart), (refusal, other))
+
+    def test_names_of_traps_differ(self):
+        names = [name for name, *_ in vectors.PATTERN_TRAPS]
+        self.assertEqual(len(names), len(set(names)))
+        self.assertEqual(len(self.lines), len(self.cases))
+
+    def test_lines_worked_out_by_hand(self):
+        some, one = '[1, 255, 255]', '[1, 1, 0]'
+        for name, line in {
+            f'F, heard: Left {some} in 0': '0 4 2 2',
+            f'F, heard: Left {some} in 5': '0 4 1 3',
+            f'F, heard: Left {some} in 15': '0 4 0 4',
+            f'F, heard: Draw {some} in 0: 0 into 3 bytes': '0 2 5: 1 0 1',
+            f'F, heard: Draw {some} in 0: 1 into 4 bytes': '0 2 7: 1 1 1 7',
+            f'F, heard: Draw {some} in 0: 2 into 5 bytes': 'refused 16: 7 7 7 7 7',
+            f'F, heard: Draw {some} in 0: 0 into 2 bytes': 'refused 20: 7 7',
+            f'F, heard: Left {one} in 0': '0 1 1 0',
+            f'F, heard: Left {one} in 5': '0 1 0 1',
+            'F, heard: Left [255, 255, 255] in 0': '0 8 3 5',
+            'F, heard: Left 3 in 0': '0 8 3 5',
+            'G: Left [0, 255, 0] in 0': '0 2 0 2',
+            'G: Left [255, 0] in 0': '0 1 1 0',
+            'matrix, 0 records: Left [3, 255, 24, 31, 255] in 0': '0 100 0 100',
+            'matrix, 0 records: Draw [3, 255, 24, 31, 255] in 0: 50 into 7 bytes': '0 100 35410: 3 15 24 31 40 7 7',
+            'brimful: Left [255, 255, 255, 255, 255, 255, 255, 255, 255, 255, 255, 255, 255, 255, 255, 255] in 0': f'0 {2**64 - 1} 0 {2**64 - 1}',
+        }.items():
+            with self.subTest(name):
+                self.assertEqual(self.lines[name], line)
+
+    def test_every_refusal_is_there_several_times(self):
+        """Of each call; the plain ones have no 21, and 20 with Draw alone."""
+        met = collections.Counter((call, int(line.split(':')[0].split()[1]) if line.startswith('refused') else 0)
+                                  for _, _, call, *_, line in self.calls)
+        both = [*range(0, 16), 21, 22]
+        for call, refusals in {vectors.LEFT: both, vectors.LEFT_MATCHING: both, vectors.DRAW: [*both, 16, 20], vectors.DRAW_MATCHING: [*both, 16, 20]}.items():
+            matching = call in (vectors.LEFT_MATCHING, vectors.DRAW_MATCHING)
+            refusals = [refusal for refusal in refusals if matching or refusal != 21]
+            self.assertEqual({refusal for own, refusal in met if own == call}, set(refusals))
+            self.assertGreaterEqual(min(met[call, refusal] for refusal in refusals), 15 if matching else 2)
+
+    def test_blanks_stand_beside_the_plain_calls(self):
+        """Each call with blanks only has the line of the plain one, which is there."""
+        plain = {(bank, diary, call, length, voice, q, len(data)): line for bank, diary, call, length, voice, q, data, line in self.calls
+                 if call in (vectors.LEFT, vectors.DRAW)}
+        blanks = {(bank, diary, call - 2, len(data), voice, q, room): line for bank, diary, call, room, voice, q, data, line in self.calls
+                  if call in (vectors.LEFT_MATCHING, vectors.DRAW_MATCHING) and set(data) <= {255}}
+        self.assertEqual(blanks, plain)
+        refusals = {line.split(':')[0] for line in plain.values() if line.startswith('refused')}
+        self.assertEqual(refusals, {f'refused {number}' for number in [*range(1, 17), 20, 22]})
+
+    def test_without_a_blank_left_is_how_many_derivations_the_sentence_has(self):
+        """Or 0 if it is heard."""
+        met = collections.Counter()
+        for bank, diary, call, _, voice, _, data, line in self.calls:
+            if call == vectors.LEFT_MATCHING and 255 not in data and line.startswith('0 '):
+                refusal, _, _, count = oracle.rank(bank, data)
+                heard = (voice, 0, data) in oracle.sentences_of(diary)
+                self.assertEqual(int(line.split()[3]), 0 if refusal or heard else count)
+                met['none' if refusal else 'heard' if heard else min(count, 2)] += 1
+        self.assertGreater(min(met[kind] for kind in ('none', 'heard', 1, 2)), 10, met)
+
+    def test_kinds_of_patterns(self):
+        """Of what fits some is heard, some not; of what doesn't fit some is heard too; in voices 0, 5 and 9."""
+        kinds = collections.Counter()
+        for bank, diary, call, _, voice, _, data, line in self.calls:
+            if call == vectors.LEFT_MATCHING and line.startswith('0 '):
+                total, heard, left = map(int, line.split()[1:])
+                plain = oracle.remaining(bank, diary, len(data), voice)
+                kinds.update({'some fit': 0 < total < plain[1], 'none fits': total == 0 < plain[1], 'some are heard': 0 < heard and 0 < left,
+                              'all are heard': total == heard > 0, 'others are heard': heard < plain[2],
+                              'another voice': voice > 0 and heard > 0, 'some blanks': 255 in data and set(data) > {255}})
+        self.assertGreater(min(kinds.values()), 15, kinds)
+
+    def test_the_draws_come_one_after_the_other(self):
+        """Where all draws of a pattern are there, their numbers rise, each sentence fits, and Give gives it."""
+        drawn = collections.defaultdict(dict)
+        for bank, diary, call, _, voice, q, data, line in self.calls:
+            if call == vectors.DRAW_MATCHING and line.startswith('0 '):
+                figures, buffer = line.split(':')
+                drawn[bank, diary, voice, data][q] = [int(figure) for figure in figures.split()[1:]], bytes(map(int, buffer.split()))[:len(data)]
+        whole = 0
+        for (bank, _, _, pattern), draws in drawn.items():
+            numbers = [number for _, ((_, number), _) in sorted(draws.items())]
+            self.assertEqual(numbers, sorted(set(numbers)))
+            for (left, number), sentence in draws.values():
+                self.assertEqual(oracle.unrank(bank, len(pattern), number, bytes(len(pattern)))[::2], (0, sentence))
+                self.assertTrue(all(byte in (255, word) for byte, word in zip(pattern, sentence)))
+                self.assertLess(max(draws), left)
+            whole += len(draws) == left
+        self.assertGreater(whole, 300)
+
+    def test_size(self):
+        self.assertIn(len(self.cases), range(6000, 9001))
+        self.assertLess(len(vectors.files(self.cases)['stdin']), 400_000)
+        self.assertLess(sum(map(len, vectors.files(self.cases).values())), 600_000)
+
+    def test_the_frames_hold_the_cases(self):
+        lines = []
+        for bank, diary, call, length, voice, q, data, _ in self.calls:
+            if call == vectors.LEFT:
+                lines.append(vectors.line(*oracle.remaining(bank, diary, length, voice)))
+            elif call == vectors.LEFT_MATCHING:
+                lines.append(vectors.line(*oracle.remaining_matching(bank, diary, data, voice)))
+            else:
+                *answer, after = (oracle.draw(bank, diary, length, voice, q, data) if call == vectors.DRAW
+                                  else oracle.draw_matching(bank, diary, data, voice, q, b'\7' * length))
+                lines.append(f'{vectors.line(*answer)}:' + ''.join(f' {byte}' for byte in after))
+        self.assertEqual('\n'.join(lines).encode() + b'\n', vectors.files(self.cases)['stdout'])
+
+    def test_a_second_run_gives_the_same(self):
+        self.assertEqual(vectors.sampling_cases(), self.cases)
+
+
 if __name__ == '__main__':
     unittest.main()

@@ -26,6 +26,13 @@ played, two bytes size, all with the low byte first, and that many bytes. Call 0
 they are the buffer of the calls after it. 1 is Log in that voice and with that figure, its bytes the sentence:
 a colon and all of the buffer's bytes after the call follow. 2 is Log without these. 3 is Check diary of the
 buffer as it stands. The line is "0 K", or "refused" and the number.
+
+Kind sampling (document 01: Left, Draw; document 02, U1: both with a pattern): a case is one byte call, eight bytes
+length, eight bytes voice, eight bytes draw number, two bytes size, all with the low byte first, and that many bytes.
+Calls 0 and 1 have no line: their bytes are the grammar and the history of the calls after them. 2 is Left; 3 is Draw
+into a buffer of that many bytes, each 7. 4 is Left with a pattern, its bytes. 5 is Draw with a pattern, its bytes, into
+a buffer of as many bytes, each 7, as the length says. The line is as with Count and with Give. Beside each call with a
+pattern of blanks stands the plain call.
 """
 import argparse
 import itertools
@@ -935,9 +942,338 @@ def history_cases():
     return [case for buffer in buffers for case in buffer.cases]
 
 
+# ---- Kind sampling
+
+DIARY, LEFT, DRAW, LEFT_MATCHING, DRAW_MATCHING = range(1, 6)  # BANK is 0
+BLANK = oracle.BLANK
+
+
+def sampled(call, length, voice, q, data):
+    return bytes([call]) + b''.join(number.to_bytes(8, 'little') for number in (length, voice, q)) + low_high(len(data)) + data
+
+
+class Samples:
+    """The calls on one grammar and one history, each with the brute-force program's answer."""
+
+    def __init__(self, name, bank, diary):
+        self.name, self.bank, self.diary, self.calls = name, bank, diary, {}
+
+    def add(self, name, stdin, line):
+        if stdin not in self.calls:
+            self.calls[stdin] = Case(f'{self.name}: {name}', stdin, line)
+
+    def left(self, pattern, voice=0):
+        """Left with the pattern, and of blanks the plain one too. Gives what is left, 0 where it is refused."""
+        answer = oracle.remaining_matching(self.bank, self.diary, pattern, voice)
+        self.add(f'Left {list(pattern)} in {voice}', sampled(LEFT_MATCHING, 0, voice, 0, pattern), line(*answer))
+        if blanks_only(pattern):
+            plain = line(*oracle.remaining(self.bank, self.diary, len(pattern), voice))
+            self.add(f'Left {len(pattern)} in {voice}', sampled(LEFT, len(pattern), voice, 0, b''), plain)
+        return answer[3]
+
+    def draw(self, pattern, q, room, voice=0):
+        buffer, named = bytes([SOME]) * room, f'in {voice}: {q} into {room} bytes'
+        *answer, after = oracle.draw_matching(self.bank, self.diary, pattern, voice, q, buffer)
+        self.add(f'Draw {list(pattern)} {named}', sampled(DRAW_MATCHING, room, voice, q, pattern), line(*answer) + bytes_shown(after))
+        if blanks_only(pattern):
+            *answer, after = oracle.draw(self.bank, self.diary, len(pattern), voice, q, buffer)
+            self.add(f'Draw {len(pattern)} {named}', sampled(DRAW, len(pattern), voice, q, buffer), line(*answer) + bytes_shown(after))
+
+    def every_draw(self, pattern, voice=0, most=12):
+        """Left, and the draws from the first to the first beyond; of a long list its ends and its middle."""
+        left = self.left(pattern, voice)
+        numbers = range(left + 1) if left <= most else [0, 1, left // 2, left - 2, left - 1, left]
+        for q in numbers:
+            if q < 2**64:
+                self.draw(pattern, q, len(pattern) + q % 3, voice)
+
+
+def blanks_only(pattern):
+    return set(pattern) <= {BLANK}
+
+
+def bytes_shown(data):
+    return ':' + ''.join(f' {byte}' for byte in data)
+
+
+def patterns_of(letters, length):
+    """Every pattern of that length over the letters."""
+    return map(bytes, itertools.product(letters, repeat=length))
+
+
+def with_blanks(sentence, *places):
+    """The sentence with a blank in each of the places."""
+    return damaged(sentence, [(place, BLANK) for place in places])
+
+
+# Of F in voice 0: three sentences of three words, one of them twice, and one broken off; one in voice 5; foreign words, 255 among them.
+HEARD = history([bytes([1, 1, 0]), bytes([0, 0, 1]), bytes([1, 1, 0]), bytes([0, 1, 1]), bytes([1, 0, 0]), bytes([1, 1, 1]), bytes([255, 1, 0]),
+                 bytes([0, 2, 1]), bytes([1, 1])], [4, 1, 7, 9, 3, 2, 8, 5, 6], voices=[0, 0, 0, 0, 0, 5, 0, 0, 0], played=[0, 0, 0, 2, 0, 0, 0, 0, 0])
+AMBIGUOUS = grammar(2, 0, [[pair(0, 0), word(0), word(1)]])  # three words have two derivations each
+WORDS_255 = grammar(255, 0, [[word(a) for a in range(254, 0, -1)]])  # W is 255, and word 0 has no rule
+NONE = history([])
+
+# Each: name, the refusal of Draw with a pattern that the documents give (0: accepted), bank, diary, pattern, voice, q, room.
+PATTERN_TRAPS = [
+    # 9: the pattern's length
+    ('no place', 9, F, HEARD, b'', 0, 0, 16),
+    ('one place', 16, F, HEARD, bytes([BLANK]), 0, 0, 16),
+    ('one place, one word', 0, G, HEARD, bytes([BLANK]), 0, 0, 1),
+    ('sixteen places', 0, F, HEARD, bytes([BLANK] * 16), 0, 65535, 16),
+    ('seventeen places', 9, F, HEARD, bytes([BLANK] * 17), 0, 0, 17),
+    ('seventeen places without a blank', 9, F, HEARD, bytes(17), 0, 0, 17),
+    ('256 places', 9, F, HEARD, bytes(256), 0, 0, 17),
+    ('258 places', 9, F, HEARD, bytes([BLANK] * 258), 0, 0, 17),
+
+    # 21: a byte that is W or more and no blank
+    ('byte W - 1', 0, F, NONE, bytes([1, BLANK]), 0, 0, 2),
+    ('byte W', 21, F, NONE, bytes([2, BLANK]), 0, 0, 2),
+    ('byte W last', 21, F, NONE, bytes([BLANK, 2]), 0, 0, 2),
+    ('byte W in the sixteenth place', 21, F, NONE, bytes([BLANK] * 15 + [2]), 0, 0, 16),
+    ('byte 127', 21, F, NONE, bytes([0, 127]), 0, 0, 2),
+    ('byte 128', 21, F, NONE, bytes([0, 128]), 0, 0, 2),
+    ('byte 254', 21, F, NONE, bytes([0, 254]), 0, 0, 2),
+    ('byte 255', 0, F, NONE, bytes([0, 255]), 0, 0, 2),
+    ('byte 50 of 50 words', 21, oracle.matrix(), NONE, bytes([0, 10, 20, 30, 50]), 0, 0, 5),
+    ('byte 49 of 50 words', 0, oracle.matrix(), NONE, bytes([0, 10, 20, 30, 49]), 0, 0, 5),
+    ('byte 254 of 255 words', 0, WORDS_255, NONE, bytes([254]), 0, 0, 1),
+    ('byte 1 of 255 words', 0, WORDS_255, NONE, bytes([1]), 0, 0, 1),
+    ('byte 0 of 255 words, which no rule has', 16, WORDS_255, NONE, bytes([0]), 0, 0, 1),
+    ('byte 255 of 255 words', 0, WORDS_255, NONE, bytes([255]), 0, 253, 1),
+    ('byte 254 of 254 words', 21, grammar(254, 0, [[word(a) for a in range(254)]]), NONE, bytes([254]), 0, 0, 1),
+    ('byte 253 of 254 words', 0, grammar(254, 0, [[word(a) for a in range(254)]]), NONE, bytes([253]), 0, 0, 1),
+
+    # 21 after 9, 22 and 10
+    ('byte W in seventeen places', 9, F, b'', bytes([2] * 17), 16, 0, 0),
+    ('byte W, voice 16', 22, F, b'', bytes([2, BLANK]), 16, 0, 0),
+    ('byte W, counts', 10, oracle.f_words(16), b'', bytes([16] * 16), 0, 0, 0),
+    ('byte W, counts, voice 16', 22, oracle.f_words(16), b'', bytes([16] * 16), 16, 0, 0),
+    ('byte W, a damaged bank', 8, grammar(1, 0, [[word(0), word(0)]]), b'', bytes([2]), 0, 0, 0),
+
+    # 21 before 11 to 16 and 20
+    ('byte W, no byte of a diary', 21, F, b'', bytes([2, BLANK]), 15, 0, 0),
+    ('byte W, layout', 21, F, four((RECORD[1] + LENGTH, 0)), bytes([BLANK, 2]), 0, 0, 0),
+    ('byte W, link', 21, F, bytes([0, 0, 1, 0]), bytes([BLANK, 2]), 0, 0, 0),
+    ('byte W, loop', 21, F, four((RECORD[2] + LINK, 2)), bytes([BLANK, 2]), 0, 0, 0),
+    ('byte W, an ambiguous sentence', 21, G, history([bytes(3)]), bytes([1, BLANK, BLANK]), 0, 0, 0),
+    ('byte W, beyond', 21, F, NONE, bytes([2, 2]), 0, 2**64 - 1, 0),
+    ('byte W - 1, no byte of a diary', 11, F, b'', bytes([1, BLANK]), 15, 0, 0),
+    ('byte W - 1, layout', 12, F, four((RECORD[1] + LENGTH, 0)), bytes([BLANK, 1]), 0, 0, 0),
+    ('byte W - 1, link', 13, F, bytes([0, 0, 1, 0]), bytes([BLANK, 1]), 0, 0, 0),
+    ('byte W - 1, loop', 14, F, four((RECORD[2] + LINK, 2)), bytes([BLANK, 1]), 0, 0, 0),
+
+    # 10 reads the plain counts, of needed pairs
+    ('one of 2^64 sentences fits', 10, oracle.f_words(16), NONE, bytes(16), 0, 0, 16),
+    ('none of 2^64 sentences fits', 10, brimful(1), NONE, bytes([16, 0] * 8), 0, 0, 16),
+    ('one of 16^15 sentences fits', 0, oracle.f_words(16), NONE, bytes(15), 0, 0, 16),
+    ('a count that is not needed', 0, reaching()['single'][0], NONE, bytes([0, 0, 0]), 0, 0, 3),
+    ('a count that is needed', 10, reaching()['left of nothing'][0], NONE, bytes([0] * 9), 0, 0, 9),
+
+    # 15 reads every sentence of the length, in the voice, played in full
+    ('an ambiguous sentence that fits', 15, AMBIGUOUS, history([bytes(3)]), bytes([0, BLANK, BLANK]), 0, 0, 3),
+    ('an ambiguous sentence that does not fit', 15, AMBIGUOUS, history([bytes(3)]), bytes([1, BLANK, BLANK]), 0, 0, 3),
+    ('an ambiguous sentence, last on the chain', 15, AMBIGUOUS, history([bytes([1]), bytes([1, 1]), bytes([0, 0, 1])]), bytes([1, 1, 1]), 0, 2**64 - 1, 0),
+    ('an ambiguous sentence that does not fit, broken off', 0, AMBIGUOUS, history([bytes(3)], played=[2]), bytes([1, BLANK, BLANK]), 0, 0, 3),
+    ('an ambiguous sentence that fits, broken off', 0, AMBIGUOUS, history([bytes(3)], played=[2]), bytes(3), 0, 1, 3),
+    ('an ambiguous sentence that does not fit, in another voice', 0, AMBIGUOUS, history([bytes(3)], voices=[7]), bytes([1, BLANK, BLANK]), 0, 0, 3),
+    ('an ambiguous sentence that does not fit, in voice 7', 15, AMBIGUOUS, history([bytes(3)], voices=[7]), bytes([1, BLANK, BLANK]), 7, 0, 3),
+    ('an ambiguous sentence of another length', 0, AMBIGUOUS, history([bytes(4)]), bytes([1, BLANK, BLANK]), 0, 0, 3),
+
+    # a word 255 of a diary is no blank
+    ('255 was heard, one word', 0, grammar(1, 0, [[word(0)]]), history([bytes([255])]), bytes([BLANK]), 0, 0, 1),
+    ('255 was heard, one word without a blank', 0, grammar(1, 0, [[word(0)]]), history([bytes([255])]), bytes([0]), 0, 0, 1),
+    ('255 was heard beside a word', 0, AMBIGUOUS, history([bytes([255, 0, 0])]), bytes([BLANK, 0, 0]), 0, 3, 3),
+    ('255 was heard all over', 0, F, history([bytes([255, 255])]), bytes([BLANK, BLANK]), 0, 3, 2),
+
+    # 16 and 20: what fits and is unheard
+    ('the last of what is left', 0, F, HEARD, bytes([1, BLANK, BLANK]), 0, 1, 3),
+    ('beyond what is left, below what fits', 16, F, HEARD, bytes([1, BLANK, BLANK]), 0, 2, 3),
+    ('beyond what fits', 16, F, NONE, bytes([1, BLANK, BLANK]), 0, 4, 3),
+    ('beyond what fits, below the plain left', 16, F, NONE, bytes([1, 1, 1]), 0, 1, 3),
+    ('2^64 - 1', 16, F, NONE, bytes([1, BLANK, BLANK]), 0, 2**64 - 1, 3),
+    ('2^32', 16, F, NONE, bytes([1, BLANK, BLANK]), 0, 2**32, 3),
+    ('heard, without a blank', 16, F, HEARD, bytes([1, 1, 0]), 0, 0, 3),
+    ('heard in another voice, without a blank', 0, F, HEARD, bytes([1, 1, 0]), 5, 0, 3),
+    ('broken off, without a blank', 0, F, HEARD, bytes([0, 1, 1]), 0, 0, 3),
+    ('a buffer of two bytes', 20, F, HEARD, bytes([1, BLANK, BLANK]), 0, 1, 2),
+    ('a buffer of no byte', 20, F, HEARD, bytes([1, BLANK, BLANK]), 0, 1, 0),
+    ('a buffer of no byte, beyond', 16, F, HEARD, bytes([1, BLANK, BLANK]), 0, 2, 0),
+    ('a buffer of more bytes', 0, F, HEARD, bytes([1, BLANK, BLANK]), 0, 1, 40),
+]
+
+
+def sampling_defects():
+    """Every subset of one of 1 to 8, 9, 22, 10, 21, one of 11 to 14, 15, 16 and 20 in one call: the first in this order is the answer. Each is
+    as a row of PATTERN_TRAPS. Sixteen words need 20^15 derivations of the second nonterminal, above 2^64 - 1; fifteen need 20^14."""
+    base = grammar(20, 0, [[pair(0, 0), word(0), pair(1, 4)], [pair(2, 2), pair(1, 2)], words(20), [word(0), word(1)], []])
+    rule = [None] + [9 + 4 * i for i in range(base[2])]
+    last = base[2]
+    banks = {0: base, 1: base[:3], 2: damaged(base, [(3, 5)]), 3: base + b'\0', 4: damaged(base, [(rule[last] + KIND, 2)]),
+             5: damaged(base, [(rule[last - 1] + NEXT, last + 1)]), 6: damaged(base, [(rule[last] + NEXT, 1)]),
+             7: damaged(base, [(rule[last - 1] + NEXT, 0)]), 8: damaged(base, [(rule[last] + A, 0)])}
+    for subset in range(512):
+        first, length, voice, counts, letter, wrong, several, beyond, short = (subset >> i & 1 for i in range(9))
+        bank = first * (1 + (length ^ letter) + 2 * (voice ^ several) + 4 * (counts ^ beyond))  # each with each of the others
+        other = wrong * (11 + (several ^ short) + 2 * (beyond ^ short))
+        places = 16 if counts else 15
+        heard = history([bytes([2]), bytes([0 if several else 7]) * places, bytes([3])])
+        diaries = {0: heard, 11: heard[:-1], 12: damaged(heard, [(7, 49)]), 13: damaged(heard, [(2, 4)]), 14: damaged(heard, [(2, 2)])}
+        pattern = bytes([0, BLANK, 20 if letter else BLANK]) + bytes(17 if length else places)[3:]
+        chosen = [number for number in (bank, 9 * length, 22 * voice, 10 * counts, 21 * letter, other, 15 * several, 16 * beyond, 20 * short) if number]
+        yield (f'defects {chosen}', chosen[0] if chosen else 0, banks[bank], diaries[other], pattern, 16 if voice else 0, 2**64 - 1 if beyond else 1,
+               places - 1 if short else places)
+
+
+def stated_samples():
+    """The traps and the sets of defects, each with its call of Draw and of Left, by bank and diary; and once the same with blanks only."""
+    groups, met = {}, set()
+    for name, refusal, bank, diary, pattern, voice, q, room in [*PATTERN_TRAPS, *sorted(sampling_defects(), key=lambda defect: defect[2:4])]:
+        answer = oracle.draw_matching(bank, diary, pattern, voice, q, bytes(room))[0]
+        if answer != refusal:
+            raise AssertionError(f'{name}: the documents give {refusal}, the brute-force program {answer}')
+        samples = groups.setdefault((bank, diary), Samples(name, bank, diary))
+        samples.name = name
+        samples.left(pattern, voice)
+        samples.draw(pattern, q, room, voice)
+        if (bank, diary, len(pattern), voice) not in met:
+            met.add((bank, diary, len(pattern), voice))
+            samples.left(bytes([BLANK] * len(pattern)), voice)
+            samples.draw(bytes([BLANK] * len(pattern)), q, room, voice)
+    for name, refusal, diary in HISTORY_TRAPS:
+        if refusal and len(diary) < 1000:
+            samples = groups.setdefault((F, diary), Samples(name, F, diary))
+            samples.name = name
+            samples.left(bytes([BLANK, 1]))
+            samples.draw(bytes([BLANK, 1]), 0, 2)
+    return [*groups.values()]
+
+
+def every_pattern():
+    """Of F and of G: each pattern of up to four places, with every draw; in three voices."""
+    short = history([bytes([0, 1]), bytes([1, 1]), bytes([0, 1, 1, 0]), bytes([1, 1, 1, 1]), bytes([0, 1, 1, 0]), bytes([1])], [3, 1, 2, 6, 5, 4],
+                    voices=[0, 5, 0, 0, 0, 0], played=[0, 0, 0, 3, 0, 0])
+    for name, diary, lengths in [('F, heard', HEARD, [3]), ('F, two and four words', short, [1, 2, 4]), ('F, nothing heard', NONE, [1, 2, 3])]:
+        samples = Samples(name, F, diary)
+        for length in lengths:
+            for pattern in patterns_of([0, 1, BLANK], length):
+                samples.every_draw(pattern, most=16)
+                samples.draw(pattern, 0, length - 1)
+                samples.left(pattern, 5)
+                samples.left(pattern, 15)
+        yield samples
+    samples = Samples('G', G, history([bytes(2), bytes(1)], played=[0, 0]))
+    for length in range(1, 5):
+        for pattern in patterns_of([0, BLANK], length):
+            samples.every_draw(pattern)
+    yield samples
+
+
+def ambiguous_samples():
+    """Sentences of two and more derivations, nothing of them heard, and one of one derivation heard where there is one."""
+    for name, (bank, sentences) in ambiguous().items():
+        once = [sentence for sentence, (_, _, count) in sentences.items() if count == 1]
+        samples = Samples(name, bank, history(once, voices=[3] * len(once)))
+        for sentence in sentences:
+            places = range(len(sentence))
+            patterns = [sentence, with_blanks(sentence, *places), *(with_blanks(sentence, place) for place in places[:4]), with_blanks(sentence, *places[1:])]
+            for pattern in patterns:
+                samples.every_draw(pattern, 3, 9)
+                samples.left(pattern)
+        yield samples
+
+
+def large_samples(rng):
+    """Counts up to 2^64 - 1, a thousand records, and the house bank with carrier phrases."""
+    fifteen = oracle.f_words(15)
+    heard = [bytes([14] * 16), bytes([13] * 16), bytes([14] + [0] * 15), bytes([7, 14] * 8), bytes(15)]
+    samples = Samples('F with 15 words', fifteen, history(heard, [2, 5, 1, 4, 3]))
+    for pattern in [bytes([14] + [BLANK] * 15), bytes([BLANK] * 15 + [14]), bytes([BLANK] * 16), bytes([7, BLANK] * 8), bytes([BLANK] * 8 + [14] * 8), *heard]:
+        samples.every_draw(pattern)
+    yield samples
+    samples = Samples('brimful', brimful(), NONE)
+    last = oracle.unrank(brimful(), 16, 2**64 - 2, bytes(16))[2]
+    for pattern in [bytes([BLANK] * 16), last, with_blanks(last, 0), with_blanks(last, 3, 9, 15), with_blanks(last, *range(8)),
+                    with_blanks(last, *range(8, 16)), bytes([BLANK] * 15 + [16]), bytes([16] + [BLANK] * 15)]:
+        samples.every_draw(pattern)
+    yield samples
+    samples = Samples('huge times zero', huge_times_zero(), NONE)
+    for pattern in [bytes([BLANK] * 16), bytes(16), bytes([15]), bytes([BLANK])]:
+        samples.every_draw(pattern)
+    yield samples
+    matrix = oracle.matrix()
+    carriers = [bytes([BLANK] * 5), bytes([3, BLANK, 24, 31, BLANK]), bytes([BLANK, BLANK, BLANK, BLANK, 45]), bytes([3, BLANK, BLANK, BLANK, BLANK]),
+                bytes([3, 11, 24, 31, 45]), bytes([BLANK, 0, BLANK, BLANK, BLANK]), bytes([3, 11, BLANK, 31, 45])]
+    for many in (0, 5, 100, 101, 1000):
+        numbers = [rng.choice([31000 + rng.below(1000), 31400 + rng.below(100), rng.below(100000)]) for _ in range(many)]
+        said = [oracle.unrank(matrix, 5, number, bytes(5))[2] for number in numbers]
+        records = rng.shuffled(range(1, many + 1))
+        voices, played = [rng.choice([0, 0, 0, 9]) for _ in said], [rng.choice([0, 0, 0, 4]) for _ in said]
+        samples = Samples(f'matrix, {many} records', matrix, history(said, records, voices=voices, played=played))
+        for pattern in carriers:
+            samples.every_draw(pattern, most=10)
+            samples.left(pattern, 9)
+        yield samples
+    yield slack_sample(matrix)
+
+
+def slack_sample(bank):
+    """Few records and much behind them."""
+    samples = Samples('matrix, slack', bank, history([bytes([3, 11, 24, 31, 45])], slack=bytes([BLANK]) * 2500))
+    for pattern in [bytes([3, 11, 24, 31, BLANK]), bytes([3, 11, 24, 31, 45])]:
+        samples.every_draw(pattern)
+    return samples
+
+
+def random_diary(rng, bank, length):
+    """Sentences of the length with one derivation, rarely others; foreign words and 255; voices 0 and 9; some broken off."""
+    full = oracle.full_list(bank, length)
+    said = [full.sentence(rng.below(full.total)) for _ in range(rng.below(7))]
+    said = [sentence for sentence in said if full.count(sentence) == 1 or rng.below(30) == 0]
+    said += [bytes(rng.choice([0, bank[1] - 1, bank[1], 255]) for _ in range(rng.choice([length, 1 + rng.below(16)]))) for _ in range(rng.below(3))]
+    voices = [rng.choice([0, 0, 9]) for _ in said]
+    played = [rng.choice([0, 0, 0, rng.below(len(sentence))]) for sentence in said]
+    return history(said, rng.shuffled(range(1, len(said) + 1)), voices=voices, played=played)
+
+
+def random_samples(rng, count):
+    """Random grammars with some derivations of a length, their diaries, and patterns from a sentence, of any letters and of blanks."""
+    while count:
+        bank, length = random_grammar(rng, 4, 3, 9), 2 + rng.below(4)
+        if not 4 <= oracle.count(bank, length)[1] <= 60 or sum(oracle.read(bank).totals(length)) > 1000:
+            continue
+        count -= 1
+        samples = Samples(f'random {count}', bank, random_diary(rng, bank, length))
+        full = oracle.full_list(bank, length)
+        patterns = [bytes([BLANK] * length)]
+        for _ in range(4):
+            sentence = full.sentence(rng.below(full.total))
+            patterns += [bytes(rng.choice([BLANK, byte]) for byte in sentence), with_blanks(sentence, rng.below(length))]
+        patterns += [sentence, bytes(rng.choice([BLANK, rng.below(bank[1] + 1)]) for _ in range(length))]
+        for pattern in patterns:
+            samples.every_draw(pattern, rng.choice([0, 0, 9, 8]), 5)
+        yield samples
+
+
+def sampling_cases():
+    rng = Rng(1617)
+    groups = [*stated_samples(), *every_pattern(), *ambiguous_samples(), *large_samples(rng), *random_samples(rng, 50)]
+    cases, bank, diary = [], None, None
+    for samples in groups:
+        frame = b''
+        if samples.bank != bank:
+            bank = samples.bank
+            frame += sampled(BANK, 0, 0, 0, bank)
+        if samples.diary != diary:
+            diary = samples.diary
+            frame += sampled(DIARY, 0, 0, 0, diary)
+        first, *others = samples.calls.values()
+        cases += [first._replace(stdin=frame + first.stdin), *others]
+    return cases
+
+
 # ---- Writing and checking
 
-KINDS = {'grammar': grammar_cases, 'matrix': matrix_table, 'ranking': ranking_cases, 'history': history_cases}
+KINDS = {'grammar': grammar_cases, 'matrix': matrix_table, 'ranking': ranking_cases, 'history': history_cases, 'sampling': sampling_cases}
 
 
 def files(cases):

@@ -314,3 +314,26 @@ pub fn small_sentence(rng: &mut Rng) -> Vec<u8> {
     let n = 1 + rng.index(5);
     (0..n).map(|_| if rng.below(20) == 0 { 255 } else { rng.below(6) as u8 }).collect()
 }
+
+/// A pattern made from a sentence: none, some or all of its words blanked. Sometimes it has a byte about the last word, or another length.
+pub fn small_pattern(rng: &mut Rng, sentence: &[u8], words: u8) -> Vec<u8> {
+    let blanks = [0, 1, 2, 2, 3, 4][rng.index(6)];
+    let mut pattern: Vec<u8> = sentence.iter().map(|&w| if rng.below(4) < blanks { 255 } else { w }).collect();
+    if !pattern.is_empty() && rng.below(8) == 0 {
+        let i = rng.index(pattern.len());
+        pattern[i] = [words.wrapping_sub(1), words, words.wrapping_add(1), 254, rng.below(256) as u8][rng.index(5)];
+    }
+    if rng.below(16) == 0 {
+        pattern.resize([0, 1, 16, 17, 256 + sentence.len()][rng.index(5)], 255);
+    }
+    pattern
+}
+
+/// The sentence with so many of its words blanked.
+pub fn blanked(rng: &mut Rng, sentence: &[u8], blanks: usize) -> Vec<u8> {
+    let mut pattern = sentence.to_vec();
+    for i in rng.some_of(sentence.len(), blanks) {
+        pattern[i] = 255;
+    }
+    pattern
+}

@@ -14,9 +14,9 @@ const DRAWS: usize = 20;
 
 // ---- Both answer alike
 
-/// Refusals have numbers below it. 18 is returned no more, and there is no 21.
+/// Refusals have numbers below it. 18 is returned no more.
 const REFUSALS: usize = 24;
-const NEVER: [usize; 2] = [18, 21];
+const NEVER: [usize; 1] = [18];
 
 /// How often each refusal was given, 0 for accepted.
 struct Alike {
@@ -75,6 +75,19 @@ impl Alike {
         self.same_buffers("draw", &input, &x, &y);
     }
 
+    fn remaining_matching(&mut self, g: &[u8], h: &[u8], p: &[u8], v: u64) {
+        let input = (g, h, p, v);
+        self.note("remaining_matching", &input, ours::remaining_matching(g, h, p, v), plain::remaining_matching(g, h, p, v));
+    }
+
+    fn draw_matching(&mut self, g: &[u8], h: &[u8], p: &[u8], v: u64, q: u64, room: usize) {
+        let (mut x, mut y) = (vec![77; room], vec![77; room]);
+        let input = (g, h, p, v, q, room);
+        let ours = ours::draw_matching(g, h, p, v, q, &mut x);
+        self.note("draw_matching", &input, ours, plain::draw_matching(g, h, p, v, q, &mut y));
+        self.same_buffers("draw_matching", &input, &x, &y);
+    }
+
     fn append(&mut self, h: &[u8], s: &[u8], v: u64, p: u64) {
         let (mut x, mut y) = (h.to_vec(), h.to_vec());
         let input = (h, s, v, p);
@@ -83,9 +96,9 @@ impl Alike {
     }
 }
 
-/// Small random inputs, all eight calls on each.
+/// Small random inputs, all ten calls on each. Patterns have random numbers of their own.
 fn random_inputs(alike: &mut Alike) {
-    let mut rng = Rng::new(1);
+    let (mut rng, mut patterns) = (Rng::new(1), Rng::new(5));
     for _ in 0..RANDOM {
         let g = banks::small_bank(&mut rng);
         let n = match rng.below(12) {
@@ -136,6 +149,33 @@ fn random_inputs(alike: &mut Alike) {
             _ => 0,
         };
         alike.append(&h, &s, v, p);
+        random_pattern(alike, &mut patterns, (&g, &h, n, v), &mut |rng| derivable(rng));
+    }
+}
+
+/// The two calls with a pattern on such an input, with several draws.
+fn random_pattern(
+    alike: &mut Alike,
+    rng: &mut Rng,
+    input: (&[u8], &[u8], u64, u64),
+    sentence: &mut dyn FnMut(&mut Rng) -> Option<Vec<u8>>,
+) {
+    let (g, h, n, v) = input;
+    let words = g.get(1).copied().unwrap_or(0);
+    // of a sentence in the history, of a derivable one, of random words; or blanks alone, also of a wrong length
+    let first = h.get(8..24).filter(|s| n as usize <= s.len()).map(|s| s[..n as usize].to_vec());
+    let s = match (rng.below(6), first) {
+        (0, _) => banks::small_sentence(rng),
+        (1, _) => vec![255; n.min(40) as usize],
+        (2 | 3, Some(first)) => first,
+        _ => sentence(rng).unwrap_or_else(|| banks::small_sentence(rng)),
+    };
+    let p = banks::small_pattern(rng, &s, words);
+    let room = if rng.below(6) == 0 { rng.index(6) } else { 17 };
+    alike.remaining_matching(g, h, &p, v);
+    let left = plain::remaining_matching(g, h, &p, v).map_or(0, |(_, _, left)| left);
+    for q in [0, rng.below(left.saturating_add(2)), left.wrapping_sub(1), left, rng.next()] {
+        alike.draw_matching(g, h, &p, v, q, room);
     }
 }
 
@@ -266,6 +306,32 @@ struct Case {
     spoken: Vec<Vec<u8>>,
     /// The full ones with every second record broken off; all others are played in full.
     broken: Vec<Vec<u8>>,
+    patterns: Vec<Patterns>,
+}
+
+/// Patterns with as many blanks each, made from sentences that no full history has: 2,000 for the empty history, of which the first 20 are
+/// for the full ones in turn. With each a draw number below what is left, with the empty history and with its full one.
+struct Patterns {
+    what: &'static str,
+    patterns: Vec<Vec<u8>>,
+    empty: Vec<u64>,
+    full: Vec<u64>,
+}
+
+impl Patterns {
+    fn new(c: &Case, what: &'static str, blanks: usize) -> Self {
+        let mut rng = Rng::new(6);
+        let heard: HashSet<&[u8]> = c.full.iter().flat_map(|h| h[4..].chunks_exact(20)).map(|r| &r[4..4 + c.length as usize]).collect();
+        let unheard: Vec<&Vec<u8>> = c.sentences.iter().filter(|s| !heard.contains(&s[..])).collect();
+        let patterns: Vec<Vec<u8>> = (0..MANY).map(|i| banks::blanked(&mut rng, unheard[i % unheard.len()], blanks)).collect();
+        let mut below = |h: &[u8], p: &[u8]| {
+            let (_, _, left) = plain::remaining_matching(&c.banks[0], h, p, 0).expect("an accepted pattern");
+            rng.below(left)
+        };
+        let empty = patterns.iter().map(|p| below(&EMPTY, p)).collect();
+        let full = patterns.iter().take(DRAWS).enumerate().map(|(i, p)| below(&c.full[i % c.full.len()], p)).collect();
+        Patterns { what, patterns, empty, full }
+    }
 }
 
 fn sentence(bank: &[u8], n: u64, d: u64) -> Vec<u8> {
@@ -313,6 +379,9 @@ fn case(name: &'static str, banks: Vec<Vec<u8>>, length: u64, mixed: bool) -> Ca
         }
     }
     case.half.resize(4 + 20 * 1_000, 0);
+    let n = length as usize;
+    case.patterns =
+        [("no blank", 0), ("half blanks", n / 2), ("all blanks", n)].map(|(what, blanks)| Patterns::new(&case, what, blanks)).into();
     case
 }
 
@@ -356,6 +425,16 @@ fn table_inputs(alike: &mut Alike, cases: &[Case]) {
                 alike.draw(g, h, n, v, left - 1, 16);
                 alike.draw(g, h, n, v, left, 16);
             }
+            pattern_inputs(alike, c, h);
+        }
+        for p in &c.patterns {
+            for (pattern, &q) in p.patterns.iter().zip(&p.empty) {
+                alike.remaining_matching(g, &EMPTY, pattern, 0);
+                alike.draw_matching(g, &EMPTY, pattern, 0, q, 16);
+            }
+            for (i, (pattern, &q)) in p.patterns.iter().zip(&p.full).enumerate() {
+                alike.draw_matching(g, &c.full[i % c.full.len()], pattern, 0, q, 16);
+            }
         }
     }
     for rules in RULES {
@@ -365,6 +444,23 @@ fn table_inputs(alike: &mut Alike, cases: &[Case]) {
     for n in AMBIGUOUS {
         for s in ambiguous_sentences(n) {
             alike.rank(&banks::every_tree(), &s);
+        }
+    }
+}
+
+/// A history with a pattern of every kind, and with two made from sentences of its own, in their voice: one whole, one with half blanks.
+fn pattern_inputs(alike: &mut Alike, c: &Case, h: &[u8]) {
+    let (g, n) = (&c.banks[0], c.length as usize);
+    let mut rng = Rng::new(7);
+    let mut asked: Vec<(Vec<u8>, u64)> = c.patterns.iter().map(|p| (p.patterns[0].clone(), 0)).collect();
+    for (record, blanks) in h[4..].chunks_exact(20).filter(|r| r[2] as usize == n).zip([0, n / 2]) {
+        asked.push((banks::blanked(&mut rng, &record[4..4 + n], blanks), record[3] as u64 / 16));
+    }
+    for (p, v) in asked {
+        alike.remaining_matching(g, h, &p, v);
+        let left = plain::remaining_matching(g, h, &p, v).expect("an accepted pattern").2;
+        for q in [0, rng.below(left.max(1)), left.wrapping_sub(1), left] {
+            alike.draw_matching(g, h, &p, v, q, 16);
         }
     }
 }
@@ -440,6 +536,31 @@ fn sampling_rows(report: &mut Report, c: &Case, what: &str, h: &[Vec<u8>], draws
         |i| plain::draw(g, &h[i % k], n, 0, c.numbers[i], &mut out2),
     );
     report.row(&format!("draw, {what}"), row);
+}
+
+/// *remaining* and *draw* with a pattern, in voice 0.
+fn patterns_table(report: &mut Report, c: &Case) {
+    report.table(format!("With a pattern on the {} bank, length {}", c.name, c.length), "call");
+    let g = &c.banks[0][..];
+    let (mut out, mut out2) = ([0u8; 16], [0u8; 16]);
+    let empty = vec![EMPTY.to_vec()];
+    for Patterns { what, patterns: p, empty: alone, full } in &c.patterns {
+        for (history, h, q) in [("empty", &empty, alone), ("full", &c.full, full)] {
+            let k = h.len();
+            let row = measure(
+                q.len(),
+                |i| ours::remaining_matching(g, &h[i % k], &p[i], 0),
+                |i| plain::remaining_matching(g, &h[i % k], &p[i], 0),
+            );
+            report.row(&format!("remaining, {what}, {history}"), row);
+            let row = measure(
+                q.len(),
+                |i| ours::draw_matching(g, &h[i % k], &p[i], 0, q[i], &mut out),
+                |i| plain::draw_matching(g, &h[i % k], &p[i], 0, q[i], &mut out2),
+            );
+            report.row(&format!("draw, {what}, {history}"), row);
+        }
+    }
 }
 
 fn growth_tables(report: &mut Report, cases: &[Case]) {
@@ -547,13 +668,16 @@ fn main() {
     println!("Both gave the same answers and buffers in {} calls. Answers by refusal, 0 first:", alike.calls);
     println!("{:?}", alike.refusals);
     if (0..REFUSALS).any(|refusal| (alike.refusals[refusal] == 0) != NEVER.contains(&refusal)) {
-        eprintln!("some refusal was never given, or 18 or 21 was");
+        eprintln!("some refusal was never given, or 18 was");
         std::process::exit(1);
     }
     let mut report = Report::default();
     let mut sweep = || {
         for c in &cases {
             calls_table(&mut report, c);
+        }
+        for c in &cases[..3] {
+            patterns_table(&mut report, c);
         }
         growth_tables(&mut report, &cases);
         draws_table(&mut report, &cases[0]);

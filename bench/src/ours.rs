@@ -40,6 +40,32 @@ extern "C" {
         remaining: *mut u64,
         number: *mut u64,
     ) -> c_uchar;
+    fn pumpfennel_remaining_matching(
+        g: *const u8,
+        g_len: usize,
+        h: *const u8,
+        h_len: usize,
+        pattern: *const u8,
+        pattern_len: usize,
+        voice: u64,
+        total: *mut u64,
+        heard: *mut u64,
+        remaining: *mut u64,
+    ) -> c_uchar;
+    fn pumpfennel_draw_matching(
+        g: *const u8,
+        g_len: usize,
+        h: *const u8,
+        h_len: usize,
+        pattern: *const u8,
+        pattern_len: usize,
+        voice: u64,
+        draw: u64,
+        out: *mut u8,
+        out_len: usize,
+        remaining: *mut u64,
+        number: *mut u64,
+    ) -> c_uchar;
     fn pumpfennel_append(h: *mut u8, h_len: usize, s: *const u8, s_len: usize, voice: u64, played: u64, records: *mut u64) -> c_uchar;
 }
 
@@ -94,6 +120,20 @@ pub fn draw(g: &[u8], h: &[u8], length: u64, voice: u64, q: u64, out: &mut [u8])
     let (mut l, mut d) = (BEFORE, BEFORE);
     let r =
         unsafe { pumpfennel_draw(g.as_ptr(), g.len(), h.as_ptr(), h.len(), length, voice, q, out.as_mut_ptr(), out.len(), &mut l, &mut d) };
+    answer(r, &[l, d], (l, d))
+}
+
+pub fn remaining_matching(g: &[u8], h: &[u8], pattern: &[u8], voice: u64) -> Result<(u64, u64, u64), u8> {
+    let (mut t, mut k, mut l) = (BEFORE, BEFORE, BEFORE);
+    let (gp, hp, pp) = (g.as_ptr(), h.as_ptr(), pattern.as_ptr());
+    let r = unsafe { pumpfennel_remaining_matching(gp, g.len(), hp, h.len(), pp, pattern.len(), voice, &mut t, &mut k, &mut l) };
+    answer(r, &[t, k, l], (t, k, l))
+}
+
+pub fn draw_matching(g: &[u8], h: &[u8], pattern: &[u8], voice: u64, q: u64, out: &mut [u8]) -> Result<(u64, u64), u8> {
+    let (mut l, mut d) = (BEFORE, BEFORE);
+    let (gp, hp, pp, op) = (g.as_ptr(), h.as_ptr(), pattern.as_ptr(), out.as_mut_ptr());
+    let r = unsafe { pumpfennel_draw_matching(gp, g.len(), hp, h.len(), pp, pattern.len(), voice, q, op, out.len(), &mut l, &mut d) };
     answer(r, &[l, d], (l, d))
 }
 

@@ -1,8 +1,11 @@
-//! The calls of document 01, with document 02's U2, U4, U5 and U6, in plain Rust: the yardstick. Written from the documents alone; no
+//! The calls of document 01, with document 02's U1, U2, U4, U5 and U6, in plain Rust: the yardstick. Written from the documents alone; no
 //! unsafe code, no threads, nothing kept between calls. An error is the refusal's number.
 
 const MOST_RECORDS: usize = 1000;
 const LAST_VOICE: u64 = 15;
+
+/// The byte of a pattern that any word fits.
+pub const BLANK: u8 = 255;
 
 /// An accepted grammar: words and pairs by nonterminal, in chain order.
 struct Grammar {
@@ -189,6 +192,15 @@ fn prepare(grammar: &[u8], length: u64, voice: u64, t: &mut Totals) -> Result<(G
     Ok((g, n))
 }
 
+/// The refusals 1 to 9, 22, 10 and 21; then T is in the table.
+fn prepare_matching(grammar: &[u8], pattern: &[u8], voice: u64, t: &mut Totals) -> Result<Grammar, u8> {
+    let (g, _) = prepare(grammar, pattern.len() as u64, voice, t)?;
+    if pattern.iter().any(|&w| w != BLANK && w >= g.words_below) {
+        return Err(21);
+    }
+    Ok(g)
+}
+
 /// Writes the sentence of the derivation d of a; its length is that of `out`.
 fn write(g: &Grammar, t: &Totals, a: usize, mut d: u64, out: &mut [u8]) {
     let m = out.len();
@@ -345,6 +357,129 @@ impl<'a> Parser<'a> {
             Found::One(self.place(s, start, 0, n))
         }
     }
+
+    /// The counts of a pattern of 1 to 16 bytes, shorter runs first. Only counts that nothing needs may wrap.
+    fn fitting(&self, pattern: &'a [u8]) -> Fitting<'a> {
+        let n = pattern.len();
+        let mut from = [0; 17];
+        for m in 2..=n {
+            from[m] = from[m - 1] + n + 2 - m;
+        }
+        let mut f = Fitting { g: self.g, t: self.t, pattern, from, counts: Vec::with_capacity(n * (n + 1) / 2) };
+        let mut some = [[0u32; 17]; 16];
+        for (p, &w) in pattern.iter().enumerate() {
+            let mut row = [0; 32];
+            if w == BLANK {
+                for a in 0..self.g.nonterminals {
+                    row[a] = self.g.words(a).len() as u64;
+                    some[p][1] |= u32::from(row[a] != 0) << a;
+                }
+            } else {
+                some[p][1] = self.of_word[w as usize];
+                for a in Bits(some[p][1]) {
+                    row[a] = 1;
+                }
+            }
+            f.counts.push(row);
+        }
+        for m in 2..=n {
+            for p in 0..=n - m {
+                let mut row = [0u64; 32];
+                for k in 1..m {
+                    let left = some[p][k] & self.lefts;
+                    let right = some[p + k][m - k] & self.rights;
+                    if left == 0 || right == 0 {
+                        continue;
+                    }
+                    let (lefts, rights) = (f.row(p, k), f.row(p + k, m - k));
+                    for b in Bits(left) {
+                        for c in Bits(right) {
+                            let heads = self.of_pair[b][c];
+                            let both = lefts[b].wrapping_mul(rights[c]);
+                            some[p][m] |= heads;
+                            for a in Bits(heads) {
+                                row[a] = row[a].wrapping_add(both);
+                            }
+                        }
+                    }
+                }
+                f.counts.push(row);
+            }
+        }
+        f
+    }
+}
+
+/// How many derivations over a run of a pattern fit it, by nonterminal.
+struct Fitting<'a> {
+    g: &'a Grammar,
+    t: &'a Totals,
+    pattern: &'a [u8],
+    /// Where the runs of a length begin among the rows.
+    from: [usize; 17],
+    counts: Vec<[u64; 32]>,
+}
+
+impl Fitting<'_> {
+    /// The counts of the run of m bytes from p on.
+    fn row(&self, p: usize, m: usize) -> &[u64; 32] {
+        &self.counts[self.from[m] + p]
+    }
+
+    fn total(&self) -> u64 {
+        self.row(0, self.pattern.len())[self.g.start]
+    }
+
+    fn fits(&self, s: &[u8]) -> bool {
+        s.iter().zip(self.pattern).all(|(w, b)| b == w || *b == BLANK)
+    }
+
+    /// The place of a sentence's first derivation of a over m words from p on, among those that fit; the parser holds the sentence.
+    fn place(&self, parser: &Parser, s: &[u8], a: usize, p: usize, m: usize) -> u64 {
+        if m == 1 {
+            // where a word stands in the pattern, no other fits
+            return if self.pattern[p] == BLANK { self.g.words(a).iter().position(|&w| w == s[p]).unwrap() as u64 } else { 0 };
+        }
+        let mut before = 0;
+        for &(b, c) in self.g.pairs(a) {
+            let (b, c) = (b as usize & 31, c as usize & 31);
+            for k in 1..m {
+                let (x, y) = (self.row(p, k)[b], self.row(p + k, m - k)[c]);
+                if parser.some[p][k] >> b & parser.some[p + k][m - k] >> c & 1 != 0 {
+                    return before + self.place(parser, s, b, p, k) * y + self.place(parser, s, c, p + k, m - k);
+                }
+                before += x * y;
+            }
+        }
+        unreachable!("the run has a derivation");
+    }
+
+    /// Writes the sentence of the fitting derivation e of a from p on; its length is that of `out`. Gives its number among all.
+    fn write(&self, a: usize, p: usize, mut e: u64, out: &mut [u8]) -> u64 {
+        let m = out.len();
+        if m == 1 {
+            let (words, byte) = (self.g.words(a), self.pattern[p]);
+            let d = if byte == BLANK { e as usize } else { words.iter().position(|&w| w == byte).unwrap() };
+            out[0] = words[d];
+            return d as u64;
+        }
+        let mut before = 0;
+        for &(b, c) in self.g.pairs(a) {
+            let (b, c) = (b as usize & 31, c as usize & 31);
+            for k in 1..m {
+                let (x, y) = (self.row(p, k)[b], self.row(p + k, m - k)[c]);
+                let here = x * y;
+                if e < here {
+                    let (left, right) = out.split_at_mut(k);
+                    let d = self.write(b, p, e / y, left);
+                    return before + d * self.t[c][m - k] + self.write(c, p + k, e % y, right);
+                }
+                e -= here;
+                before += self.t[b][k] * self.t[c][m - k];
+            }
+        }
+        unreachable!("e is below the count of the run");
+    }
 }
 
 fn two(bytes: &[u8], at: usize) -> usize {
@@ -428,6 +563,28 @@ impl<'a> History<'a> {
         numbers.sort_unstable();
         numbers.dedup();
         Ok(numbers)
+    }
+
+    /// The same for a pattern: the places among the fitting derivations, of the sentences that fit. 15 asks every sentence of n words.
+    fn heard_fitting(&self, parser: &mut Parser, f: &Fitting, voice: u64) -> Result<Vec<u64>, u8> {
+        let mut places = Vec::with_capacity(self.count());
+        let (n, start, in_full) = (f.pattern.len(), f.g.start, 16 * voice as u8);
+        for record in self.records.chunks_exact(20) {
+            if record[2] as usize != n || record[3] != in_full {
+                continue;
+            }
+            let s = &record[4..4 + n];
+            parser.fill(s);
+            if parser.many[0][n] >> start & 1 != 0 {
+                return Err(15);
+            }
+            if parser.some[0][n] >> start & 1 != 0 && f.fits(s) {
+                places.push(f.place(parser, s, start, 0, n));
+            }
+        }
+        places.sort_unstable();
+        places.dedup();
+        Ok(places)
     }
 }
 
@@ -544,6 +701,38 @@ pub fn draw(grammar: &[u8], history: &[u8], length: u64, voice: u64, q: u64, out
     let prepared = Prepared::new(grammar, history, length, voice, &mut t)?;
     let d = prepared.draw(q, out)?;
     Ok((prepared.left, d))
+}
+
+#[inline(never)]
+pub fn remaining_matching(grammar: &[u8], history: &[u8], pattern: &[u8], voice: u64) -> Result<(u64, u64, u64), u8> {
+    let mut t = NO_TOTALS;
+    let g = prepare_matching(grammar, pattern, voice, &mut t)?;
+    let history = History::read(history)?;
+    let mut parser = Parser::new(&g, &t);
+    let fitting = parser.fitting(pattern);
+    let heard = history.heard_fitting(&mut parser, &fitting, voice)?.len() as u64;
+    let total = fitting.total();
+    Ok((total, heard, total - heard))
+}
+
+#[inline(never)]
+pub fn draw_matching(grammar: &[u8], history: &[u8], pattern: &[u8], voice: u64, q: u64, out: &mut [u8]) -> Result<(u64, u64), u8> {
+    let mut t = NO_TOTALS;
+    let g = prepare_matching(grammar, pattern, voice, &mut t)?;
+    let history = History::read(history)?;
+    let mut parser = Parser::new(&g, &t);
+    let fitting = parser.fitting(pattern);
+    let heard = history.heard_fitting(&mut parser, &fitting, voice)?;
+    let left = fitting.total() - heard.len() as u64;
+    if q >= left {
+        return Err(16);
+    }
+    let n = pattern.len();
+    if out.len() < n {
+        return Err(20);
+    }
+    let d = fitting.write(g.start, 0, skip(q, &heard), &mut out[..n]);
+    Ok((left, d))
 }
 
 #[inline(never)]

@@ -73,6 +73,34 @@ unsafe extern "C" {
         number: *mut u64,
     ) -> u8;
 
+    pub fn pumpfennel_remaining_matching(
+        grammar: *const u8,
+        grammar_len: usize,
+        history: *const u8,
+        history_len: usize,
+        pattern: *const u8,
+        pattern_len: usize,
+        voice: u64,
+        total: *mut u64,
+        heard: *mut u64,
+        remaining: *mut u64,
+    ) -> u8;
+
+    pub fn pumpfennel_draw_matching(
+        grammar: *const u8,
+        grammar_len: usize,
+        history: *const u8,
+        history_len: usize,
+        pattern: *const u8,
+        pattern_len: usize,
+        voice: u64,
+        draw: u64,
+        sentence: *mut u8,
+        sentence_len: usize,
+        remaining: *mut u64,
+        number: *mut u64,
+    ) -> u8;
+
     pub fn pumpfennel_append(
         history: *mut u8,
         history_len: usize,

@@ -4,14 +4,15 @@
 //! each with its talker's *voice* from 0 to 15 and with how many of its words were *played*, where 0 means all. A
 //! sentence that was played in full is heard in its voice; one that was broken off may be drawn again. The calls count
 //! the derivations of a length, give the sentence of a derivation number and the number of a sentence, and draw from
-//! what is unheard in a voice. Both are plain bytes, laid out as the project's documents 01 and 02 say; they call them
-//! bank and diary.
+//! what is unheard in a voice. A draw can also be held to a *pattern*: some words are fixed, the others are blanks.
+//! Grammars, histories and patterns are plain bytes, laid out as the project's documents 01 and 02 say; they call the
+//! first two bank and diary.
 //!
 //! The work is done by a proved archive, written by `rt staticlib pumpfennel` in the project's folder. This crate
 //! links it and gives each of its functions a safe face; it checks nothing itself and allocates nothing. No call
 //! requires anything of the bytes it is handed: what is wrong with them is a [`Refusal`]. After a refusal every
-//! lent buffer is as it was. Nothing is kept between calls. Tables lie on the stack: [`LARGE_STACK`] and
-//! [`SMALL_STACK`] say how much of it a call takes.
+//! lent buffer is as it was. Nothing is kept between calls. Tables lie on the stack: [`MATCHING_STACK`],
+//! [`LARGE_STACK`] and [`SMALL_STACK`] say how much of it a call takes.
 //!
 //! # The house matrix grammar
 //!
@@ -51,6 +52,14 @@
 //! assert_eq!(pumpfennel::remaining(&grammar, &history, 5, 1)?.remaining, 100_000);
 //! let drawn = pumpfennel::draw(&grammar, &history, 5, 1, DrawNumber(31415), &mut sentence)?;
 //! assert_eq!(drawn.number, DerivationNumber(31415));
+//!
+//! // A carrier phrase: the first, third and fifth word are fixed, and ten words fit each blank. One sentence is heard.
+//! use pumpfennel::BLANK;
+//! let phrase = [3, BLANK, 24, BLANK, 45];
+//! assert_eq!(pumpfennel::remaining_matching(&grammar, &history, &phrase, 0)?.remaining, 99);
+//! let drawn = pumpfennel::draw_matching(&grammar, &history, &phrase, 0, DrawNumber(11), &mut sentence)?;
+//! assert_eq!(sentence, [3, 11, 24, 32, 45]);
+//! assert_eq!(drawn.number, DerivationNumber(31425)); // among all sentences of five words
 //! # Ok::<(), pumpfennel::Refusal>(())
 //! ```
 #![deny(unsafe_op_in_unsafe_fn, missing_docs)]
@@ -64,6 +73,9 @@ pub use refusal::Refusal;
 /// The most words of a sentence.
 pub const LONGEST_SENTENCE: usize = 16;
 
+/// The byte of a pattern that any word fits. Any other byte is that word.
+pub const BLANK: u8 = 255;
+
 /// The most bytes of a grammar: 32 nonterminals and 255 rules.
 pub const LARGEST_GRAMMAR: usize = 4 + 32 + 4 * 255;
 
@@ -72,6 +84,9 @@ pub const MOST_RECORDS: usize = 1000;
 
 /// The most bytes of a history without slack.
 pub const LARGEST_HISTORY: usize = history_size(MOST_RECORDS);
+
+/// The most bytes of stack that [`remaining_matching`] or [`draw_matching`] takes.
+pub const MATCHING_STACK: usize = 160 * 1024;
 
 /// The most bytes of stack that [`rank`], [`remaining`] or [`draw`] takes.
 pub const LARGE_STACK: usize = 100 * 1024;
@@ -99,8 +114,8 @@ static INTERFACE: extern "C" fn() -> u64 = ffi::pumpfennel_interface;
 #[derive(Clone, Copy, Debug, PartialEq, Eq, PartialOrd, Ord, Hash)]
 pub struct DerivationNumber(pub u64);
 
-/// How many derivations with a sentence unheard in the voice stand before one. It never serves as a
-/// [`DerivationNumber`].
+/// How many derivations with a sentence unheard in the voice stand before one; with a pattern, those that fit it. It
+/// never serves as a [`DerivationNumber`].
 #[derive(Clone, Copy, Debug, PartialEq, Eq, PartialOrd, Ord, Hash)]
 pub struct DrawNumber(pub u64);
 
@@ -124,7 +139,7 @@ pub struct Ranked {
     pub derivations: u64,
 }
 
-/// What [`remaining`] gives.
+/// What [`remaining`] gives; from [`remaining_matching`], of what fits the pattern alone.
 #[derive(Clone, Copy, Debug, PartialEq, Eq)]
 pub struct Remaining {
     /// How many derivations there are of that length.
@@ -135,12 +150,12 @@ pub struct Remaining {
     pub remaining: u64,
 }
 
-/// What [`draw`] gives.
+/// What [`draw`] and [`draw_matching`] give.
 #[derive(Clone, Copy, Debug, PartialEq, Eq)]
 pub struct Drawn {
-    /// How many derivations have a sentence unheard in that voice.
+    /// How many derivations have a sentence unheard in that voice; with a pattern, and fitting it.
     pub remaining: u64,
-    /// The derivation number of the sentence drawn.
+    /// The derivation number of the sentence drawn, among all of that length.
     pub number: DerivationNumber,
 }
 
@@ -363,6 +378,100 @@ pub fn draw(
             history.as_ptr(),
             history.len(),
             length,
+            voice,
+            draw.0,
+            sentence.as_mut_ptr(),
+            sentence.len(),
+            &mut remaining,
+            &mut number,
+        )
+    };
+    accepted(refusal, Drawn { remaining, number: DerivationNumber(number) })
+}
+
+/// Counts what is unheard in a voice and fits a pattern of 1 to 16 bytes. [`BLANK`] is any word, another byte is that
+/// word; the pattern's length is that of the sentences. A pattern of blanks alone counts what [`remaining`] counts.
+///
+/// ```
+/// use pumpfennel::{BLANK, Refusal, Remaining};
+///
+/// let grammar = [2, 2, 4, 0, 1, 3, 1, 1, 1, 2, 1, 0, 1, 0, 0, 0, 0, 4, 0, 1, 0, 0];
+/// let mut history = [0; 24];
+/// pumpfennel::append(&mut history, &[0, 1], 0, 0)?;
+/// // 0 1 is heard and 1 1 is not
+/// let remaining = Remaining { total: 2, heard: 1, remaining: 1 };
+/// assert_eq!(pumpfennel::remaining_matching(&grammar, &history, &[BLANK, 1], 0)?, remaining);
+/// // 0 1 doesn't fit
+/// let remaining = Remaining { total: 2, heard: 0, remaining: 2 };
+/// assert_eq!(pumpfennel::remaining_matching(&grammar, &history, &[BLANK, 0], 0)?, remaining);
+/// // there is no word 2
+/// assert_eq!(pumpfennel::remaining_matching(&grammar, &history, &[BLANK, 2], 0), Err(Refusal::BadPattern));
+/// # Ok::<(), Refusal>(())
+/// ```
+///
+/// # Errors
+///
+/// Refusals 1 to 15, 21 and 22. 9 means the pattern's length; 10 and 15 are those of [`remaining`] at that length: 15
+/// reads heard sentences that don't fit, too. 21, here and below, comes right after 10.
+pub fn remaining_matching(grammar: &[u8], history: &[u8], pattern: &[u8], voice: u64) -> Result<Remaining, Refusal> {
+    let (mut total, mut heard, mut remaining) = (0, 0, 0);
+    // SAFETY: three slices, and three figures of this function.
+    let refusal = unsafe {
+        ffi::pumpfennel_remaining_matching(
+            grammar.as_ptr(),
+            grammar.len(),
+            history.as_ptr(),
+            history.len(),
+            pattern.as_ptr(),
+            pattern.len(),
+            voice,
+            &mut total,
+            &mut heard,
+            &mut remaining,
+        )
+    };
+    accepted(refusal, Remaining { total, heard, remaining })
+}
+
+/// Writes the sentence of a draw number into the first bytes of `sentence`, as [`draw`] does, where only derivations
+/// with a sentence that fits the pattern are drawn. The derivation number is the one among all of that length.
+///
+/// ```
+/// use pumpfennel::{BLANK, DerivationNumber, DrawNumber, Drawn, Refusal};
+///
+/// let grammar = [2, 2, 4, 0, 1, 3, 1, 1, 1, 2, 1, 0, 1, 0, 0, 0, 0, 4, 0, 1, 0, 0];
+/// let mut history = [0; 24];
+/// pumpfennel::append(&mut history, &[0, 1], 0, 0)?;
+/// let mut sentence = [0; 2];
+/// let drawn = Drawn { remaining: 1, number: DerivationNumber(3) };
+/// assert_eq!(pumpfennel::draw_matching(&grammar, &history, &[BLANK, 1], 0, DrawNumber(0), &mut sentence)?, drawn);
+/// assert_eq!(sentence, [1, 1]);
+/// let past = pumpfennel::draw_matching(&grammar, &history, &[BLANK, 1], 0, DrawNumber(1), &mut sentence);
+/// assert_eq!(past, Err(Refusal::NumberBeyond));
+/// # Ok::<(), Refusal>(())
+/// ```
+///
+/// # Errors
+///
+/// Refusals 1 to 16 and 20 to 22.
+pub fn draw_matching(
+    grammar: &[u8],
+    history: &[u8],
+    pattern: &[u8],
+    voice: u64,
+    draw: DrawNumber,
+    sentence: &mut [u8],
+) -> Result<Drawn, Refusal> {
+    let (mut remaining, mut number) = (0, 0);
+    // SAFETY: four slices, of which the one that is written is borrowed alone, and two figures of this function.
+    let refusal = unsafe {
+        ffi::pumpfennel_draw_matching(
+            grammar.as_ptr(),
+            grammar.len(),
+            history.as_ptr(),
+            history.len(),
+            pattern.as_ptr(),
+            pattern.len(),
             voice,
             draw.0,
             sentence.as_mut_ptr(),

@@ -47,6 +47,8 @@ pub enum Refusal {
     HistoryFull = 19,
     /// The sentence's buffer is shorter than the length.
     BufferTooShort = 20,
+    /// A byte of the pattern is neither 255 nor a word of the grammar.
+    BadPattern = 21,
     /// The voice is above 15.
     BadVoice = 22,
     /// The count of words played is the sentence's length or more.
@@ -55,7 +57,7 @@ pub enum Refusal {
 
 impl Refusal {
     /// Every refusal, by rising number.
-    pub const ALL: [Refusal; 22] = [
+    pub const ALL: [Refusal; 23] = [
         Refusal::GrammarTooShort,
         Refusal::GrammarOutOfRange,
         Refusal::GrammarWrongSize,
@@ -76,6 +78,7 @@ impl Refusal {
         Refusal::SentenceAmbiguous,
         Refusal::HistoryFull,
         Refusal::BufferTooShort,
+        Refusal::BadPattern,
         Refusal::BadVoice,
         Refusal::BadPlayed,
     ];
@@ -107,6 +110,7 @@ impl Refusal {
             Refusal::SentenceAmbiguous => "the sentence has two or more derivations",
             Refusal::HistoryFull => "the history has 1,000 records or no room for one more",
             Refusal::BufferTooShort => "the sentence's buffer is shorter than the length",
+            Refusal::BadPattern => "a byte of the pattern is neither 255 nor a word of the grammar",
             Refusal::BadVoice => "the voice is above 15",
             Refusal::BadPlayed => "the count of words played is the sentence's length or more",
         }

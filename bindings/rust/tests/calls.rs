@@ -1,7 +1,7 @@
 //! The calls of the library against the reference, on stored, generated and hand-made inputs.
 mod support;
 
-use pumpfennel::{DerivationNumber, DrawNumber, Refusal, Remaining};
+use pumpfennel::{BLANK, DerivationNumber, DrawNumber, Refusal, Remaining};
 use std::collections::{BTreeMap, BTreeSet};
 use support::agreed;
 use support::case::{self, Answer, CALLS, Call, Case};
@@ -15,23 +15,30 @@ const SEED: u64 = 20261115;
 /// Holds the library to the reference on generated cases of a call, among which every refusal of the call is. Gives
 /// the cases that were accepted, with their answers.
 fn agree(call: Call, count: u64) -> Vec<(Case, Answer)> {
+    let mut accepted = vec![];
+    agree_on(call, count, |case, answer| {
+        if answer.refusal == 0 {
+            accepted.push((case, answer));
+        }
+    });
+    accepted
+}
+
+/// The same, and hands on every case with its answer.
+fn agree_on(call: Call, count: u64, mut note: impl FnMut(Case, Answer)) {
     let seed = SEED + call as u64;
     println!("{}: {count} cases from seed {seed}", call.name());
     let mut seen: BTreeMap<u8, u64> = BTreeMap::new();
-    let mut accepted = vec![];
     for i in 0..count {
         let case = generate::case(&mut Rng::of_case(seed, i), call);
         let answer = agreed(&case).unwrap_or_else(|fault| panic!("seed {seed}, case {i}: {fault}"));
         *seen.entry(answer.refusal).or_default() += 1;
-        if answer.refusal == 0 {
-            accepted.push((case, answer));
-        }
+        note(case, answer);
     }
     println!("how many with each refusal: {seen:?}");
     let reached: BTreeSet<u8> = seen.into_keys().collect();
     let allowed: BTreeSet<u8> = [0].into_iter().chain(call.refusals()).collect();
     assert_eq!(reached, allowed, "the refusals of {}", call.name());
-    accepted
 }
 
 #[test]
@@ -101,6 +108,69 @@ fn generated_draw() {
     agree(Call::Draw, 150_000);
 }
 
+/// A pattern's blanks: none, some, or at every place.
+#[derive(Clone, Copy, Debug, PartialEq, Eq, PartialOrd, Ord)]
+enum Blanks {
+    None,
+    Some,
+    All,
+}
+
+fn blanks(pattern: &[u8]) -> Blanks {
+    match pattern.iter().filter(|&&byte| byte == BLANK).count() {
+        0 => Blanks::None,
+        many if many == pattern.len() => Blanks::All,
+        _ => Blanks::Some,
+    }
+}
+
+/// Whether 15 is due to sentences alone that don't fit the pattern.
+fn ambiguous_beside(case: &Case) -> bool {
+    let grammar = reference::read_grammar(&case.grammar).expect("an accepted grammar");
+    let full = Full::new(&grammar, case.pattern.len()).expect("counts that fit");
+    let heard = |record: &Record| u64::from(record.voice) == case.voice && record.played == 0;
+    let fitting = |words: &[u8]| words.len() == case.pattern.len() && reference::fits(words, &case.pattern);
+    let records = records(&case.history);
+    let mut fitting = records.iter().filter(|record| heard(record) && fitting(record.words));
+    fitting.all(|record| full.readings(record.words).count < 2)
+}
+
+/// Among them patterns with no blank, with some and with blanks alone; heard sentences that fit, and such that don't
+/// and count without the pattern; and 15 where no heard sentence that fits has two derivations: all in plenty.
+#[test]
+fn generated_remaining_matching() {
+    let mut kinds: BTreeMap<(Blanks, bool, bool), u64> = BTreeMap::new();
+    let mut beside = 0;
+    agree_on(Call::RemainingMatching, 40_000, |case, answer| match answer.refusal {
+        0 => {
+            let length = case.pattern.len() as u64;
+            let plain = pumpfennel::remaining(&case.grammar, &case.history, length, case.voice).expect("accepted");
+            let others = plain.heard > answer.figures[1];
+            *kinds.entry((blanks(&case.pattern), answer.figures[1] > 0, others)).or_default() += 1;
+        }
+        15 => beside += u64::from(ambiguous_beside(&case)),
+        _ => {}
+    });
+    println!("by blanks, whether a sentence that fits is heard, and whether another is: {kinds:?}");
+    println!("15 with no fault in what fits: {beside}");
+    assert_eq!(kinds.len(), 10);
+    assert!(beside > 200 && kinds.values().all(|&many| many > 500), "{kinds:?}");
+}
+
+/// Among them draws that pass over heard sentences, and such whose number among all isn't the one among what fits.
+#[test]
+fn generated_draw_matching() {
+    let (mut numbered, mut passed) = (0, 0);
+    for (case, answer) in agree(Call::DrawMatching, 40_000) {
+        assert!(reference::fits(&answer.buffer[..case.pattern.len()], &case.pattern));
+        numbered += u64::from(answer.figures[1] != case.number);
+        let plain = Case { call: Call::RemainingMatching, sentence: vec![], number: 0, ..case };
+        passed += u64::from(given(&plain).figures[1] > 0);
+    }
+    println!("{numbered} draws with another derivation number, {passed} with a heard sentence that fits");
+    assert!(numbered > 4_000 && passed > 1_500);
+}
+
 #[test]
 fn generated_append() {
     let accepted = agree(Call::Append, 200_000);
@@ -130,7 +200,12 @@ fn reference_both_ways() {
         let length = 1 + rng.below(most);
         let strangers: Vec<Vec<u8>> =
             (0..3).map(|_| (0..length).map(|_| rng.below(usize::from(grammar.words)) as u8).collect()).collect();
-        assert!(reference::ways_agree(&grammar, length, &strangers), "case {i}: {}", case::hex(&bytes));
+        let full = Full::new(&grammar, length).expect("short lists");
+        let patterns: Vec<Vec<u8>> =
+            (0..3).map(|_| generate::pattern(&mut rng, &grammar, Some(&full), length, &[])).collect();
+        let patterns: Vec<Vec<u8>> = patterns.into_iter().filter(|pattern| pattern.len() == length).collect();
+        let agree = reference::ways_agree(&grammar, length, &strangers, &patterns);
+        assert!(agree, "case {i}: {} {patterns:?}", case::hex(&bytes));
         tried += 1;
     }
 }
@@ -167,7 +242,7 @@ fn heard_01() -> Vec<u8> {
     generate::history(&[Spoken::in_full(0, vec![0, 1])], &[1], &[7; 20])
 }
 
-/// Accepted: F, the diary of P7, length 2, voice 0, played in full.
+/// Accepted: F, the diary of P7, length 2, or any word and then word 1, voice 0, played in full.
 fn accepted(call: Call) -> Case {
     let mut case = Case::new(call);
     if call.takes_grammar() {
@@ -178,6 +253,9 @@ fn accepted(call: Call) -> Case {
     }
     if call.takes_length() {
         case.length = 2;
+    }
+    if call.takes_pattern() {
+        case.pattern = vec![BLANK, 1];
     }
     if call.takes_sentence() {
         case.sentence = vec![1; 2];
@@ -198,11 +276,14 @@ fn fault(case: &mut Case, refusal: u8) {
         7 => case.grammar[rule + 3] = 0,
         8 => case.grammar.copy_within(rule..rule + 3, rule + 4),
         9 if case.call.takes_length() => case.length = 17,
+        9 if case.call.takes_pattern() => case.pattern.resize(17, BLANK),
         9 => case.sentence = vec![0; 17],
         10 => {
             case.grammar = generate::f_words(16).bytes();
             if case.call.takes_length() {
                 case.length = 16;
+            } else if case.call.takes_pattern() {
+                case.pattern.resize(16, BLANK);
             } else {
                 case.sentence = vec![0; 16];
             }
@@ -212,14 +293,19 @@ fn fault(case: &mut Case, refusal: u8) {
         13 => case.history[2] = 2,
         14 => case.history[2] = 0,
         15 => {
-            case.grammar = generate::g_words(1).bytes();
+            case.grammar = generate::g_words(2).bytes();
             case.history = generate::history(&[Spoken::in_full(0, vec![0; 3])], &[1], &[]);
-            case.length = 3;
+            if case.call.takes_pattern() {
+                case.pattern = vec![BLANK, 1, BLANK]; // the sentence doesn't fit it
+            } else {
+                case.length = 3;
+            }
         }
         16 => case.number = u64::MAX,
         17 => case.sentence[1] = 255,
         19 => case.history.truncate(24),
         20 => case.sentence.truncate(1),
+        21 => case.pattern[0] = 254,
         22 => case.voice = 16,
         23 => case.played = 2,
         _ => unreachable!("{refusal}"),
@@ -253,7 +339,7 @@ fn first_that_applies() {
         .collect();
     assert_eq!(reached, allowed);
     println!("{} pairs of a call and a refusal", reached.len() - CALLS.len());
-    assert_eq!(reached.len() - CALLS.len(), 87);
+    assert_eq!(reached.len() - CALLS.len(), 123);
 }
 
 // ---- Voices
@@ -393,6 +479,231 @@ fn voices_above_fifteen() {
         assert_eq!(pumpfennel::append(&mut history, &[1], voice, 0), Err(Refusal::BadVoice));
         assert_eq!(history, heard_01());
     }
+}
+
+// ---- Patterns
+
+fn left_matching(grammar: &[u8], history: &[u8], pattern: &[u8], voice: u64) -> Answer {
+    let (grammar, history, pattern) = (grammar.to_vec(), history.to_vec(), pattern.to_vec());
+    given(&Case { grammar, history, pattern, voice, ..Case::new(Call::RemainingMatching) })
+}
+
+fn draw_matching(grammar: &[u8], history: &[u8], pattern: &[u8], voice: u64, number: u64) -> Answer {
+    let (grammar, history, sentence) = (grammar.to_vec(), history.to_vec(), vec![7; pattern.len()]);
+    let pattern = pattern.to_vec();
+    given(&Case { grammar, history, pattern, voice, number, sentence, ..Case::new(Call::DrawMatching) })
+}
+
+/// Every draw with a pattern from 0 on until one is refused, with 16.
+fn every_draw_matching(grammar: &[u8], history: &[u8], pattern: &[u8], voice: u64) -> Vec<(u64, Vec<u8>)> {
+    let mut drawn = vec![];
+    loop {
+        let answer = draw_matching(grammar, history, pattern, voice, drawn.len() as u64);
+        if answer.refusal != 0 {
+            assert_eq!(answer.refusal, 16);
+            return drawn;
+        }
+        drawn.push((answer.figures[1], answer.buffer));
+    }
+}
+
+/// Every pattern of two to five bytes for F, over a history with some of the sentences: what the plain draws give, as
+/// far as it fits.
+#[test]
+fn every_pattern() {
+    let mut tried = 0;
+    for length in 2..=5usize {
+        let (grammar, full) = f_listed(length);
+        // Every third sentence in full, every fifth broken off, every seventh in another voice; two strangers.
+        let spoken = |voice, played, step| full.iter().step_by(step).map(move |words| (voice, played, words.clone()));
+        let all = spoken(3, 0, 3).chain(spoken(3, 1, 5)).chain(spoken(4, 0, 7));
+        let strangers = [vec![BLANK; length], [vec![1; length - 1], vec![BLANK]].concat()];
+        let all = all.chain(strangers.map(|words| (3, 0, words)));
+        let mut sentences: Vec<Spoken> = all.map(|(voice, played, words)| Spoken { voice, played, words }).collect();
+        Rng::new(SEED).shuffle(&mut sentences);
+        let history = in_order(&sentences);
+        let plain = every_draw(&grammar, &history, length as u64, 3);
+        for code in 0..3usize.pow(length as u32) {
+            let pattern: Vec<u8> = (0..length).map(|i| [0, 1, BLANK][code / 3usize.pow(i as u32) % 3]).collect();
+            let fitting = |words: &[u8]| reference::fits(words, &pattern);
+            let total = full.iter().filter(|words| fitting(words)).count() as u64;
+            let expected: Vec<(u64, Vec<u8>)> = plain.iter().filter(|(_, words)| fitting(words)).cloned().collect();
+            let left = expected.len() as u64;
+            assert_eq!(left_matching(&grammar, &history, &pattern, 3).figures, [total, total - left, left]);
+            assert_eq!(every_draw_matching(&grammar, &history, &pattern, 3), expected);
+            tried += 1;
+        }
+    }
+    assert_eq!(tried, 9 + 27 + 81 + 243);
+}
+
+/// Every byte as a pattern's, at every place and with several W: 21 where it is neither 255 nor a word. Nothing fits a
+/// word that no rule has.
+#[test]
+fn every_pattern_byte() {
+    for words in [1, 2, 127, 128, 253, 254, 255u8] {
+        let mut grammar = generate::f_words(words.min(2).into()).bytes();
+        grammar[1] = words;
+        let each = u64::from(words.min(2));
+        for (place, byte) in (0..4).flat_map(|place| (0..=255).map(move |byte| (place, byte))) {
+            let mut pattern = vec![BLANK; 4];
+            pattern[place] = byte;
+            let answer = left_matching(&grammar, &[0; 4], &pattern, 0);
+            let total = match byte {
+                BLANK => each.pow(4),
+                _ if u64::from(byte) < each => each.pow(3),
+                _ => 0,
+            };
+            assert_eq!(answer.refusal, if byte != BLANK && byte >= words { 21 } else { 0 }, "{words} {pattern:?}");
+            assert_eq!(answer.figures, [total, 0, total], "{words} {pattern:?}");
+            let first = draw_matching(&grammar, &[0; 4], &pattern, 0, 0).refusal;
+            assert_eq!(first, if answer.refusal == 0 && total == 0 { 16 } else { answer.refusal });
+        }
+    }
+}
+
+/// Patterns of every length up to 40 and of far longer ones: 9 but for 1 to 16, whatever their bytes are.
+#[test]
+fn every_pattern_length() {
+    let grammar = generate::f_words(2).bytes();
+    for length in (0..=40).chain([255, 256, 257, 258, 272, 512 + 2, 65536 + 2]) {
+        for byte in [BLANK, 1, 2, 254] {
+            let pattern = vec![byte; length];
+            let expected = match length {
+                1..=16 if [BLANK, 1].contains(&byte) => 0,
+                1..=16 => 21,
+                _ => 9,
+            };
+            let answer = left_matching(&grammar, &heard_01(), &pattern, 0);
+            assert_eq!(answer.refusal, expected, "{length} {byte}");
+            if expected == 0 && length > 1 {
+                let total = if byte == BLANK { 1 << length } else { 1 };
+                let heard = u64::from(length == 2 && byte == BLANK);
+                assert_eq!(answer.figures, [total, heard, total - heard]);
+            }
+            let case = Case { pattern, ..accepted(Call::DrawMatching) };
+            let expected = if (3..=16).contains(&length) && expected == 0 { 20 } else { expected };
+            let expected = if length == 1 && expected == 0 { 16 } else { expected }; // F has no sentence of one word
+            assert_eq!(given(&case).refusal, expected, "{length} {byte}");
+            assert_eq!(case::parse(&case.text(None)), [(case, None)]);
+        }
+    }
+}
+
+/// A sentence with several derivations, fitting the pattern or not: 15 in its voice where it was played in full, and no
+/// harm else. One that fits and is unheard is drawn with each of its derivations.
+#[test]
+fn ambiguous_and_not_fitting() {
+    let grammar = generate::g_words(2).bytes();
+    let full = reference::listed(&reference::read_grammar(&grammar).expect("an accepted grammar"), 3);
+    for (code, place) in (0..27usize).flat_map(|code| [(code, 0), (code, 1), (code, 2)]) {
+        let pattern: Vec<u8> = [1, 3, 9].map(|power| [0, 1, BLANK][code / power % 3]).to_vec();
+        let every = (0..).zip(full.clone()).filter(|(_, words)| reference::fits(words, &pattern));
+        let every: Vec<(u64, Vec<u8>)> = every.collect();
+        for words in [[0, 0, 0], [0, 1, 1], [1, 0, 1]] {
+            for (voice, played) in [(5, 0), (5, 1), (5, 2), (6, 0)] {
+                // Beside sentences of another length, and one without a derivation.
+                let mut sentences =
+                    [vec![0; 4], vec![1; 2], vec![BLANK; 3]].map(|words| Spoken::in_full(5, words)).to_vec();
+                sentences.insert(place, Spoken { voice, played, words: words.to_vec() });
+                let history = in_order(&sentences);
+                let (left, first) =
+                    (left_matching(&grammar, &history, &pattern, 5), draw_matching(&grammar, &history, &pattern, 5, 0));
+                if (voice, played) == (5, 0) {
+                    assert_eq!((left.refusal, first.refusal), (15, 15), "{pattern:?} {words:?}");
+                } else {
+                    assert_eq!(left.figures, [every.len() as u64, 0, every.len() as u64]);
+                    assert_eq!(every_draw_matching(&grammar, &history, &pattern, 5), every);
+                }
+            }
+        }
+    }
+}
+
+/// In a history 255 is a byte like any other: no sentence has it, and it is no blank.
+#[test]
+fn no_blanks_in_a_history() {
+    let (grammar, full) = f_listed(3);
+    let every: Vec<(u64, Vec<u8>)> = (0..).zip(full).collect();
+    let sentences =
+        [[BLANK; 3], [0, BLANK, 1], [BLANK, 0, 0], [1, 1, BLANK]].map(|words| Spoken::in_full(0, words.to_vec()));
+    let history = in_order(&sentences);
+    for pattern in [[BLANK; 3], [0, BLANK, 1], [BLANK, 0, 0], [1, 1, BLANK]] {
+        let fitting = every.iter().filter(|(_, words)| reference::fits(words, &pattern));
+        let fitting: Vec<(u64, Vec<u8>)> = fitting.cloned().collect();
+        let many = fitting.len() as u64;
+        assert_eq!(left_matching(&grammar, &history, &pattern, 0).figures, [many, 0, many]);
+        assert_eq!(every_draw_matching(&grammar, &history, &pattern, 0), fitting);
+    }
+}
+
+/// A pattern of blanks alone has the answer of the plain call to every question: refusal, figures and bytes.
+#[test]
+fn blanks_alone() {
+    for (plain, matching) in [(Call::Remaining, Call::RemainingMatching), (Call::Draw, Call::DrawMatching)] {
+        let (mut seen, mut lengths) = (BTreeSet::new(), BTreeSet::new());
+        for i in 0..8_000 {
+            let mut rng = Rng::of_case(SEED + 50, i);
+            let mut case = generate::case(&mut rng, plain);
+            if rng.once_in(20) {
+                case.length = rng.pick(&[0, 1, 16, 17]);
+            }
+            if case.length > 1 << 17 {
+                continue;
+            }
+            let pattern = vec![BLANK; case.length as usize];
+            let blanks = Case { call: matching, length: 0, pattern, ..case.clone() };
+            let answer = given(&case);
+            assert_eq!(given(&blanks), answer, "case {i}:\n{}", case.text(None));
+            seen.insert(answer.refusal);
+            lengths.insert(case.length.min(18));
+        }
+        let allowed: BTreeSet<u8> = [0].into_iter().chain(plain.refusals()).collect();
+        assert_eq!(seen, allowed, "the refusals of {}", plain.name());
+        assert!(lengths.into_iter().eq(0..=18));
+    }
+}
+
+/// For a pattern without blanks, left is how many derivations that sentence has, or 0 if it is heard. The draws are
+/// these derivations by rising number, from the lowest.
+#[test]
+fn no_blank_at_all() {
+    println!("seed {SEED}");
+    let (mut seen, mut accepted, mut i) = (BTreeMap::<(u64, bool), u64>::new(), 0, 0);
+    while accepted < 3_000 {
+        let case = generate::case(&mut Rng::of_case(SEED + 51, i), Call::RemainingMatching);
+        i += 1;
+        let Case { grammar, history, pattern, voice, .. } = &case;
+        if blanks(pattern) != Blanks::None {
+            continue;
+        }
+        let Ok(found) = pumpfennel::remaining_matching(grammar, history, pattern, *voice) else { continue };
+        let shown = case.text(None);
+        let heard = records(history).contains(&Record { voice: *voice as u8, played: 0, words: pattern });
+        let (derivations, lowest) = match pumpfennel::rank(grammar, pattern) {
+            Ok(ranked) => (ranked.derivations, ranked.number.0),
+            Err(refusal) => {
+                assert_eq!(refusal, Refusal::SentenceUnderivable, "{shown}");
+                (0, 0)
+            }
+        };
+        let left = if heard { 0 } else { derivations };
+        assert_eq!(found, Remaining { total: derivations, heard: derivations - left, remaining: left }, "{shown}");
+        let mut next = lowest;
+        for q in 0..left.min(50) {
+            let mut words = vec![7; pattern.len()];
+            let drawn = pumpfennel::draw_matching(grammar, history, pattern, *voice, DrawNumber(q), &mut words);
+            let number = drawn.expect("a draw below what is left").number.0;
+            assert!(&words == pattern && if q == 0 { number == lowest } else { number >= next }, "draw {q}\n{shown}");
+            next = number + 1;
+        }
+        let past = pumpfennel::draw_matching(grammar, history, pattern, *voice, DrawNumber(left), &mut [0; 16]);
+        assert_eq!(past, Err(Refusal::NumberBeyond), "{shown}");
+        *seen.entry((derivations.min(2), heard)).or_default() += 1;
+        accepted += 1;
+    }
+    println!("by derivations of the sentence, and whether it is heard: {seen:?}");
+    assert!(seen.len() == 5 && seen.values().all(|&many| many > 50), "{seen:?}");
 }
 
 // ---- Playback broken off
@@ -686,6 +997,75 @@ fn draws_as_one_list() {
     assert!(seen.iter().all(|&many| many > 100), "{seen:?}");
 }
 
+/// The same with a pattern: the draws are the unheard list's fitting entries, each with its number among all. Another
+/// history that bars the same of the fitting sentences alters nothing, whatever others with one derivation it bars.
+#[test]
+fn matching_draws_as_one_list() {
+    println!("seed {SEED}");
+    let (mut lists, mut draws, mut seen, mut i) = (0, 0, BTreeMap::<(Blanks, bool), u64>::new(), 0);
+    while lists < 3_000 {
+        let mut rng = Rng::of_case(SEED + 52, i);
+        i += 1;
+        let case = generate::case(&mut rng, Call::RemainingMatching);
+        let Case { grammar, history, pattern, voice, .. } = &case;
+        let Ok(found) = pumpfennel::remaining_matching(grammar, history, pattern, *voice) else { continue };
+        let shown = case.text(None);
+        let length = pattern.len();
+        let read = reference::read_grammar(grammar).expect("an accepted grammar");
+        if found.total == 0 || short_lists(&read) < length {
+            continue;
+        }
+        let records = records(history);
+        let full = reference::listed(&read, length);
+        let heard = |words: &[u8]| records.contains(&Record { voice: *voice as u8, played: 0, words });
+        let fitting = (0..).zip(full.iter().cloned()).filter(|(_, words)| reference::fits(words, pattern));
+        let fitting: Vec<(u64, Vec<u8>)> = fitting.collect();
+        let unheard: Vec<(u64, Vec<u8>)> = fitting.iter().filter(|(_, words)| !heard(words)).cloned().collect();
+        assert_eq!((found.total, found.remaining), (fitting.len() as u64, unheard.len() as u64), "{shown}");
+        *seen.entry((blanks(pattern), found.heard > 0)).or_default() += 1;
+
+        // The heard ones that fit, in another order and some twice; of the others that have one derivation any.
+        let struck = fitting.iter().filter(|(_, words)| heard(words));
+        let mut others: Vec<Vec<u8>> = struck.map(|(_, words)| words.clone()).collect();
+        others.extend_from_within(..others.len().min(3));
+        for _ in 0..rng.below(8) {
+            let words = full[rng.below(full.len())].clone();
+            let single = full.iter().filter(|entry| **entry == words).count() == 1;
+            if single && !reference::fits(&words, pattern) {
+                others.push(words);
+            }
+        }
+        others.push(vec![BLANK; length]);
+        rng.shuffle(&mut others);
+        let mut numbers: Vec<usize> = (1..=others.len()).collect();
+        rng.shuffle(&mut numbers);
+        let others: Vec<Spoken> = others.into_iter().map(|words| Spoken::in_full(*voice as u8, words)).collect();
+        let other = generate::history(&others, &numbers, &[9; 7]);
+
+        for history in [history, &other] {
+            assert_eq!(pumpfennel::remaining_matching(grammar, history, pattern, *voice), Ok(found), "{shown}");
+            let mut drawn = vec![];
+            for q in 0..found.remaining {
+                let mut buffer = vec![rng.byte(); length];
+                let answer = pumpfennel::draw_matching(grammar, history, pattern, *voice, DrawNumber(q), &mut buffer);
+                let answer = answer.unwrap_or_else(|refusal| panic!("draw {q}: {refusal}\n{shown}"));
+                assert_eq!(answer.remaining, found.remaining, "{shown}");
+                drawn.push((answer.number.0, buffer));
+            }
+            assert_eq!(drawn, unheard, "{shown}");
+            for q in [found.remaining, found.remaining + 1, full.len() as u64, 1 << 32, u64::MAX] {
+                let (q, mut words) = (DrawNumber(q), [0; 16]);
+                let answer = pumpfennel::draw_matching(grammar, history, pattern, *voice, q, &mut words);
+                assert_eq!(answer, Err(Refusal::NumberBeyond), "{q:?}\n{shown}");
+            }
+            draws += drawn.len();
+        }
+        lists += 1;
+    }
+    println!("{lists} lists, {draws} draws; by blanks, and whether a sentence that fits is heard: {seen:?}");
+    assert!(seen.len() == 6 && seen.values().all(|&many| many > 100), "{seen:?}");
+}
+
 /// A thousand sentences of the house matrix grammar, each drawn from what is left in a voice and then logged: all in
 /// one voice, and in sixteen in turn.
 #[test]
@@ -727,20 +1107,34 @@ fn empty_slices() {
     assert_eq!(pumpfennel::rank(&grammar, &[]), Err(Refusal::BadLength));
     assert_eq!(pumpfennel::remaining(&grammar, &[], 2, 0), Err(Refusal::HistoryWrongSize));
     assert_eq!(pumpfennel::draw(&grammar, &[0; 4], 2, 0, DrawNumber(0), &mut []), Err(Refusal::BufferTooShort));
+    assert_eq!(pumpfennel::remaining_matching(&grammar, &[0; 4], &[], 0), Err(Refusal::BadLength));
+    assert_eq!(pumpfennel::remaining_matching(&grammar, &[], &[0, 1], 0), Err(Refusal::HistoryWrongSize));
+    let drawn = pumpfennel::draw_matching(&grammar, &[0; 4], &[0, 1], 0, DrawNumber(0), &mut []);
+    assert_eq!(drawn, Err(Refusal::BufferTooShort));
     assert_eq!(pumpfennel::append(&mut [], &[1], 0, 0), Err(Refusal::HistoryWrongSize));
     assert_eq!(pumpfennel::append(&mut [0; 24], &[], 0, 0), Err(Refusal::BadLength));
 }
 
-/// The stack that the crate names is enough for the largest call, with what a thread takes itself.
+/// What a call gives in a thread with so many bytes of stack, and what a thread takes itself.
+fn in_stack<T: Send + 'static>(size: usize, call: impl FnOnce() -> T + Send + 'static) -> T {
+    let thread = std::thread::Builder::new().stack_size(size + (16 << 10)).spawn(call).expect("a thread");
+    thread.join().expect("an answer")
+}
+
+/// The stack that the crate names is enough for the largest calls.
 #[test]
 fn stack() {
     let grammar = generate::f_words(15).bytes();
     let sentences: Vec<Spoken> = (0..1000).map(|i| Spoken::in_full(0, vec![(i % 15) as u8; 16])).collect();
     let history = in_order(&sentences);
-    let call = move || pumpfennel::draw(&grammar, &history, 16, 0, DrawNumber(5), &mut [0; 16]);
-    let size = pumpfennel::LARGE_STACK + (16 << 10);
-    let thread = std::thread::Builder::new().stack_size(size).spawn(call).expect("a thread");
-    assert!(thread.join().expect("an answer").is_ok());
+    let (same_grammar, same_history) = (grammar.clone(), history.clone());
+    let plain = move || pumpfennel::draw(&grammar, &history, 16, 0, DrawNumber(5), &mut [0; 16]);
+    let matching = move || {
+        pumpfennel::draw_matching(&same_grammar, &same_history, &[BLANK; 16], 0, DrawNumber(5), &mut [0; 16])
+    };
+    let drawn = in_stack(pumpfennel::LARGE_STACK, plain);
+    assert!(drawn.is_ok());
+    assert_eq!(in_stack(pumpfennel::MATCHING_STACK, matching), drawn);
 }
 
 /// A number that the header defines.
@@ -754,9 +1148,11 @@ fn of_header(name: &str) -> u64 {
 fn limits_are_the_headers() {
     let limits = [
         ("LONGEST_SENTENCE", pumpfennel::LONGEST_SENTENCE),
+        ("BLANK", usize::from(BLANK)),
         ("LARGEST_GRAMMAR", pumpfennel::LARGEST_GRAMMAR),
         ("MOST_RECORDS", pumpfennel::MOST_RECORDS),
         ("LARGEST_HISTORY", pumpfennel::LARGEST_HISTORY),
+        ("MATCHING_STACK", pumpfennel::MATCHING_STACK),
         ("LARGE_STACK", pumpfennel::LARGE_STACK),
         ("SMALL_STACK", pumpfennel::SMALL_STACK),
     ];

@@ -1,6 +1,8 @@
 //! Each refusal by its name: a call that is refused for just that, and words that its text has and no other. Calls and
 //! words are written by hand and come from no list, so that two exchanged names or meanings are noticed.
-use pumpfennel::{DerivationNumber, Refusal, append, check_grammar, check_history, count, rank, remaining, unrank};
+use pumpfennel::{
+    DerivationNumber, Refusal, append, check_grammar, check_history, count, rank, remaining, remaining_matching, unrank,
+};
 
 /// S is word 0, and nothing else.
 const ONE: &[u8] = &[1, 1, 1, 0, /* head */ 1, /* rule 1 */ 0, 0, 0, 0];
@@ -63,6 +65,8 @@ fn rows() -> Vec<(Refusal, Option<Refusal>, &'static str)> {
         (Refusal::HistoryFull, of(append(&mut [0; 4], &[0], 0, 0)), "no room"),
         // one word, and room for none
         (Refusal::BufferTooShort, of(unrank(ONE, 1, DerivationNumber(0), &mut [])), "buffer"),
+        // word 1 of 1
+        (Refusal::BadPattern, of(remaining_matching(ONE, &[0; 4], &[1], 0)), "pattern"),
         (Refusal::BadVoice, of(append(&mut [0; 24], &[0], 16, 0)), "above 15"),
         // one word, and playback broken off after it
         (Refusal::BadPlayed, of(append(&mut [0; 24], &[0], 0, 1)), "words played is"),
@@ -82,8 +86,7 @@ fn by_name() {
 
 #[test]
 fn by_number() {
-    // there is no 21
-    let numbers: Vec<u8> = (1..=20).chain([22, 23]).collect();
+    let numbers: Vec<u8> = (1..=23).collect();
     assert_eq!(Refusal::ALL.map(Refusal::number)[..], numbers);
     for refusal in Refusal::ALL {
         assert_eq!(Refusal::from_number(refusal.number()), Some(refusal));

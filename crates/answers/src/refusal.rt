@@ -22,6 +22,7 @@ pub enum Refusal {
     SentenceUnderivable,
     HistoryFull,
     BufferTooShort,
+    BadPattern,
     BadVoice,
     BadPlayed,
 }
@@ -50,6 +51,7 @@ pub fn number(r: Refusal) -> u8
         Refusal::SentenceUnderivable => 17,
         Refusal::HistoryFull => 19,
         Refusal::BufferTooShort => 20,
+        Refusal::BadPattern => 21,
         Refusal::BadVoice => 22,
         Refusal::BadPlayed => 23,
     }

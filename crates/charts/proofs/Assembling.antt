@@ -13,7 +13,7 @@ use Rattle.grammar.proofs.Ruling.{pair-place, pair-below}
 use Rattle.counting.specs.Totals.{T}
 use Rattle.counting.specs.Inner.Counted.{Asked, Counted}
 use Rattle.counting.proofs.Asking.{asked-left, asked-right}
-use Rattle.charts.specs.Inner.Plan.{Cut}
+use Rattle.charts.specs.Inner.Plan.{chartRow, Cut}
 use Rattle.charts.specs.Inner.Planning.{at, SidedAs, AllWantedAs, AllCutAs, Spots, SpottedAs, PlacedAs, Plans, BuiltAs}
 use Rattle.charts.proofs.Placing.{placed-rows}
 
@@ -64,12 +64,13 @@ four-rows (x ∷ y ∷ z ∷ w ∷ v ∷ l) a b d e h = absurd (omega arith)
 module _ (plan : List (List ℕ)) (long : length plan ≡ 4) (a b d e : List ℕ) {rules totals map after : List (List ℕ)} {n N end lefts rights : ℕ}
     (p : Plans rules totals n plan map) (eN : N ≡ countIn rules) (ee : end ≡ pairFrom rules (countIn rules)) (ws : AllWantedAs totals N n d)
     (ss : SidedAs rules end e lefts rights) (ks : AllCutAs d lefts rights n a) (hn : at a 0 ≡ n) (ps : SpottedAs a n 1 b)
-    (rs : PlacedAs b n (n + 1) map after) where
+    (rs : PlacedAs b chartRow n (n + 1) map after) where
   pub built : BuiltAs rules n map (set (set (set (set plan 0 a) 1 b) 2 d) 3 e) after
   built =
       rw (four-rows plan a b d e long)
       (record {
         planned = record {
+          behind = omega arith;
           length = hn;
           cut = assembled (p .counted) eN ee ws ss ks ps;
           rows = placed-rows (a ∷ b ∷ d ∷ e ∷ []) rs refl;

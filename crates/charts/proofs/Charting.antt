@@ -21,17 +21,18 @@ use Rattle.counting.specs.Totals.{total, T}
 use Rattle.counting.specs.Refusals.{most}
 use Rattle.counting.specs.Inner.Counted.{Asked}
 use Rattle.counting.proofs.Counts.{total-le}
-use Rattle.counting.proofs.Asking.{counted-rows, total-dead}
+use Rattle.counting.proofs.Asking.{total-dead}
 use Rattle.charts.specs.Inner.Letters.{letterAt, weightBy}
 use Rattle.charts.specs.Inner.Maps.{rowAt, totalAt, Span}
-use Rattle.charts.specs.Inner.Plan.{cuts, spots, wanted, needed, noneRow, chartRow, room, Cut, Rowed}
-use Rattle.charts.specs.Inner.Chart.{Clean, Fills, Filled, ChartedAs}
+use Rattle.charts.specs.Inner.Plan.{cuts, spots, wanted, needed, Cut, Rowed}
+use Rattle.charts.specs.Inner.Chart.{Beside, Clean, Fills, Filled, ChartedAs}
 use Rattle.charts.specs.Inner.Filling.{only, cutsSum, spanSum, Makes, Half, Spans, SpannedAs, Done, FilledTo, LengthenedAs, Lengthens}
+use Rattle.charts.proofs.Mapping.{blank-kept}
 use Rattle.charts.proofs.Totalling.{letter-le, cuts-total, leaf-total}
 
 -- ---- what filling asks
 
-module _ {rules plan map : List (List ℕ)} {n : ℕ} {sets : List ℕ} {totals : List (List ℕ)} (q : Fills rules plan map n sets totals) where
+module _ {rules plan map : List (List ℕ)} {first n : ℕ} {sets : List ℕ} {totals : List (List ℕ)} (q : Fills rules plan map first n sets totals) where
   -- totals of weights up to 1 fit
   pub totals-fit : (p A m : ℕ) → Asked rules n A m → Span n p m → total (ruled rules) (weightBy rules map) p A m ≤ most
   totals-fit p A m a s =
@@ -41,31 +42,25 @@ module _ {rules plan map : List (List ℕ)} {n : ℕ} {sets : List ℕ} {totals 
         q .blank .counted .fits A m a,
       )
 
-  -- it holds still where the rows below the chart are as they were
-  pub fills-kept : {sets′ : List ℕ} {totals′ : List (List ℕ)} → Clean n sets′ totals′ → length totals′ ≡ length totals → Wide totals′ 32
-      → ((r : ℕ) → r < chartRow → getD totals′ r [] ≡ getD totals r []) → Fills rules plan map n sets′ totals′
-  fills-kept clean lt w k =
-      let c = q .blank .counted in
-      record {
-        blank = record {
-          counted = counted-rows c (omega (arith, c .long)) w (λ r h. k r (omega (arith, c .short)));
-          zeros = λ A. ap (λ (l : List ℕ). getD l A 0) (k noneRow (omega arith)) ∙ q .blank .zeros A;
-          room = omega (arith, q .blank .room);
-        };
-        planned = q .planned;
-        linked = q .linked;
-        letters = q .letters;
-        clean = clean;
-      }
+  -- it holds still where the rows outside the chart are as they were
+  pub fills-kept : {sets′ : List ℕ} {totals′ : List (List ℕ)} → Clean first n sets′ totals′ → length totals′ ≡ length totals → Wide totals′ 32
+      → ((r : ℕ) → Beside first n r → getD totals′ r [] ≡ getD totals r []) → Fills rules plan map first n sets′ totals′
+  fills-kept clean lt w k = record {
+    blank = blank-kept (q .blank) (q .planned .behind) lt w k;
+    planned = q .planned;
+    linked = q .linked;
+    letters = q .letters;
+    clean = clean;
+  }
 
 -- ---- the row of one span
 
-module _ {rules plan map : List (List ℕ)} {n m left : ℕ} {sets : List ℕ} {totals : List (List ℕ)} (f : FilledTo rules plan map n m left sets totals)
+module _ {rules plan map : List (List ℕ)} {first n m left : ℕ} {sets : List ℕ} {totals : List (List ℕ)} (f : FilledTo rules plan map first n m left sets totals)
     (some : 1 ≤ m) (short : m ≤ n) (p : ℕ) (low : p < 32) (need : needed plan p m ≡ true) where
   abbrev cut : Cut rules plan n
   cut = f .fills .planned .cut
 
-  abbrev rows : Rowed plan map n
+  abbrev rows : Rowed plan map first n
   rows = f .fills .planned .rows
 
   n-low : n ≤ 16
@@ -180,7 +175,7 @@ module _ {rules plan map : List (List ℕ)} {n m left : ℕ} {sets : List ℕ} {
         ap (λ (l : List ℕ). getD l A 0) (d .made .others (rowAt map i j) n) ∙ e A a
 
     -- every row is 0 outside its set: this one outside its new set, the others have theirs still
-    span-clean : Clean n sets′ totals′
+    span-clean : Clean first n sets′ totals′
     span-clean = record {
       beside = omega (arith, f .fills .clean .beside, d .long);
       zero = λ r A c u l z.
@@ -192,10 +187,10 @@ module _ {rules plan map : List (List ℕ)} {n m left : ℕ} {sets : List ℕ} {
           ];
     }
 
-    pub span-kept : (r : ℕ) → r < chartRow → getD totals′ r [] ≡ getD totals r []
-    span-kept r h = d .made .others r (λ e. omega (arith, rows .some p m span need .0))
+    pub span-kept : (r : ℕ) → Beside first n r → getD totals′ r [] ≡ getD totals r []
+    span-kept r h = let w = rows .some p m span need in d .made .others r (λ e. h (omega (arith, w .0)) (omega (arith, w .1)))
 
-    pub span-next : (next : ℕ) → members left ≡ p ∷ members next → FilledTo rules plan map n m next sets′ totals′
+    pub span-next : (next : ℕ) → members left ≡ p ∷ members next → FilledTo rules plan map first n m next sets′ totals′
     span-next next t = record {
       fills = fills-kept (f .fills) span-clean (d .made .long) (d .made .wide) span-kept;
       shorter = λ i j s l h. other-done i j s h (λ e. omega (arith, e .1)) (f .shorter i j s l h);
@@ -209,10 +204,10 @@ module _ {rules plan map : List (List ℕ)} {n m left : ℕ} {sets : List ℕ} {
 
 -- ---- all spans
 
-module _ {rules plan map : List (List ℕ)} {n : ℕ} where
+module _ {rules plan map : List (List ℕ)} {first n : ℕ} where
   -- before the spans of the length 1
-  pub lengths-start : {sets : List ℕ} {totals : List (List ℕ)} → Fills rules plan map n sets totals
-      → LengthenedAs rules plan map n 1 (spots plan 1) sets totals sets totals
+  pub lengths-start : {sets : List ℕ} {totals : List (List ℕ)} → Fills rules plan map first n sets totals
+      → LengthenedAs rules plan map first n 1 (spots plan 1) sets totals sets totals
   lengths-start q = record {
     filled = record {
       fills = q;
@@ -226,8 +221,8 @@ module _ {rules plan map : List (List ℕ)} {n : ℕ} where
 
   -- on to the next length
   pub lengths-next : (m : ℕ) {sets sets′ sets″ : List ℕ} {totals totals′ totals″ : List (List ℕ)}
-      → LengthenedAs rules plan map n m (spots plan m) sets totals sets′ totals′ → LengthenedAs rules plan map n m 0 sets′ totals′ sets″ totals″
-      → LengthenedAs rules plan map n (m + 1) (spots plan (m + 1)) sets totals sets″ totals″
+      → LengthenedAs rules plan map first n m (spots plan m) sets totals sets′ totals′ → LengthenedAs rules plan map first n m 0 sets′ totals′ sets″ totals″
+      → LengthenedAs rules plan map first n (m + 1) (spots plan (m + 1)) sets totals sets″ totals″
   lengths-next m a b = record {
     filled = record {
       fills = b .filled .fills;
@@ -247,7 +242,7 @@ module _ {rules plan map : List (List ℕ)} {n : ℕ} where
 
   -- past the longest
   pub lengths-end : (m : ℕ) {sets sets′ : List ℕ} {totals totals′ : List (List ℕ)} → n < m
-      → LengthenedAs rules plan map n m (spots plan m) sets totals sets′ totals′ → Filled rules plan map n totals totals′
+      → LengthenedAs rules plan map first n m (spots plan m) sets totals sets′ totals′ → Filled rules plan map first n totals totals′
   lengths-end m {totals′ = totals′} past w =
       let q = w .filled .fills in
       let rows = q .planned .rows in
@@ -265,46 +260,49 @@ module _ {rules plan map : List (List ℕ)} {n : ℕ} where
         };
       }
     where
+      whole : Span n 0 n
+      whole = record { some = w .filled .fills .blank .counted .some; inside = omega arith }
+
       low : (p m : ℕ) → Span n p m → (t : Bool) → needed plan p m ≡ t → rowAt map p m < length totals′
       low p m s true h = omega (arith, w .filled .fills .planned .rows .some p m s h .1, w .filled .fills .blank .room)
-      low p m s false h = omega (arith, w .filled .fills .planned .rows .none p m s h, w .filled .fills .blank .room)
+      low p m s false h = omega (arith, w .filled .fills .planned .rows .none p m s h, w .filled .fills .planned .behind, w .filled .fills .planned .rows .some 0 n whole (w .filled .fills .planned .cut .whole) .1, w .filled .fills .blank .room)
 
       below : (p A m : ℕ) → Asked rules n A m → Span n p m → (t : Bool) → needed plan p m ≡ t
           → totalAt totals′ map p A m ≤ total (ruled rules) (weightBy rules map) p A m
       below p A m a s true h = omega (arith, w .filled .shorter p m s (omega (arith, s .inside)) h A a)
       below p A m a s false h = rw (w .filled .fills .planned .rows .none p m s h) (omega (arith, w .filled .fills .blank .zeros A))
 
--- before the positions in `left`, whatever n the plan is for
+-- before the positions in `left`, whatever n the plan is for and wherever the chart begins
 pub record LengthWalk (rules plan map : List (List ℕ)) (m left : ℕ) (sets : List ℕ) (totals : List (List ℕ)) (sets′ : List ℕ) (totals′ : List (List ℕ)) : Type 0 where
   pub among : (p : ℕ) → p ∈ members left → p ∈ members (spots plan m)
-  pub done : (n : ℕ) → Lengthens rules plan map n m sets totals → LengthenedAs rules plan map n m left sets totals sets′ totals′
+  pub done : (first n : ℕ) → Lengthens rules plan map first n m sets totals → LengthenedAs rules plan map first n m left sets totals sets′ totals′
 
 module _ {rules plan map : List (List ℕ)} {m : ℕ} {sets : List ℕ} {totals : List (List ℕ)} where
   pub length-start : LengthWalk rules plan map m (spots plan m) sets totals sets totals
   length-start = record {
     among = λ p i. i;
-    done = λ n q. record { filled = q .filled; sets-long = refl; long = refl; kept = λ r h. refl };
+    done = λ first n q. record { filled = q .filled; sets-long = refl; long = refl; kept = λ r h. refl };
   }
 
   module _ {left : ℕ} {sets′ : List ℕ} {totals′ : List (List ℕ)} (w : LengthWalk rules plan map m left sets totals sets′ totals′) where
-    pub length-end : left ≡ 0 → (n : ℕ) → Lengthens rules plan map n m sets totals → LengthenedAs rules plan map n m 0 sets totals sets′ totals′
-    length-end e n q = rw e at (w .done n q)
+    pub length-end : left ≡ 0 → (first n : ℕ) → Lengthens rules plan map first n m sets totals → LengthenedAs rules plan map first n m 0 sets totals sets′ totals′
+    length-end e first n q = rw e at (w .done first n q)
 
-    module _ (p : ℕ) (first : members left ≡ p ∷ drop 1 (members left)) where
+    module _ (p : ℕ) (least : members left ≡ p ∷ drop 1 (members left)) where
       spot : (p < 32) × (needed plan p m ≡ true)
-      spot = members-∈ (spots plan m) p (w .among p (rw first (List·Memᴰ·head refl)))
+      spot = members-∈ (spots plan m) p (w .among p (rw least (List·Memᴰ·head refl)))
 
-      pub length-asks : (n : ℕ) → Lengthens rules plan map n m sets totals → Spans rules plan map p m sets′ totals′
-      length-asks n q = span-asks (w .done n q .filled) (q .some) (q .short) p (spot .0) (spot .1)
+      pub length-asks : (first n : ℕ) → Lengthens rules plan map first n m sets totals → Spans rules plan map p m sets′ totals′
+      length-asks first n q = span-asks (w .done first n q .filled) (q .some) (q .short) p (spot .0) (spot .1)
 
       pub length-step : {sets″ : List ℕ} {totals″ : List (List ℕ)} (next : ℕ) → members next ≡ drop 1 (members left)
           → SpannedAs rules plan map p m sets′ totals′ sets″ totals″ → LengthWalk rules plan map m next sets totals sets″ totals″
       length-step next rest d = record {
-        among = λ i j. w .among i (rw first (List·Memᴰ·tail (rw rest at j)));
-        done = λ n q.
-            let a = w .done n q in
+        among = λ i j. w .among i (rw least (List·Memᴰ·tail (rw rest at j)));
+        done = λ first n q.
+            let a = w .done first n q in
             record {
-              filled = span-next (a .filled) (q .some) (q .short) p (spot .0) (spot .1) d next (turn left p first next rest);
+              filled = span-next (a .filled) (q .some) (q .short) p (spot .0) (spot .1) d next (turn left p least next rest);
               sets-long = d .long ∙ a .sets-long;
               long = d .made .long ∙ a .long;
               kept = λ r h. span-kept (a .filled) (q .some) (q .short) p (spot .0) (spot .1) d r h ∙ a .kept r h;
@@ -313,23 +311,24 @@ module _ {rules plan map : List (List ℕ)} {m : ℕ} {sets : List ℕ} {totals 
 
 -- ---- length after length
 
--- before the length m
+-- before the length m, wherever the chart begins
 pub record FillWalk (rules plan map : List (List ℕ)) (n m : ℕ) (sets : List ℕ) (totals : List (List ℕ)) (sets′ : List ℕ) (totals′ : List (List ℕ)) : Type 0 where
   pub some : 1 ≤ m
   pub short : m ≤ n + 1
-  pub done : LengthenedAs rules plan map n m (spots plan m) sets totals sets′ totals′
+  pub done : (first : ℕ) → Fills rules plan map first n sets totals → LengthenedAs rules plan map first n m (spots plan m) sets totals sets′ totals′
 
 module _ {rules plan map : List (List ℕ)} {n : ℕ} {sets : List ℕ} {totals : List (List ℕ)} where
-  pub fill-start : Fills rules plan map n sets totals → FillWalk rules plan map n 1 sets totals sets totals
-  fill-start q = record { some = omega arith; short = omega arith; done = lengths-start q }
+  pub fill-start : FillWalk rules plan map n 1 sets totals sets totals
+  fill-start = record { some = omega arith; short = omega arith; done = λ first q. lengths-start q }
 
   module _ {m : ℕ} {sets′ : List ℕ} {totals′ : List (List ℕ)} (w : FillWalk rules plan map n m sets totals sets′ totals′) where
-    pub fill-asks : m ≤ n → Lengthens rules plan map n m sets′ totals′
-    fill-asks h = record { some = w .some; short = h; filled = w .done .filled }
+    pub fill-asks : (first : ℕ) → Fills rules plan map first n sets totals → m ≤ n → Lengthens rules plan map first n m sets′ totals′
+    fill-asks first q h = record { some = w .some; short = h; filled = w .done first q .filled }
 
-    pub fill-step : m ≤ n → {sets″ : List ℕ} {totals″ : List (List ℕ)} → LengthenedAs rules plan map n m 0 sets′ totals′ sets″ totals″
+    pub fill-step : m ≤ n → {sets″ : List ℕ} {totals″ : List (List ℕ)}
+        → ((first : ℕ) → Lengthens rules plan map first n m sets′ totals′ → LengthenedAs rules plan map first n m 0 sets′ totals′ sets″ totals″)
         → FillWalk rules plan map n (m + 1) sets totals sets″ totals″
-    fill-step h d = record { some = omega arith; short = omega arith; done = lengths-next m (w .done) d }
+    fill-step h d = record { some = omega arith; short = omega arith; done = λ first q. lengths-next m (w .done first q) (d first (fill-asks first q h)) }
 
-    pub fill-end : n < m → ChartedAs rules plan map n totals sets′ totals′
-    fill-end h = record { filled = lengths-end m h (w .done); clean = w .done .filled .fills .clean }
+    pub fill-end : n < m → (first : ℕ) → Fills rules plan map first n sets totals → ChartedAs rules plan map first n totals sets′ totals′
+    fill-end h first q = record { filled = lengths-end m h (w .done first q); clean = w .done first q .filled .fills .clean }

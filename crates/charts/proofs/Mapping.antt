@@ -2,12 +2,16 @@
 -- for 1, so a total is a count; the spans that a plan needs are closed under halving.
 -- Assumes nothing.
 use mathlib.Core.Path.{_≡_, refl, sym, ap, _∙_}
-use mathlib.Core.Bool.{Bool, true}
+use mathlib.Core.Bool.{Bool, true, false, _&&_, _||_}
 use mathlib.Core.List.{List, []}
 use Prim.Native.Nat.{ℕ, zero, suc, _+_, _≤_, _<_}
 use native.Mathlib.Omega.{arith}
+use native.Mathlib.Decide.{ℕ-discrete}
 use borrow.Author.Count.{below-more}
-use lib.ListN.{length, getD, set, length-set, getD-replicate}
+use borrow.Author.Tests.{eq-eqb, ne-eqb}
+use lib.Dec.{eqb}
+use lib.ListN.{length, getD, set, drop, length-set, getD-replicate, drop-of-length-le}
+use lib.Seq.{drop-cons}
 use Rattle.lists.specs.Inner.Tables.{entry, put, Wide}
 use Rattle.lists.proofs.Tables.{put-same, put-row, put-beside, wide-put}
 use Rattle.grammar.specs.Inner.Rules.{ruled}
@@ -15,11 +19,11 @@ use Rattle.counting.specs.Totals.{total, T}
 use Rattle.counting.specs.Inner.Counted.{Asked, Counted}
 use Rattle.grammar.specs.Inner.Links.{LinkedAs}
 use Rattle.counting.proofs.Totals.{total-within, T-anywhere}
-use Rattle.counting.proofs.Asking.{counted-kept}
-use Rattle.charts.specs.Inner.Chart.{Blank, Clean}
-use Rattle.charts.specs.Inner.Letters.{any, letterAt, letterWeight, weightBy}
+use Rattle.counting.proofs.Asking.{counted-rows, counted-kept}
+use Rattle.charts.specs.Inner.Chart.{Blank, Beside, Clean, Filled}
+use Rattle.charts.specs.Inner.Letters.{any, letterAt, letterWeight, weightBy, letterOf, stands}
 use Rattle.charts.specs.Inner.Maps.{rowAt, totalAt, Span, Closed, Mapped, Everywhere, rowsFrom, countsMap, LetteredAs}
-use Rattle.charts.specs.Inner.Plan.{needed, chartRow, room, Planned}
+use Rattle.charts.specs.Inner.Plan.{needed, noneRow, chartRow, endOf, Planned}
 
 -- ---- the map of plain counts
 
@@ -38,36 +42,67 @@ counts-map = record { row = counts-row; letter = λ p h. getD-replicate 16 p any
 
 -- ---- letters
 
--- the first p words are there
-pub record LetteredTo (sentence : List ℕ) (k : ℕ) (before after : List (List ℕ)) : Type 0 where
+-- the letters of the first k words are there
+pub record LetteredTo (blank : ℕ) (words : List ℕ) (k : ℕ) (before after : List (List ℕ)) : Type 0 where
   pub long : length after ≡ 17
   pub wide : Wide after 16
-  pub letters : (p : ℕ) → p < k → letterAt after p ≡ getD sentence p 0
-  pub small : (p : ℕ) → p < k → letterAt after p < 256
+  pub letters : (p : ℕ) → p < k → letterAt after p ≡ letterOf blank (getD words p 0)
+  pub bytes : (p : ℕ) → p < k → getD words p 0 < 256
   pub kept : (r : ℕ) → 1 ≤ r → getD after r [] ≡ getD before r []
 
-pub lettered-start : {sentence : List ℕ} {map : List (List ℕ)} → length map ≡ 17 → Wide map 16 → LetteredTo sentence 0 map map
-lettered-start long wide =
-    record { long = long; wide = wide; letters = λ p h. absurd (omega arith); small = λ p h. absurd (omega arith); kept = λ r h. refl }
+module _ {blank : ℕ} {words : List ℕ} where
+  pub lettered-start : {map : List (List ℕ)} → length map ≡ 17 → Wide map 16 → LetteredTo blank words 0 map map
+  lettered-start long wide =
+      record { long = long; wide = wide; letters = λ p h. absurd (omega arith); bytes = λ p h. absurd (omega arith); kept = λ r h. refl }
 
-pub lettered-turn : {sentence : List ℕ} {k : ℕ} {before map : List (List ℕ)} → LetteredTo sentence k before map → k < 16 → getD sentence k 0 < 256
-    → LetteredTo sentence (k + 1) before (put map 0 k (getD sentence k 0))
-lettered-turn {sentence} {k} {before} {map} w low byte =
-    let first : 0 < length map = omega (arith, w .long) in
-    let here : letterAt (put map 0 k (getD sentence k 0)) k ≡ getD sentence k 0 = put-same map 0 k (getD sentence k 0) first (omega (arith, w .wide .row 0 first)) in
-    record {
-      long = length-set map 0 (set (getD map 0 []) k (getD sentence k 0)) ∙ w .long;
-      wide = wide-put map 16 0 k (getD sentence k 0) (w .wide);
-      letters = below-more (λ p. letterAt (put map 0 k (getD sentence k 0)) p ≡ getD sentence p 0) k
-          (λ p h. put-beside map 0 k (getD sentence k 0) p first (λ e. omega arith) ∙ w .letters p h) here;
-      small = below-more (λ p. letterAt (put map 0 k (getD sentence k 0)) p < 256) k
-          (λ p h. omega (arith, put-beside map 0 k (getD sentence k 0) p first (λ e. omega arith), w .small p h)) (omega arith);
-      kept = λ r h. put-row map 0 k (getD sentence k 0) r (λ e. omega arith) ∙ w .kept r h;
-    }
+  pub lettered-turn : {k x : ℕ} {before map : List (List ℕ)} → LetteredTo blank words k before map → k < 16 → x ≡ letterOf blank (getD words k 0)
+      → getD words k 0 < 256 → LetteredTo blank words (k + 1) before (put map 0 k x)
+  lettered-turn {k} {x} {before} {map} w low is byte =
+      let first : 0 < length map = omega (arith, w .long) in
+      let here : letterAt (put map 0 k x) k ≡ x = put-same map 0 k x first (omega (arith, w .wide .row 0 first)) in
+      record {
+        long = length-set map 0 (set (getD map 0 []) k x) ∙ w .long;
+        wide = wide-put map 16 0 k x (w .wide);
+        letters = below-more (λ p. letterAt (put map 0 k x) p ≡ letterOf blank (getD words p 0)) k
+            (λ p h. put-beside map 0 k x p first (λ e. omega arith) ∙ w .letters p h) (here ∙ is);
+        bytes = below-more (λ p. getD words p 0 < 256) k (w .bytes) byte;
+        kept = λ r h. put-row map 0 k x r (λ e. omega arith) ∙ w .kept r h;
+      }
 
-pub lettered-end : {sentence : List ℕ} {k : ℕ} {before after : List (List ℕ)} → LetteredTo sentence k before after → k ≡ length sentence → LetteredAs sentence before after
-lettered-end w e =
-    record { long = w .long; wide = w .wide; letters = λ p h. w .letters p (omega arith); small = λ p h. w .small p (omega arith); kept = w .kept }
+  pub lettered-end : {k : ℕ} {before after : List (List ℕ)} → LetteredTo blank words k before after → k ≡ length words → LetteredAs blank words before after
+  lettered-end w e =
+      record { long = w .long; wide = w .wide; letters = λ p h. w .letters p (omega arith); bytes = λ p h. w .bytes p (omega arith); kept = w .kept }
+
+-- a byte's letter asks for a word or for any; where no byte is a blank, for that word
+pub letter-low : (blank x : ℕ) → x < 256 → letterOf blank x ≤ any
+letter-low blank x h =
+    elim (ℕ-discrete x blank) [
+      | yes e ↦ rw (eq-eqb x blank e) (omega arith)
+      | no e ↦ rw (ne-eqb x blank e) (omega arith)
+    ]
+
+pub letter-itself : (x : ℕ) → x < 256 → letterOf any x ≡ x
+letter-itself x h = rw (ne-eqb x any (λ e. omega arith))
+
+-- ---- words that stand, one after another
+
+module _ (map : List (List ℕ)) where
+  pub stands-end : (p : ℕ) (s : List ℕ) → length s ≤ p → stands map p (drop p s) ≡ true
+  stands-end p s h = ap (stands map p) (drop-of-length-le s h)
+
+  -- the word at p
+  step : (p : ℕ) (s : List ℕ) → p < length s
+      → stands map p (drop p s) ≡ ((eqb (letterAt map p) any || eqb (letterAt map p) (getD s p 0)) && stands map (suc p) (drop (suc p) s))
+  step p s h = ap (stands map p) (drop-cons s p 0 h)
+
+  -- a word that stands, and one that doesn't
+  pub stands-more : (p : ℕ) (s : List ℕ) → p < length s → (eqb (letterAt map p) any || eqb (letterAt map p) (getD s p 0)) ≡ true
+      → stands map (suc p) (drop (suc p) s) ≡ stands map p (drop p s)
+  stands-more p s h e = sym (step p s h ∙ rw e)
+
+  pub stands-fails : (p : ℕ) (s : List ℕ) → p < length s → (eqb (letterAt map p) any || eqb (letterAt map p) (getD s p 0)) ≡ false
+      → stands map p (drop p s) ≡ false
+  stands-fails p s h e = step p s h ∙ rw e
 
 -- ---- plain counts
 
@@ -109,7 +144,7 @@ all-closed rules n = record { whole = refl; halves = λ A B C p m k a i s h l t 
 -- ---- planned maps
 
 -- the needed spans
-pub planned-closed : {rules plan map : List (List ℕ)} {n : ℕ} → n ≤ 16 → Planned rules plan map n → Closed rules n (needed plan)
+pub planned-closed : {rules plan map : List (List ℕ)} {first n : ℕ} → n ≤ 16 → Planned rules plan map first n → Closed rules n (needed plan)
 planned-closed short w =
     record {
       whole = w .cut .whole;
@@ -119,10 +154,11 @@ planned-closed short w =
     }
 
 -- a map with other letters
-pub planned-same : {rules plan map : List (List ℕ)} {n : ℕ} (after : List (List ℕ)) → ((r : ℕ) → 1 ≤ r → getD after r [] ≡ getD map r [])
-    → Planned rules plan map n → Planned rules plan after n
+pub planned-same : {rules plan map : List (List ℕ)} {first n : ℕ} (after : List (List ℕ)) → ((r : ℕ) → 1 ≤ r → getD after r [] ≡ getD map r [])
+    → Planned rules plan map first n → Planned rules plan after first n
 planned-same {map = map} {n = n} after same w =
     record {
+      behind = w .behind;
       length = w .length;
       cut = w .cut;
       rows = record {
@@ -136,16 +172,45 @@ planned-same {map = map} {n = n} after same w =
     is p m s = ap (λ (l : List ℕ). getD l p 0) (same m (s .some))
 
 -- linking the rules leaves the counts
-pub linked-blank : {rules after totals : List (List ℕ)} {n : ℕ} → LinkedAs rules after → Blank rules totals n → Blank after totals n
+pub linked-blank : {rules after totals : List (List ℕ)} {first n : ℕ} → LinkedAs rules after → Blank rules totals first n → Blank after totals first n
 linked-blank l b = record {
   counted = counted-kept (l .table .long) (l .table .wide) (l .rules-kept) (b .counted);
   zeros = b .zeros;
   room = b .room;
 }
 
+-- ---- the rows outside a chart are as they were
+
+module _ {rules totals : List (List ℕ)} {first n : ℕ} (b : Blank rules totals first n) (behind : chartRow ≤ first) where
+  -- so the counts are, and the row of zeros
+  pub blank-kept : {totals′ : List (List ℕ)} → length totals′ ≡ length totals → Wide totals′ 32 → ((r : ℕ) → Beside first n r → getD totals′ r [] ≡ getD totals r [])
+      → Blank rules totals′ first n
+  blank-kept lt w k =
+      let c = b .counted in
+      record {
+        counted = counted-rows c (omega (arith, c .long)) w (λ r h. k r (λ l u. omega (arith, c .short)));
+        zeros = λ A. ap (λ (l : List ℕ). getD l A 0) (k noneRow (λ l u. omega arith)) ∙ b .zeros A;
+        room = omega (arith, b .room);
+      }
+
+  pub filled-blank : {plan map totals′ : List (List ℕ)} → Filled rules plan map first n totals totals′ → Blank rules totals′ first n
+  filled-blank q = blank-kept (q .long) (q .wide) (q .kept)
+
+-- the totals of a map whose rows are among those that are as they were
+pub mapped-kept : {rules totals map : List (List ℕ)} {n : ℕ} {known : ℕ → ℕ → Bool} (after : List (List ℕ)) → length after ≡ length totals
+    → ((p m : ℕ) → Span n p m → getD after (rowAt map p m) [] ≡ getD totals (rowAt map p m) []) → Mapped rules totals map n known → Mapped rules after map n known
+mapped-kept {totals = totals} {map} {n} after long same w =
+    let is : (p A m : ℕ) → Span n p m → totalAt after map p A m ≡ totalAt totals map p A m = λ p A m s. ap (λ (l : List ℕ). getD l A 0) (same p m s) in
+    record {
+      low = λ p m s. omega (arith, w .low p m s);
+      right = λ p A m a s k. is p A m s ∙ w .right p A m a s k;
+      below = λ p A m a s. omega (arith, is p A m s, w .below p A m a s);
+      fits = w .fits;
+    }
+
 -- ---- sets to begin with
 
 -- beside rows of zeros any sets will do
-pub clean-start : (n : ℕ) (sets : List ℕ) (totals : List (List ℕ)) → room n ≤ length sets → ((r A : ℕ) → chartRow ≤ r → entry totals r A ≡ 0)
-    → Clean n sets totals
-clean-start n sets totals beside zeros = record { beside = beside; zero = λ r A c u l z. zeros r A c }
+pub clean-start : (first n : ℕ) (sets : List ℕ) (totals : List (List ℕ)) → endOf first n ≤ length sets → ((r A : ℕ) → first ≤ r → entry totals r A ≡ 0)
+    → Clean first n sets totals
+clean-start first n sets totals beside zeros = record { beside = beside; zero = λ r A c u l z. zeros r A c }

@@ -238,8 +238,8 @@ fn fill_length(
     sets: &mut [u32],
     totals: &mut [[u64; 32]],
 )
-    requires { ⌜ ((n : ℕ) × Lengthens (now rules) (now plan) (now map) n m (now sets) (now totals)) ⌝ }
-    ensures { λ _. ⌜ ((n : ℕ) → Lengthens (now (rules .entry)) (now (plan .entry)) (now (map .entry)) n m (now (sets .entry)) (now (totals .entry)) → LengthenedAs (now (rules .entry)) (now (plan .entry)) (now (map .entry)) n m 0 (now (sets .entry)) (now (totals .entry)) (now (sets .exit)) (now (totals .exit))) ⌝ }
+    requires { ⌜ ((first n : ℕ) × Lengthens (now rules) (now plan) (now map) first n m (now sets) (now totals)) ⌝ }
+    ensures { λ _. ⌜ ((first n : ℕ) → Lengthens (now (rules .entry)) (now (plan .entry)) (now (map .entry)) first n m (now (sets .entry)) (now (totals .entry)) → LengthenedAs (now (rules .entry)) (now (plan .entry)) (now (map .entry)) first n m 0 (now (sets .entry)) (now (totals .entry)) (now (sets .exit)) (now (totals .exit))) ⌝ }
 {
     let mut left = plan[SPOTS][m];
     while left != 0 {
@@ -257,8 +257,8 @@ pub fn fill(
     sets: &mut [u32],
     totals: &mut [[u64; 32]],
 )
-    requires { ⌜ Fills (now rules) (now plan) (now map) (lengthIn (now plan)) (now sets) (now totals) ⌝ }
-    ensures { λ _. ⌜ ChartedAs (now (rules .entry)) (now (plan .entry)) (now (map .entry)) (lengthIn (now (plan .entry))) (now (totals .entry)) (now (sets .exit)) (now (totals .exit)) ⌝ }
+    requires { ⌜ ((first : ℕ) × Fills (now rules) (now plan) (now map) first (lengthIn (now plan)) (now sets) (now totals)) ⌝ }
+    ensures { λ _. ⌜ ((first : ℕ) → Fills (now (rules .entry)) (now (plan .entry)) (now (map .entry)) first (lengthIn (now (plan .entry))) (now (sets .entry)) (now (totals .entry)) → ChartedAs (now (rules .entry)) (now (plan .entry)) (now (map .entry)) first (lengthIn (now (plan .entry))) (now (totals .entry)) (now (sets .exit)) (now (totals .exit))) ⌝ }
 {
     let n = plan::length(plan);
     let mut m = 1;

@@ -1,9 +1,12 @@
 // Maps from spans to rows of the table of totals, with a letter for each position.
 ghost use mathlib.Core.Path.{_≡_};
+ghost use mathlib.Core.Bool.{_||_};
 ghost use Prim.Native.Nat.{_≤_, _<_};
+ghost use lib.Dec.{eqb};
 ghost use lib.ListN.{length};
 ghost use Rattle.lists.specs.Inner.Tables.{Wide};
-ghost use Rattle.charts.specs.Inner.Maps.{rowAt, LetteredAs};
+ghost use Rattle.charts.specs.Inner.Letters.{letterOf, stands};
+ghost use Rattle.charts.specs.Inner.Maps.{rowAt, LetteredAs, Fitted};
 
 // Rows of the table of totals: of zeros, and the first of a chart. Those below are the counts'.
 pub const NONE: usize = 17;
@@ -52,14 +55,50 @@ pub fn row_at(map: &[[u16; 16]; 17], p: usize, m: usize) -> usize
     long(map[m][p])
 }
 
-// The words of a sentence as letters.
-pub fn set_letters(sentence: &[u8], map: &mut [[u16; 16]; 17])
-    requires { ⌜ (length (now sentence) ≤ 16) × (length (now map) ≡ 17) × Wide (now map) 16 ⌝ }
-    ensures { λ _. ⌜ LetteredAs (now (sentence .entry)) (now (map .entry)) (now (map .exit)) ⌝ }
+// The letter of a byte.
+fn letter(x: u8, blank: u16) -> u16
+    ensures { λ r. ⌜ r ≡ letterOf blank x ⌝ }
+{
+    let word = x as u16;
+    if word == blank { ANY } else { word }
+}
+
+// The words of a sentence, or the bytes of a pattern, as letters; `blank` is the byte that lets any word stand. ANY is none.
+pub fn set_letters(words: &[u8], blank: u16, map: &mut [[u16; 16]; 17])
+    requires { ⌜ (length (now words) ≤ 16) × (length (now map) ≡ 17) × Wide (now map) 16 ⌝ }
+    ensures { λ _. ⌜ LetteredAs blank (now (words .entry)) (now (map .entry)) (now (map .exit)) ⌝ }
 {
     let mut p = 0;
-    while p < sentence.len() {
-        map[LETTERS][p] = sentence[p] as u16;
+    while p < words.len() {
+        map[LETTERS][p] = letter(words[p], blank);
         p += 1;
     }
+}
+
+// Whether a letter asks for the word, or for any.
+fn admits(letter: u16, w: u8) -> bool
+    ensures { λ r. ⌜ r ≡ (eqb letter 256 || eqb letter w) ⌝ }
+{
+    if letter == ANY {
+        return true;
+    }
+    letter == w as u16
+}
+
+// Whether each word is one that the letter at its position asks for. The map of the counts, whose row of a single word is none of a chart, asks for any.
+pub fn fits(map: &[[u16; 16]; 17], sentence: &[u8]) -> bool
+    requires { ⌜ Fitted (now map) (now sentence) ⌝ }
+    ensures { λ r. ⌜ r ≡ stands (now (map .entry)) 0 (now (sentence .entry)) ⌝ }
+{
+    if row_at(map, 0, 1) < NONE {
+        return true;
+    }
+    let mut p = 0;
+    while p < sentence.len() {
+        if !admits(map[LETTERS][p], sentence[p]) {
+            return false;
+        }
+        p += 1;
+    }
+    true
 }

@@ -2,7 +2,8 @@
 ghost use mathlib.Core.Path.{_≡_};
 ghost use mathlib.Core.Bool.{true};
 ghost use Prim.Native.Nat.{ℕ, _+_, _≤_, _<_};
-ghost use lib.ListN.{length};
+ghost use mathlib.Core.List.{[]};
+ghost use lib.ListN.{length, getD};
 ghost use Rattle.lists.specs.Inner.Tables.{Wide};
 ghost use Rattle.sets.specs.Inner.Sets.{member};
 ghost use Rattle.charts.specs.Inner.Plan.{lengthIn};
@@ -148,7 +149,7 @@ fn spot(cuts: &[u32; 32], n: usize, spots: &mut [u32; 32])
 
 // The row of the span at p, where the rows of its length begin at `base`.
 fn row_from(spots: u32, base: usize, p: usize) -> u16
-    requires { ⌜ (p < 16) × (base ≤ 154) ⌝ }
+    requires { ⌜ (p < 16) × (base ≤ 290) ⌝ }
     ensures { λ r. ⌜ r ≡ rowFrom spots base p ⌝ }
 {
     if sets::has(spots, p) {
@@ -158,7 +159,7 @@ fn row_from(spots: u32, base: usize, p: usize) -> u16
 }
 
 fn row(spots: u32, base: usize, end: usize, row: &mut [u16; 16])
-    requires { ⌜ (base ≤ 154) × (end ≤ 16) × (length (now row) ≡ 16) ⌝ }
+    requires { ⌜ (base ≤ 290) × (end ≤ 16) × (length (now row) ≡ 16) ⌝ }
     ensures { λ _. ⌜ RowAs spots base end (now (row .exit)) ⌝ }
 {
     let mut p = 0;
@@ -168,13 +169,13 @@ fn row(spots: u32, base: usize, end: usize, row: &mut [u16; 16])
     }
 }
 
-// The rows of all spans: every length has as many as it has positions.
-fn place(spots: &[u32; 32], n: usize, map: &mut [[u16; 16]; 17])
-    requires { ⌜ (n ≤ 16) × (length (now map) ≡ 17) × Wide (now map) 16 ⌝ }
-    ensures { λ _. ⌜ PlacedAs (now (spots .entry)) n (n + 1) (now (map .entry)) (now (map .exit)) ⌝ }
+// The rows of all spans, from the row `first` on: every length has as many as it has positions.
+fn place(spots: &[u32; 32], n: usize, first: usize, map: &mut [[u16; 16]; 17])
+    requires { ⌜ (n ≤ 16) × (first ≤ 154) × (length (now map) ≡ 17) × Wide (now map) 16 ⌝ }
+    ensures { λ _. ⌜ PlacedAs (now (spots .entry)) first n (n + 1) (now (map .entry)) (now (map .exit)) ⌝ }
 {
     let mut rows = [0u16; 16];
-    let mut base = CHART;
+    let mut base = first;
     let mut m = 1;
     while m <= n {
         let end = n - m + 1;
@@ -212,9 +213,18 @@ pub fn build(
     cuts[LENGTH] = n as u32;
     let mut spots = [0u32; 32];
     spot(&cuts, n, &mut spots);
-    place(&spots, n, map);
+    place(&spots, n, CHART, map);
     plan[CUTS] = cuts;
     plan[SPOTS] = spots;
     plan[WANTED] = wanted;
     plan[PARTNERS] = partners;
+}
+
+// The rows of further charts by the same plan, from the row `first` on.
+pub fn rows(plan: &[[u32; 32]; 4], first: usize, map: &mut [[u16; 16]; 17])
+    requires { ⌜ (lengthIn (now plan) ≤ 16) × (first ≤ 154) × (length (now map) ≡ 17) × Wide (now map) 16 ⌝ }
+    ensures { λ _. ⌜ PlacedAs (getD (now (plan .entry)) 1 []) first (lengthIn (now (plan .entry))) (lengthIn (now (plan .entry)) + 1) (now (map .entry)) (now (map .exit)) ⌝ }
+{
+    let n = length(plan);
+    place(&plan[SPOTS], n, first, map);
 }

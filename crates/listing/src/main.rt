@@ -6,6 +6,7 @@ mod meanings;
 ghost use mathlib.Core.Path.{_≡_};
 ghost use Prim.Native.Nat.{_+_, _≤_, _<_};
 ghost use lib.ListN.{length};
+ghost use Rattle.charts.specs.Inner.Maps.{countsMap};
 ghost use Rattle.sampling.specs.Inner.Drawing.{DrawSought};
 use answers::refusal;
 use answers::refusal::Refusal;
@@ -138,7 +139,7 @@ fn put_drawn(
     out: &mut [u8; 4096],
     at: usize,
 ) -> usize
-    requires { ⌜ DrawSought (now rules) (now totals) n (now heard) × (at ≤ 3584) ⌝ }
+    requires { ⌜ DrawSought (now rules) (now totals) countsMap n (now heard) × (at ≤ 3584) ⌝ }
     ensures { λ r. ⌜ r ≤ 4096 ⌝ }
 {
     let mut words = [0u8; 16];
@@ -157,7 +158,7 @@ fn print_draws(
     heard: &[u64],
     count: u64,
 ) -> bool
-    requires { ⌜ DrawSought (now rules) (now totals) n (now heard) ⌝ }
+    requires { ⌜ DrawSought (now rules) (now totals) countsMap n (now heard) ⌝ }
 {
     let mut out = [0u8; 4096];
     let mut at = 0;
@@ -177,9 +178,9 @@ fn print_draws(
 
 // The figures, and a line for each draw, none past draw 999.
 fn print_list(rules: &[[u8; 256]], totals: &[[u64; 32]], n: usize, heard: &[u64]) -> bool
-    requires { ⌜ DrawSought (now rules) (now totals) n (now heard) ⌝ }
+    requires { ⌜ DrawSought (now rules) (now totals) countsMap n (now heard) ⌝ }
 {
-    let total = unrank::total(rules, totals, n);
+    let total = unrank::count(rules, totals, n);
     let count = heard.len() as u64;
     let left = total - count;
     if !print_figures(n as u64, total, count, left) {

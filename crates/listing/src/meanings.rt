@@ -54,6 +54,9 @@ pub fn explain(r: Refusal) {
         Refusal::BufferTooShort => say(
             b"listing: refused: the sentence's buffer is shorter than the length\n",
         ),
+        Refusal::BadPattern => say(
+            b"listing: refused: a byte of the pattern is neither 255 nor a word of the grammar\n",
+        ),
         Refusal::BadVoice => say(b"listing: refused: the voice is above 15\n"),
         Refusal::BadPlayed => say(
             b"listing: refused: the count of words played is the sentence's length or more\n",

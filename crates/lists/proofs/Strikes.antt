@@ -3,8 +3,8 @@
 -- Assumes nothing.
 use mathlib.Core.Path.{_≡_, refl, sym, ap, _∙_}
 use mathlib.Core.Logic.{_↔_, _≢_}
-use mathlib.Core.Bool.{Bool, true, false, cond}
-use mathlib.Core.List.{List, [], _∷_, map, List·Memᴰ·head, List·Memᴰ·tail, List·Memᴰ·not-nil, Memᴰ·map, Memᴰ·of-map}
+use mathlib.Core.Bool.{Bool, true, false, cond, _&&_}
+use mathlib.Core.List.{List, [], _∷_, _++_, map, List·Memᴰ·head, List·Memᴰ·tail, List·Memᴰ·not-nil, Memᴰ·map, Memᴰ·of-map}
 use Prim.Native.Nat.{ℕ, zero, suc, _+_, _-_, _≤_, _<_}
 use native.Mathlib.Omega.{arith}
 use lib.Seq.{split-at, getD-at, length-take-le}
@@ -12,12 +12,12 @@ use lib.ListN.{length, getD, take, drop, length-map, length-append, List·getD-m
 use Rattle.lists.specs.Joined.{_∈_, sumOver, upFrom}
 use Rattle.lists.specs.Ordered.{Pairwise, more, Distinct, Exactly}
 use Rattle.lists.specs.Searched.{bit, howMany, keep}
-use Rattle.lists.specs.Inner.Tickets.{place, struckFrom, skipOver}
+use Rattle.lists.specs.Inner.Tickets.{Owns, place, struckFrom, skipOver}
 use Rattle.lists.specs.Inner.Struck.{struck, numbered, skip}
-use Rattle.lists.proofs.Sums.{sum-one, sum-map, map-ext}
+use Rattle.lists.proofs.Sums.{sum-ext, sum-one, sum-map, map-ext}
 use Rattle.lists.proofs.Members.{upFrom-∈}
 use Rattle.lists.proofs.Orders.{pairwise-map, order-unique}
-use Rattle.lists.proofs.Owners.{owner-at, place-plain, tickets-plain, tickets-length}
+use Rattle.lists.proofs.Owners.{owns-∈, before-∈, owner-at, place-plain, tickets-plain, tickets-length}
 use Rattle.lists.proofs.Struck.{unstruck-sum, skip-over-lt, tickets-keep, tickets-keep-at, struck-alike, numbered-sum, drawn, drawn-at, Apart, Below, struck-∈, struck-below, gone, apart-gap, skip-over-at}
 use Rattle.lists.proofs.Struck as all
 
@@ -66,6 +66,25 @@ module _ {X : Type 0} where
   keep-ext P Q [] h = refl
   keep-ext P Q (x ∷ l) h = rw (h x (List·Memᴰ·head refl), keep-ext P Q l (λ y m. h y (List·Memᴰ·tail m)))
 
+  pub keep-append : (P : X → Bool) (a b : List X) → keep P (a ++ b) ≡ keep P a ++ keep P b
+  keep-append P [] b = refl
+  keep-append P (x ∷ a) b = go (P x) (keep-append P a b)
+    where
+      go : (t : Bool) → keep P (a ++ b) ≡ keep P a ++ keep P b → cond t (x ∷ keep P (a ++ b)) (keep P (a ++ b)) ≡ cond t (x ∷ keep P a) (keep P a) ++ keep P b
+      go true e = ap (λ (l : List X). x ∷ l) e
+      go false e = e
+
+  -- what passes two tests, one after the other
+  pub keep-keep : (P Q : X → Bool) (l : List X) → keep P (keep Q l) ≡ keep (λ x. Q x && P x) l
+  keep-keep P Q [] = refl
+  keep-keep P Q (x ∷ l) = go (Q x) (P x) refl (keep-keep P Q l)
+    where
+      go : (q p : Bool) → P x ≡ p → keep P (keep Q l) ≡ keep (λ x. Q x && P x) l
+          → keep P (cond q (x ∷ keep Q l) (keep Q l)) ≡ cond (q && p) (x ∷ keep (λ x. Q x && P x) l) (keep (λ x. Q x && P x) l)
+      go true true e ih = rw (e, ih)
+      go true false e ih = rw (e, ih)
+      go false p e ih = ih
+
   -- all pass, or none does
   pub keep-all : (P : X → Bool) (l : List X) → ((x : X) → x ∈ l → P x ≡ true) → keep P l ≡ l
   keep-all P [] h = refl
@@ -85,7 +104,7 @@ module _ {X : Type 0} where
       go false z e = omega (arith, z refl)
 
   -- as many as pass
-  keep-many : (P : X → Bool) (l : List X) → length (keep P l) ≡ howMany P l
+  pub keep-many : (P : X → Bool) (l : List X) → length (keep P l) ≡ howMany P l
   keep-many P l =
       ap length (sym (tickets-plain (keep P l)) ∙ tickets-keep P (λ x. 1) l)
       ∙ tickets-length (λ x. bit (P x)) l
@@ -99,6 +118,22 @@ module _ {X : Type 0} where
         once = keep-pairwise _≢_ P l s;
         all = λ u. (λ q. ∈-keep P l u (q .0) (q .1), keep-∈ P l u);
       }
+
+module _ {X : Type 0} {v u : X → ℕ} {l : List X} {t : ℕ} {x : X} {n o : ℕ} (P : X → Bool) where
+  -- where what fails weighs nothing, and what passes alone is measured, the owner is that among what is kept, by its place there
+  pub owns-keep : Owns v u l t x n o → ((y : X) → y ∈ l → P y ≡ false → v y ≡ 0) → ((y : X) → y ∈ l → u y ≡ bit (P y)) → Owns v (λ y. 1) (keep P l) t x n o
+  owns-keep r h k = record {
+    before = keep P (r .before);
+    after = keep P (r .after);
+    list = ap (keep P) (r .list) ∙ keep-append P (r .before) (x ∷ r .after) ∙ rw (passes (P x) refl);
+    ticket = omega (arith, r .ticket, sum-keep P v (r .before) (λ y m. h y (before-∈ r y m)));
+    own = r .own;
+    place = r .place ∙ sum-ext u (λ y. bit (P y)) (r .before) (λ y m. k y (before-∈ r y m)) ∙ sym (keep-many P (r .before)) ∙ sym (sum-one (keep P (r .before)));
+  }
+    where
+      passes : (b : Bool) → P x ≡ b → P x ≡ true
+      passes true e = e
+      passes false e = absurd (omega (arith, r .own, h x (owns-∈ r) e))
 
 -- the numbers of a run, each one more
 pub keep-later : (P : ℕ → Bool) (k n : ℕ) → keep P (upFrom (suc k) n) ≡ map suc (keep (λ a. P (suc a)) (upFrom k n))

@@ -22,7 +22,7 @@ use Rattle.lists.proofs.Sums.{sum-one, sum-map, concat-ext, length-upFr
 use Rattle.lists.proofs.Members.{getD-∈}
 use Rattle.lists.proofs.Places.{getD-map, getD-upFrom}
 use Rattle.lists.proofs.Orders.{order-unique}
-use Rattle.lists.proofs.Owners.{owned, owns-owner, owns-place, owns-inside, place-inside, ahead-map, tickets-length, tickets-at}
+use Rattle.lists.proofs.Owners.{owned, owns-owner, owns-place, owns-inside, place-inside, owns-ext, ahead-map, tickets-length, tickets-at, tickets-plain}
 
 -- ---- the skip
 
@@ -159,14 +159,14 @@ module _ {X : Type 0} where
   ∈-numbered k (y ∷ l) zero x h = let z : k + 0 ≡ k = omega arith in rw (z, h) (List·Memᴰ·head refl)
   ∈-numbered k (y ∷ l) (suc i) x h = let z : k + suc i ≡ suc k + i = omega arith in rw z (List·Memᴰ·tail (∈-numbered (suc k) l i x h))
 
-  numbered-at : (k : ℕ) (l : List X) (i : ℕ) (z : X) (e : ℕ × X) → i < length l → getD (numbered k l) i e ≡ (k + i, getD l i z)
+  pub numbered-at : (k : ℕ) (l : List X) (i : ℕ) (z : X) (e : ℕ × X) → i < length l → getD (numbered k l) i e ≡ (k + i, getD l i z)
   numbered-at k [] i z e h = absurd (omega arith)
   numbered-at k (x ∷ l) zero z e h = let q : k + 0 ≡ k = omega arith in rw q
   numbered-at k (x ∷ l) (suc i) z e h =
       let q : k + suc i ≡ suc k + i = omega arith in rw q (numbered-at (suc k) l i z e (omega arith))
 
   -- without the places it is the list; so its tickets are the list's
-  unnumbered : (k : ℕ) (l : List X) → map (λ (e : ℕ × X). e .1) (numbered k l) ≡ l
+  pub unnumbered : (k : ℕ) (l : List X) → map (λ (e : ℕ × X). e .1) (numbered k l) ≡ l
   unnumbered k [] = refl
   unnumbered k (x ∷ l) = rw (unnumbered (suc k) l)
 
@@ -182,6 +182,27 @@ module _ {X : Type 0} where
   numbered-struck : (P : X → Bool) (v : X → ℕ) (k j : ℕ) (l : List X)
       → struckFrom (λ (e : ℕ × X). P (e .1)) (λ (e : ℕ × X). v (e .1)) k (numbered j l) ≡ struckFrom P v k l
   numbered-struck P v k j l = sym (struck-map (λ (e : ℕ × X). e .1) P v k (numbered j l)) ∙ ap (struckFrom P v k) (unnumbered j l)
+
+-- the places stay where each element is turned into another
+pub numbered-map : {X Y : Type 0} (f : X → Y) (k : ℕ) (l : List X) → numbered k (map f l) ≡ map (λ (e : ℕ × X). (e .0, f (e .1))) (numbered k l)
+numbered-map f k [] = refl
+numbered-map f k (x ∷ l) = rw (numbered-map f (suc k) l)
+
+module _ {X : Type 0} {v u : X → ℕ} {l : List X} {t : ℕ} {x : X} {n o : ℕ} (P : X → Bool) where
+  -- where what passes weighs 1 and what fails nothing, and each measures 1, the owner of t with its place is entry t of what is kept
+  pub owns-kept : Owns v u l t x n o → ((y : X) → y ∈ l → v y ≡ unstruck P (λ y. 1) y) → ((y : X) → y ∈ l → u y ≡ 1) → (z : X)
+      → getD (keep (λ (e : ℕ × X). P (e .1)) (numbered 0 l)) t (0, z) ≡ (n, x)
+  owns-kept r h k z =
+      let q = owns-ext (unstruck P (λ y. 1)) (λ y. 1) h k r in
+      let i : length (ahead (unstruck P (λ y. 1)) l t) < length l = omega (arith, owns-place q, place-inside q, sum-one l, sum-one (ahead (unstruck P (λ y. 1)) l t)) in
+      let e : 0 + length (ahead (unstruck P (λ y. 1)) l t) ≡ n = omega (arith, sum-one (ahead (unstruck P (λ y. 1)) l t), owns-place q) in
+      ap (λ (m : List (ℕ × X)). getD m t (0, z))
+      (sym (tickets-plain (keep (λ (e : ℕ × X). P (e .1)) (numbered 0 l))) ∙ tickets-keep (λ (e : ℕ × X). P (e .1)) (λ (e : ℕ × X). 1) (numbered 0 l))
+      ∙ tickets-at (λ (e : ℕ × X). unstruck P (λ y. 1) (e .1)) (numbered 0 l) t (0, z)
+      ∙ ap (λ (j : ℕ). getD (numbered 0 l) j (0, z)) (numbered-ahead (unstruck P (λ y. 1)) 0 l t)
+      ∙ numbered-at 0 l (length (ahead (unstruck P (λ y. 1)) l t)) z (0, z) i
+      ∙ ap (λ (j : ℕ). (j, owner (unstruck P (λ y. 1)) l t z)) e
+      ∙ ap (λ (y : X). (n, y)) (owns-owner q z)
 
 module _ {X : Type 0} (P : X → Bool) (v : X → ℕ) (l : List X) (z : X) where
   -- draw q: the place and the element that own the skip of q

@@ -1,7 +1,7 @@
 -- The demands hold. Demand 1's part on refusals is how every answer is made; demands 2 and 3 and the examples stand in the crates `ranking`
 -- and `sampling`.
 -- Assumes nothing.
-use mathlib.Core.Path.{_≡_, sym, ap, _∙_}
+use mathlib.Core.Path.{_≡_, refl, sym, ap, _∙_}
 use mathlib.Core.Logic.{_≢_}
 use mathlib.Core.Bool.{and-false}
 use mathlib.Core.List.{List, [], _∷_, _++_}
@@ -29,13 +29,15 @@ use Rattle.history.specs.Answers.{checkHistory, appendRows, appendOf}
 use Rattle.history.proofs.Appended.{logs, logged}
 use Rattle.ranking.specs.Answers.{totalOf, entryOf, readingsOf, numberOf, unrankRows, unrankOf, rankRows, rankOf}
 use Rattle.ranking.proofs.Demand2.{demand-2}
+use Rattle.sampling.specs.Pattern.{badPattern}
 use Rattle.sampling.specs.Question.{Question, plainly}
-use Rattle.sampling.specs.Demand3.{Single, Premises, Alike}
-use Rattle.sampling.specs.Unheard.{heardOf, leftOf}
+use Rattle.sampling.specs.Demand3.{Single, Premises, Worded, Alike}
+use Rattle.sampling.specs.Unheard.{totalFor, heardOf, leftOf}
 use Rattle.sampling.specs.Answers.{drawn, remainingRows, remainingTo, drawRows, drawTo}
 use Rattle.sampling.proofs.Premises.{premises, fifteen}
 use Rattle.sampling.proofs.Demand3.{demand-3, once, alike}
-use Rattle.sampling.proofs.Examples.{examples, example-premises, example-voiced, example-broken, logged-twice}
+use Rattle.sampling.proofs.Examples.{examples, example-premises, example-voiced, example-broken, example-matched, logged-twice}
+use Rattle.sampling.proofs.Blanks.{unpatterned, all-blank, no-blank}
 use Rattle.matrix.specs.Table.{table}
 use Rattle.matrix.proofs.Rules.{is-accepted}
 use Rattle.matrix.proofs.Counts.{sentences-of-five, no-others}
@@ -63,7 +65,7 @@ demand-1 = record {
   count = λ g n. refuses (preparedRows g n) (totalOf g n ∷ []) [] [];
   give = λ g n d out. refuses (unrankRows g n d out) (totalOf g n ∷ []) out (entryOf g n d ++ drop n out);
   number = λ g s. refuses (rankRows g s) (numberOf g s ∷ totalOf g (length s) ∷ readingsOf g s ∷ []) [] [];
-  left = λ g h a. refuses (remainingRows g h a) (totalOf g (a .length) ∷ heardOf g h a ∷ leftOf g h a ∷ []) [] [];
+  left = λ g h a. refuses (remainingRows g h a) (totalFor g a ∷ heardOf g h a ∷ leftOf g h a ∷ []) [] [];
   draw = λ g h a q out. refuses (drawRows g h a q out) (leftOf g h a ∷ drawn g h a q .number ∷ []) out (sentence (drawn g h a q .tree) ++ drop (a .length) out);
   log = λ h p. refuses (appendRows h p) (suc (recordsOf h) ∷ []) h (appended h p);
 }
@@ -96,6 +98,10 @@ house-premises h v diary voiced = record {
   single = λ s l e. house-single s;
 }
 
+house-worded : (v : ℕ) → Worded table (plainly 5 v)
+unfolding badPattern
+house-worded v = refl
+
 pub demands : Demands
 demands = record {
   one = demand-1;
@@ -104,6 +110,9 @@ demands = record {
   once = once;
   alike = alike;
   premises = premises;
+  unpatterned = unpatterned;
+  all-blank = all-blank;
+  no-blank = no-blank;
   logged = logged;
   broken-off = broken-off;
   voices = former-voices;
@@ -115,8 +124,9 @@ demands = record {
   instance = example-premises;
   voiced = example-voiced;
   broken = example-broken;
+  matched = example-matched;
   logged-twice = logged-twice;
   house = record { accepted = is-accepted; five = sentences-of-five; others = no-others; single = house-single };
-  house-once = λ h v diary voiced. once table h (plainly 5 v) (house-premises h v diary voiced) (λ s l. house-single s);
+  house-once = λ h v diary voiced. once table h (plainly 5 v) (house-premises h v diary voiced) (house-worded v) (λ s l. house-single s);
   examples = examples;
 }

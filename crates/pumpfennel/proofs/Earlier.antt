@@ -29,9 +29,11 @@ use Rattle.history.specs.Playback.{playback, badPlayed}
 use Rattle.history.specs.Writing.{fourthByte, appended}
 use Rattle.history.specs.Answers.{checkHistory, noRoom, appendOf}
 use Rattle.history.proofs.Chain.{numbers-inside}
+use Rattle.sampling.specs.Pattern.{badPattern}
 use Rattle.sampling.specs.Question.{plainly}
-use Rattle.sampling.specs.Unheard.{Entry, entriesFrom, outside, unheard, distinct, ofLength, heardOf, leftOf, ambiguous}
+use Rattle.sampling.specs.Unheard.{Entry, entriesFrom, outside, unheard, totalFor, distinct, ofLength, heardOf, leftOf, ambiguous}
 use Rattle.sampling.specs.Answers.{askedRows, remainingRows, remainingTo, remainingOf, drawn, drawTo, drawOf}
+use Rattle.sampling.proofs.Blanks.{unpatterned}
 use Rattle.pumpfennel.specs.Former.{Earlier, misfitBy, rowsBy, sentencesBy, heardBy, countedBy, restBy, leftRowsBy, leftBy, drawnBy, drawRowsBy, drawBy, checkBy, logBy, unvoiced, FormerVoice, AllZero, FormerVoices, unbroken, FormerPlayback, AllFull, FormerPlaybacks}
 
 -- 23 passes all words played: a sentence that has no word is refused before
@@ -42,6 +44,13 @@ unfolding badLength
 full-passes [] v later = row-applies 9 _ refl ∙ sym (row-applies 9 _ refl)
 full-passes (x ∷ s) v later =
     rows-tail ((badLength (length (x ∷ s)), 9) ∷ (badVoice v, 22) ∷ []) _ later (row-passed 23 later (lt-leb (length (x ∷ s)) 0 (omega arith)))
+
+-- 21 passes no pattern
+past-pattern : (g : List ℕ) (n v : ℕ) (later : List Row)
+    → firstThatApplies (askedRows g (plainly n v) ++ later) ≡ firstThatApplies (openRows g n ++ ((badVoice v, 22) ∷ (tooLarge g n, 10) ∷ later))
+unfolding badPattern
+past-pattern g n v later =
+    rows-tail (openRows g n ++ ((badVoice v, 22) ∷ (tooLarge g n, 10) ∷ [])) ((false, 21) ∷ later) later (row-passed 21 later refl)
 
 -- a reading of fourth bytes that says of each record what is said now, in a voice
 module _ (f : Earlier) (h : List ℕ) (v : ℕ)
@@ -65,9 +74,11 @@ module _ (f : Earlier) (h : List ℕ) (v : ℕ)
       (keep-ext (makesHeard h v) (λ r. f .hears (fourthOf h r)) (numbers h) (λ r m. let q = numbers-inside h (headOf h) m in hear r (q .0) (q .1)))
 
   module _ (g : List ℕ) (n : ℕ) where
+    total-by : totalFor g (plainly n v) ≡ totalOf g n
+    total-by = unpatterned g h n v .total
+
     counted-by : heardOf g h (plainly n v) ≡ countedBy f g h n
-    unfolding heardOf
-    counted-by = ap (λ (l : List (List ℕ)). length (distinct (keep (λ s. eqb (readingsOf g s) 1) l))) (sentences-by n)
+    counted-by = unpatterned g h n v .heard ∙ ap (λ (l : List (List ℕ)). length (distinct (keep (λ s. eqb (readingsOf g s) 1) l))) (sentences-by n)
 
     drawn-by : (q : ℕ) → drawn g h (plainly n v) q ≡ drawnBy f g h n q
     unfolding unheard
@@ -91,7 +102,8 @@ module _ (f : Earlier) (h : List ℕ) (v : ℕ)
       left-by : remainingOf g h n v ≡ leftBy f g h n
       unfolding remainingTo
       left-by =
-          ap (λ (k : ℕ). answerOf k (totalOf g n ∷ heardOf g h (plainly n v) ∷ leftOf g h (plainly n v) ∷ []) [] []) (first-by [] ∙ ap firstThatApplies (append-nil (leftRowsBy f g h n)))
+          ap (λ (k : ℕ). answerOf k (totalFor g (plainly n v) ∷ heardOf g h (plainly n v) ∷ leftOf g h (plainly n v) ∷ []) [] []) (first-by [] ∙ ap firstThatApplies (append-nil (leftRowsBy f g h n)))
+          ∙ ap (λ (t : ℕ). answer (leftRowsBy f g h n) (t ∷ heardOf g h (plainly n v) ∷ (t - heardOf g h (plainly n v)) ∷ []) [] []) total-by
           ∙ ap (λ (k : ℕ). answer (leftRowsBy f g h n) (totalOf g n ∷ k ∷ (totalOf g n - k) ∷ []) [] []) counted-by
 
       draw-by : (q : ℕ) (out : List ℕ) → drawOf g h n v q out ≡ drawBy f g h n q out
@@ -99,6 +111,9 @@ module _ (f : Earlier) (h : List ℕ) (v : ℕ)
       draw-by q out =
           ap (λ (k : ℕ). answerOf k (leftOf g h (plainly n v) ∷ drawn g h (plainly n v) q .number ∷ []) out (sentence (drawn g h (plainly n v) q .tree) ++ drop n out))
           (first-by ((leb (leftOf g h (plainly n v)) q, 16) ∷ (ltb (length out) n, 20) ∷ []))
+          ∙ ap (λ (t : ℕ). answer (leftRowsBy f g h n ++ ((leb (t - heardOf g h (plainly n v)) q, 16) ∷ (ltb (length out) n, 20) ∷ []))
+          ((t - heardOf g h (plainly n v)) ∷ drawn g h (plainly n v) q .number ∷ []) out (sentence (drawn g h (plainly n v) q .tree) ++ drop n out))
+          total-by
           ∙ ap (λ (k : ℕ). answer (leftRowsBy f g h n ++ ((leb (totalOf g n - k) q, 16) ∷ (ltb (length out) n, 20) ∷ [])) ((totalOf g n - k) ∷ drawn g h (plainly n v) q .number ∷ [])
           out (sentence (drawn g h (plainly n v) q .tree) ++ drop n out))
           counted-by
@@ -155,7 +170,7 @@ past-voice : (rows later : List Row) → firstThatApplies (rows ++ ((badVoice 0,
 past-voice rows later = rows-tail rows ((badVoice 0, 22) ∷ later) later (row-passed 22 later (le-ltb 15 0 (omega arith)))
 
 begun : (g : List ℕ) (n : ℕ) (later : List Row) → firstThatApplies (askedRows g (plainly n 0) ++ later) ≡ firstThatApplies (preparedRows g n ++ later)
-begun g n later = past-voice (openRows g n) ((tooLarge g n, 10) ∷ later)
+begun g n later = past-pattern g n 0 later ∙ past-voice (openRows g n) ((tooLarge g n, 10) ∷ later)
 
 module _ (h : List ℕ) (zero-all : AllZero h) where
   zero-full : (r : ℕ) → 1 ≤ r → r ≤ recordsOf h → playedOf h r ≡ 0
@@ -215,8 +230,8 @@ module _ (h : List ℕ) (full : AllFull h) (v : ℕ) where
   playbacks-stay : FormerPlayback h v
   playbacks-stay = record {
     check = check-by (unbroken v) h v fit-all hear-all;
-    left = λ g n. left-by (unbroken v) h v fit-all hear-all g n (λ later. refl);
-    draw = λ g n. draw-by (unbroken v) h v fit-all hear-all g n (λ later. refl);
+    left = λ g n. left-by (unbroken v) h v fit-all hear-all g n (past-pattern g n v);
+    draw = λ g n. draw-by (unbroken v) h v fit-all hear-all g n (past-pattern g n v);
     log = λ s. log-by (unbroken v) h v fit-all hear-all ((badLength (length s), 9) ∷ (badVoice v, 22) ∷ []) s (λ later. refl);
   }
 

@@ -24,9 +24,10 @@ use Rattle.ranking.specs.Answers.{totalOf, unrankRows, unrankOf, rankRows, rank
 use Rattle.ranking.specs.Demand2.{Demand2}
 use Rattle.sampling.specs.Question.{Question, plainly}
 use Rattle.sampling.specs.Unheard.{Fifteen}
-use Rattle.sampling.specs.Answers.{remainingRows, remainingTo, drawRows, drawTo}
-use Rattle.sampling.specs.Demand3.{Single, Premises, Demand3, Once, SameBarred, Alike}
-use Rattle.sampling.specs.Examples.{Examples, F, G, heard01, heardTwice, heardInFive, brokenOff}
+use Rattle.sampling.specs.Answers.{remainingRows, remainingTo, remainingMatching, drawRows, drawTo}
+use Rattle.sampling.specs.Blanks.{AllBlank, NoBlank, Full, Unpatterned}
+use Rattle.sampling.specs.Demand3.{Single, Premises, Worded, Demand3, Once, SameBarred, Alike}
+use Rattle.sampling.specs.Examples.{Examples, Matched, F, G, heard01, heardTwice, heardInFive, brokenOff}
 use Rattle.matrix.specs.Table.{table}
 use Rattle.pumpfennel.specs.Former.{FormerVoices, FormerPlaybacks, FormerNumbers, FormerAnswers}
 
@@ -62,15 +63,20 @@ pub record House : Type 0 where
 pub record Demands : Type 0 where
   pub one : Demand1
   pub two : (g : List ℕ) → Demand2 g
-  pub three : (g h : List ℕ) (a : Question) → Premises g h a → Demand3 g h a
-  -- where no sentence of the length has two derivations, each unheard derivable sentence comes exactly once
-  pub once : (g h : List ℕ) (a : Question) → Premises g h a → ((s : List ℕ) → length s ≡ a .length → Single g s)
+  pub three : (g h : List ℕ) (a : Question) → Premises g h a → Worded g a → Demand3 g h a
+  -- where no sentence of the length has two derivations, each unheard derivable sentence that fits comes exactly once
+  pub once : (g h : List ℕ) (a : Question) → Premises g h a → Worded g a → ((s : List ℕ) → length s ≡ a .length → Single g s)
       → (out : ℕ → List ℕ) → ((q : ℕ) → a .length ≤ length (out q)) → Once g h a out
   -- "For two such diaries that bar the same sentences of length n, *Left* gives the same figures. For every q, *Draw* gives the same": that they are
   -- accepted suffices, with every grammar and length, refusals included
   pub alike : (g h h′ : List ℕ) (a : Question) → history.Accepted h → history.Accepted h′ → SameBarred g h h′ a → Alike g h h′ a
-  -- the premises are no more than that *Left* isn't refused
-  pub premises : (g h : List ℕ) (a : Question) → (Premises g h a ↔ (remainingTo g h a .refusal ≡ 0))
+  -- the premises, with that 21 doesn't apply, are no more than that *Left* isn't refused
+  pub premises : (g h : List ℕ) (a : Question) → ((Premises g h a × Worded g a) ↔ (remainingTo g h a .refusal ≡ 0))
+  -- without a pattern T, heard and the unheard list are document 01's. "A pattern of blanks only must agree with the plain draw. For a pattern without
+  -- blanks, left is how many derivations that sentence has, or 0 if it is heard." (document 02, U1)
+  pub unpatterned : (g h : List ℕ) (n v : ℕ) → Unpatterned g h n v
+  pub all-blank : (g h : List ℕ) (n v : ℕ) → AllBlank g h n v
+  pub no-blank : (g h pattern : List ℕ) (v : ℕ) → Full pattern → remainingMatching g h pattern v .refusal ≡ 0 → NoBlank g h pattern v
   -- what an accepted *Log* does to the history's meaning: the sentence, if it was played in full, is heard in its voice then, and what was heard in any
   -- voice still is. One that was broken off leaves every answer of *Left* and *Draw* as it was (document 02, U5).
   pub logged : (h : List ℕ) (p : Playback) → appendOf h p .refusal ≡ 0 → Logged h p
@@ -85,12 +91,13 @@ pub record Demands : Type 0 where
   -- "A sentence with one derivation has its former number", and "Refusal 15 is returned for the same diaries, by way of the new figure" (document 02, U6)
   pub numbers : FormerNumbers
   pub fifteen : (g h : List ℕ) (a : Question) → countOf g (a .length) .refusal ≡ 0 → history.Accepted h → Fifteen g h a
-  -- there is such a grammar, history and length, one with a record in another voice, and one with a sentence of two derivations broken off, which isn't
-  -- heard; there are two histories that bar the same; and the house bank is as document 01 says, so that with every accepted history and in every voice
+  -- there is such a grammar, history and length, one with a record in another voice, one with a sentence of two derivations broken off, which isn't
+  -- heard, and one with a pattern; there are two histories that bar the same; and the house bank is as document 01 says, so that with every accepted history and in every voice
   -- each of its unheard sentences comes exactly once
   pub instance : Premises F heard01 (plainly 2 0)
   pub voiced : Premises F heardInFive (plainly 2 5) × (heard heardInFive 5 (0 ∷ 1 ∷ []) ≡ true)
   pub broken : Premises G brokenOff (plainly 3 0) × (heard brokenOff 0 (0 ∷ 0 ∷ 0 ∷ []) ≡ false)
+  pub matched : Matched
   pub logged-twice : history.Accepted heard01 × history.Accepted heardTwice × SameBarred F heard01 heardTwice (plainly 2 0)
   pub house : House
   pub house-once : (h : List ℕ) (v : ℕ) → history.Accepted h → v ≤ 15 → (out : ℕ → List ℕ) → ((q : ℕ) → 5 ≤ length (out q)) → Once table h (plainly 5 v) out

@@ -12,7 +12,7 @@ use Rattle.answers.specs.Answer.{Row, Answer, given, refused, answer}
 use Rattle.answers.specs.Length.{badLength}
 use Rattle.answers.specs.Voice.{badVoice}
 use Rattle.grammar.specs.Trees.{leaf, sentence}
-use Rattle.counting.specs.Refusals.{preparedRows, formerTooLarge}
+use Rattle.counting.specs.Refusals.{tooLarge, openRows, preparedRows, formerTooLarge}
 use Rattle.counting.specs.Answers.{countOf}
 use Rattle.ranking.specs.Answers.{fullList, totalOf, entryOf, readingsOf, numberOf, unrankRows, unrankOf, rankOf}
 use Rattle.history.specs.Layout.{recordsOf, headOf, recordAt, fourthOf, playedOf, recordWords}
@@ -24,7 +24,7 @@ use Rattle.history.specs.Writing.{overwritten, twoBytes, recordBytes}
 use Rattle.history.specs.Answers.{checkHistory, noRoom, appendOf}
 use Rattle.sampling.specs.Question.{plainly}
 use Rattle.sampling.specs.Unheard.{Entry, entriesFrom, distinct, heardOf}
-use Rattle.sampling.specs.Answers.{askedRows, remainingOf, drawOf}
+use Rattle.sampling.specs.Answers.{remainingOf, drawOf}
 
 -- ---- a history before U4 and U5
 
@@ -118,7 +118,7 @@ pub record FormerVoices : Type 0 where
 
 -- as U5 found them, in the voice v: "Refusal 12 no longer minds the high four bits", and "A sentence is heard only if words and voice both agree."
 abbrev pub unbroken : (v : ℕ) → Earlier
-unbroken v = record { opening = λ g n. askedRows g (plainly n v); passes = λ x. eqb (x % 16) 0; hears = λ x. eqb (x / 16) v }
+unbroken v = record { opening = λ g n. openRows g n ++ ((badVoice v, 22) ∷ (tooLarge g n, 10) ∷ []); passes = λ x. eqb (x % 16) 0; hears = λ x. eqb (x / 16) v }
 
 -- "The high four bits of a record's fourth byte hold it."
 abbrev pub unbrokenLog : (h s : List ℕ) (v : ℕ) → Answer

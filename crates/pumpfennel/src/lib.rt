@@ -1,13 +1,15 @@
 // The library for C and Rust: document 01's calls, whole. Each result is the refusal's number, 0 where the call is accepted; on a refusal
 // every figure is 0 and every lent buffer is as it was. Nothing is required of what is handed in.
 ghost use mathlib.Core.Path.{_≡_};
-ghost use mathlib.Core.List.{[], _∷_};
+ghost use mathlib.Core.List.{List, [], _∷_};
+ghost use Prim.Native.Nat.{ℕ};
 ghost use Rattle.grammar.specs.Answers.{checkGrammar};
 ghost use Rattle.counting.specs.Answers.{countOf};
 ghost use Rattle.history.specs.Answers.{checkHistory, appendOf};
 ghost use Rattle.history.specs.Playback.{playback};
 ghost use Rattle.ranking.specs.Answers.{unrankOf, rankOf};
-ghost use Rattle.sampling.specs.Answers.{remainingOf, drawOf};
+ghost use Rattle.sampling.specs.Answers.{remainingOf, remainingMatching, drawOf, drawMatching};
+ghost use Rattle.sampling.specs.Inner.Says.{remainingSays, drawSays};
 ghost use Rattle.pumpfennel.specs.Calls.{gives};
 use answers::refusal;
 use counting::count;
@@ -150,20 +152,10 @@ pub extern "C" fn pumpfennel_rank(
     }
 }
 
-// *Left*.
-#[no_mangle]
-pub extern "C" fn pumpfennel_remaining(
-    grammar: &[u8],
-    history: &[u8],
-    length: u64,
-    voice: u64,
-    total: &mut u64,
-    heard: &mut u64,
-    remaining: &mut u64,
-) -> u8
-    ensures { λ r. ⌜ gives r (now (total .exit) ∷ now (heard .exit) ∷ now (remaining .exit) ∷ []) [] ≡ remainingOf (now (grammar .entry)) (now (history .entry)) length voice ⌝ }
+// The figures of *Left*, handed over, with or without a pattern.
+fn hand_remaining(a: RemainingAnswer, total: &mut u64, heard: &mut u64, remaining: &mut u64) -> u8
+    ensures { λ r. ⌜ gives r (now (total .exit) ∷ now (heard .exit) ∷ now (remaining .exit) ∷ []) [] ≡ remainingSays a ⌝ }
 {
-    let a = remaining::remaining(grammar, history, Question { length, voice });
     match a {
         RemainingAnswer::Given(t, k, l) => {
             *total = t;
@@ -178,6 +170,58 @@ pub extern "C" fn pumpfennel_remaining(
             refusal::number(r)
         }
     }
+}
+
+// Those of *Draw*, beside the buffer that it left.
+fn hand_drawn(a: DrawAnswer, remaining: &mut u64, number: &mut u64) -> u8
+    ensures { λ r. ⌜ ((out : List ℕ) → gives r (now (remaining .exit) ∷ now (number .exit) ∷ []) out ≡ drawSays a out) ⌝ }
+{
+    match a {
+        DrawAnswer::Given(l, d) => {
+            *remaining = l;
+            *number = d.0;
+            0
+        }
+        DrawAnswer::Refused(r) => {
+            *remaining = 0;
+            *number = 0;
+            refusal::number(r)
+        }
+    }
+}
+
+// *Left*.
+#[no_mangle]
+pub extern "C" fn pumpfennel_remaining(
+    grammar: &[u8],
+    history: &[u8],
+    length: u64,
+    voice: u64,
+    total: &mut u64,
+    heard: &mut u64,
+    remaining: &mut u64,
+) -> u8
+    ensures { λ r. ⌜ gives r (now (total .exit) ∷ now (heard .exit) ∷ now (remaining .exit) ∷ []) [] ≡ remainingOf (now (grammar .entry)) (now (history .entry)) length voice ⌝ }
+{
+    let a = remaining::remaining(grammar, history, Question { length, voice });
+    hand_remaining(a, total, heard, remaining)
+}
+
+// *Left* with a pattern: byte 255 is a blank, any other byte that word.
+#[no_mangle]
+pub extern "C" fn pumpfennel_remaining_matching(
+    grammar: &[u8],
+    history: &[u8],
+    pattern: &[u8],
+    voice: u64,
+    total: &mut u64,
+    heard: &mut u64,
+    remaining: &mut u64,
+) -> u8
+    ensures { λ r. ⌜ gives r (now (total .exit) ∷ now (heard .exit) ∷ now (remaining .exit) ∷ []) [] ≡ remainingMatching (now (grammar .entry)) (now (history .entry)) (now (pattern .entry)) voice ⌝ }
+{
+    let a = remaining::remaining_matching(grammar, history, pattern, voice);
+    hand_remaining(a, total, heard, remaining)
 }
 
 // *Draw*.
@@ -201,18 +245,25 @@ pub extern "C" fn pumpfennel_draw(
         DrawNumber(draw),
         sentence,
     );
-    match a {
-        DrawAnswer::Given(l, d) => {
-            *remaining = l;
-            *number = d.0;
-            0
-        }
-        DrawAnswer::Refused(r) => {
-            *remaining = 0;
-            *number = 0;
-            refusal::number(r)
-        }
-    }
+    hand_drawn(a, remaining, number)
+}
+
+// *Draw* with a pattern.
+#[no_mangle]
+pub extern "C" fn pumpfennel_draw_matching(
+    grammar: &[u8],
+    history: &[u8],
+    pattern: &[u8],
+    voice: u64,
+    draw: u64,
+    sentence: &mut [u8],
+    remaining: &mut u64,
+    number: &mut u64,
+) -> u8
+    ensures { λ r. ⌜ gives r (now (remaining .exit) ∷ now (number .exit) ∷ []) (now (sentence .exit)) ≡ drawMatching (now (grammar .entry)) (now (history .entry)) (now (pattern .entry)) voice draw (now (sentence .entry)) ⌝ }
+{
+    let a = draw::draw_matching(grammar, history, pattern, voice, DrawNumber(draw), sentence);
+    hand_drawn(a, remaining, number)
 }
 
 // *Log*.

@@ -1,37 +1,40 @@
--- What *Give* and *Number* ask of the chart and the walk, and what these then say: by the counts entry d itself, by a sentence's letters how
--- many derivations it has and the place of the first.
+-- What the calls ask of the chart and the walk, and what these then say: by a choice how many derivations stand and entry d of these, by a sentence's
+-- letters how many derivations it has and, by a measure, the place of the first.
 -- Assumes nothing.
-use mathlib.Core.Path.{_≡_, refl, ap, _∙_}
-use mathlib.Core.Bool.{true}
-use mathlib.Core.List.{List, []}
+use mathlib.Core.Path.{_≡_, refl, sym, ap, _∙_}
+use mathlib.Core.Bool.{Bool, true}
+use mathlib.Core.List.{List, [], _++_}
 use Prim.Native.Nat.{ℕ, zero, _+_, _-_, _/_, _%_, _≤_, _<_}
 use native.Mathlib.Omega.{arith}
 use native.Mathlib.Nat.{sub-zero}
 use lib.ListN.{length, getD, drop, replicate, length-replicate}
 use borrow.Rule.Slice.PartMut.{postOf}
 use Rattle.lists.specs.Inner.Tables.{entry}
+use Rattle.lists.specs.Searched.{firstPlace, same}
+use Rattle.lists.proofs.Struck.{numbered-at}
 use Rattle.lists.proofs.Tables.{wide-made, made-entry}
 use Rattle.grammar.specs.Inner.Rules.{startIn, ruled}
+use Rattle.counting.specs.Totals.{total}
 use Rattle.counting.specs.Inner.Owned.{OwnedAs}
 use Rattle.counting.specs.Inner.Counted.{countAt, Asked, Counted}
 use Rattle.grammar.proofs.Kept.{ruled-same}
 use Rattle.counting.specs.Inner.Preparing.{PreparedAs}
 use Rattle.counting.specs.declared.prepare.Prepared.{Prepared}
 use Rattle.counting.specs.declared.prepare.Prepared.the-variants.{Ready as Passed}
-use Rattle.counting.proofs.Asking.{asked-whole, counted-copied}
+use Rattle.counting.proofs.Asking.{asked-whole}
+use Rattle.counting.proofs.Counts.{T-sentences}
 use Rattle.charts.proofs.Placing.{room-short, room-low}
-use Rattle.charts.specs.Inner.Letters.{letterAt, weightBy}
+use Rattle.charts.specs.Inner.Letters.{any, letterAt, weightBy, stands}
 use Rattle.charts.specs.Inner.Maps.{totalAt, Span, Mapped, Everywhere, LetteredAs}
 use Rattle.charts.specs.Inner.Plan.{lengthIn, needed}
 use Rattle.charts.specs.Inner.Chart.{Fills, Filled, ChartedAs}
 use Rattle.charts.specs.Inner.Ready.{Ready}
-use Rattle.charts.proofs.Mapping.{everywhere-total, everywhere-mapped, all-closed, planned-closed, planned-same}
+use Rattle.charts.proofs.Mapping.{everywhere-mapped, all-closed, planned-closed, planned-same, filled-blank, letter-itself}
 use Rattle.walk.specs.Inner.Sought.{WalkTables, Sought}
 use Rattle.walk.specs.Inner.Steps.{Placed}
-use Rattle.ranking.specs.Inner.Inside.{totalIn, entryIn, readingsIn, numberIn, rankIn, WriteSought}
-use Rattle.ranking.specs.Inner.Ranking.{FindSought, Says, FoundAs, Roomy, NumberSought}
-use Rattle.ranking.specs.declared.rank.Found.{Found}
-use Rattle.ranking.proofs.Weighing.{given, readings-weigh, numbered}
+use Rattle.ranking.specs.Inner.Inside.{fullIn, totalIn, entryIn, numberIn, rankIn, standing, standingAt, placeIn, Chooses, WriteSought, WrittenAs}
+use Rattle.ranking.specs.Inner.Ranking.{FindSought, FoundAs, PlaceSought, Roomy, NumberSought}
+use Rattle.ranking.proofs.Weighing.{any-stands, standing-weigh, counts-standing, counts-standing-at, chosen, readings-weigh, placed}
 
 -- ---- the start symbol over all positions
 
@@ -43,60 +46,108 @@ module _ {rules totals : List (List ℕ)} {n : ℕ} (c : Counted rules totals n)
   whole = record { some = c .some; inside = omega arith }
 
   -- T from the table
-  pub total-asks : (s : ℕ) → s ≡ startIn rules → (17 ≤ length totals) × (s < 32) × (n ≤ 16)
-  total-asks s e = (c .long, omega (arith, c .table .starts, c .table .few), c .short)
+  pub count-asks : (s : ℕ) → s ≡ startIn rules → (17 ≤ length totals) × (s < 32) × (n ≤ 16)
+  count-asks s e = (c .long, omega (arith, c .table .starts, c .table .few), c .short)
 
-  pub total-given : (s : ℕ) → s ≡ startIn rules → (x : ℕ) → x ≡ countAt totals s n → x ≡ totalIn rules n
-  total-given s e x f = f ∙ ap (λ (a : ℕ). countAt totals a n) e ∙ c .right (startIn rules) n start-asked
+  pub count-given : (s : ℕ) → s ≡ startIn rules → (x : ℕ) → x ≡ countAt totals s n → x ≡ totalIn rules n
+  count-given s e x f = f ∙ ap (λ (a : ℕ). countAt totals a n) e ∙ c .right (startIn rules) n start-asked
 
--- ---- *Give*
-
--- what follows the part that was lent
-pub rest-kept : (n : ℕ) (out : List ℕ) → postOf 0 (n - 0) out ≡ drop n out
-rest-kept n out = rw sub-zero
-
-module _ {rules totals counts : List (List ℕ)} {n d : ℕ} {out : List ℕ} (w : WriteSought rules totals n d out) (e : Everywhere counts) where
-  abbrev give-tables : WalkTables rules totals counts counts n
-  give-tables =
-      let c = w .counted in
-      let m = everywhere-mapped rules e c (λ p m. true) in
+  -- the counts choose
+  pub counts-choose : {counts : List (List ℕ)} → Everywhere counts → Chooses rules totals counts n
+  counts-choose {counts} e =
       let letter : (p : ℕ) → p < n → letterAt counts p ≡ 256 = λ p h. e .letter p (omega (arith, c .short)) in
       record {
         counted = c;
         known = λ p m. true;
         closed = all-closed rules n;
-        by = m;
-        to = m;
+        mapped = everywhere-mapped rules e c (λ p m. true);
+        letters = λ p h. omega (arith, letter p h);
         linked = λ p h l. absurd (omega (arith, letter p h));
-        weights = λ p h l. absurd (omega (arith, letter p h));
-        measures = λ p h l. absurd (omega (arith, letter p h));
       }
 
-  pub give-sought : (s : ℕ) → s ≡ startIn rules → Sought rules totals counts counts s 0 n d
-  give-sought s q =
+-- ---- by a map
+
+-- the entry of the whole
+whole-placed : {rules totals map : List (List ℕ)} {n : ℕ} → Counted rules totals n → {known : ℕ → ℕ → Bool} → Mapped rules totals map n known → (a : ℕ)
+    → a ≡ startIn rules → Placed totals map a 0 n
+whole-placed c m a e =
+    rw e
+    (record {
+      wide = c .wide;
+      low = m .low 0 _ (whole c);
+      inside = omega (arith, c .table .starts, c .table .few);
+      early = omega arith;
+      short = c .short;
+    })
+
+module _ {rules totals choice : List (List ℕ)} {n : ℕ} (w : Chooses rules totals choice n) (a : ℕ) (e : a ≡ startIn rules) where
+  pub total-asks : Placed totals choice a 0 n
+  total-asks = whole-placed (w .counted) (w .mapped) a e
+
+  pub total-given : (x : ℕ) → x ≡ totalAt totals choice 0 a n → x ≡ length (standing rules choice n)
+  total-given x h =
+      h
+      ∙ ap (λ (b : ℕ). totalAt totals choice 0 b n) e
+      ∙ w .mapped .right 0 (startIn rules) n (start-asked (w .counted)) (whole (w .counted)) (w .closed .whole)
+      ∙ standing-weigh rules choice n (w .letters)
+
+-- what follows the part that was lent
+pub rest-kept : (n : ℕ) (out : List ℕ) → postOf 0 (n - 0) out ≡ drop n out
+rest-kept n out = rw sub-zero
+
+module _ {rules totals choice counts : List (List ℕ)} {n d : ℕ} {out : List ℕ} (w : WriteSought rules totals choice counts n d out) where
+  abbrev e : Everywhere counts
+  e = w .everywhere
+
+  abbrev write-tables : WalkTables rules totals choice counts n
+  write-tables =
+      let t = w .chooses in
+      let c = t .counted in
+      record {
+        counted = c;
+        known = t .known;
+        closed = t .closed;
+        by = t .mapped;
+        to = everywhere-mapped rules e c (t .known);
+        linked = t .linked;
+        weights = λ p h l. absurd (omega (arith, t .letters p h));
+        measures = λ p h l. absurd (omega (arith, e .letter p (omega (arith, c .short))));
+      }
+
+  pub write-sought : (s : ℕ) → s ≡ startIn rules → Sought rules totals choice counts s 0 n d
+  write-sought s q =
       rw q
       (record {
         n = n;
-        tables = give-tables;
-        asked = start-asked (w .counted);
-        span = whole (w .counted);
-        known = refl;
-        inside = rw (everywhere-total rules e 0 (startIn rules) n (omega (arith, w .counted .short))) (w .inside);
+        tables = write-tables;
+        asked = start-asked (w .chooses .counted);
+        span = whole (w .chooses .counted);
+        known = w .chooses .closed .whole;
+        inside = rw (standing-weigh rules choice n (w .chooses .letters)) (w .inside);
       })
 
-  pub give-found : (s : ℕ) → s ≡ startIn rules → {words : List ℕ} {place measured weight offset : ℕ}
-      → OwnedAs (ruled rules) (weightBy rules counts) (weightBy rules counts) s 0 n d words place measured weight offset → words ≡ entryIn rules n d
-  give-found s q r = given rules e n (w .counted .short) (rw q at r)
+  pub written : (s : ℕ) → s ≡ startIn rules → {words : List ℕ} {place measured weight offset : ℕ}
+      → OwnedAs (ruled rules) (weightBy rules choice) (weightBy rules counts) s 0 n d words place measured weight offset
+      → WrittenAs rules choice n d out (words ++ postOf 0 (n - 0) out) place
+  written s q {words} {place} r =
+      let f = chosen rules e n (w .chooses .counted .short) choice (w .chooses .letters) (rw q at r) in
+      record { words = ap (λ (l : List ℕ). words ++ l) (rest-kept n out) ∙ ap (λ (x : ℕ × List ℕ). x .1 ++ drop n out) (sym f); number-is = sym (ap (λ (x : ℕ × List ℕ). x .0) f) }
 
--- ---- *Number*
+-- ---- the derivations of a sentence
 
-module _ {rules plan map counts : List (List ℕ)} {s sets : List ℕ} {totals : List (List ℕ)} (f : FindSought rules plan map counts s sets totals) where
+module _ {rules plan map : List (List ℕ)} {first : ℕ} {s sets : List ℕ} {totals : List (List ℕ)} (f : FindSought rules plan map first s sets totals) where
   short : length s ≤ 16
   short = f .ready .blank .counted .short
 
   -- the letters are the sentence's
-  module _ {lettered : List (List ℕ)} (p : LetteredAs s map lettered) where
-    ready-lettered : Ready rules plan lettered totals (length s)
+  module _ {lettered : List (List ℕ)} (p : LetteredAs any s map lettered) where
+    letters : (i : ℕ) → i < length s → letterAt lettered i ≡ getD s i 0
+    letters i h = p .letters i h ∙ letter-itself (getD s i 0) (p .bytes i h)
+
+    small : (i : ℕ) → i < length s → letterAt lettered i < any
+    small i h = omega (arith, letters i h, p .bytes i h)
+
+    ready-lettered : Ready rules plan lettered totals first (length s)
     ready-lettered = record {
       blank = f .ready .blank;
       linked = f .ready .linked;
@@ -105,93 +156,129 @@ module _ {rules plan map counts : List (List ℕ)} {s sets : List ℕ} {totals :
       wide = p .wide;
     }
 
-    pub fill-asks : Fills rules plan lettered (lengthIn plan) sets totals
+    pub fill-asks : Fills rules plan lettered first (lengthIn plan) sets totals
     fill-asks =
         rw (f .ready .planned .length)
         (record {
           blank = f .ready .blank;
           planned = ready-lettered .planned;
           linked = f .ready .linked;
-          letters = λ i h. omega (arith, p .small i h);
+          letters = λ i h. omega (arith, small i h);
           clean = f .clean;
         })
 
     -- and the chart is filled
-    module _ {sets′ : List ℕ} {after : List (List ℕ)} (charted : ChartedAs rules plan lettered (lengthIn plan) totals sets′ after) where
-      abbrev q : Filled rules plan lettered (lengthIn plan) totals after
-      q = charted .filled
-
-      mapped : Mapped rules after lettered (length s) (needed plan)
-      mapped = rw (f .ready .planned .length) at (q .mapped)
+    module _ {sets′ : List ℕ} {after : List (List ℕ)} (charted : ChartedAs rules plan lettered first (lengthIn plan) totals sets′ after) where
+      abbrev q : Filled rules plan lettered first (length s) totals after
+      q = rw (f .ready .planned .length) at (charted .filled)
 
       counted : Counted rules after (length s)
-      counted =
-          let c = f .ready .blank .counted in
-          counted-copied c (omega (arith, q .long, c .long)) (q .wide) (record { long = refl; rows = λ r h. q .kept r (omega (arith, short)); rest = λ r h. refl })
+      counted = filled-blank (f .ready .blank) (f .ready .planned .behind) q .counted
 
-      ready-after : Ready rules plan lettered after (length s)
-      ready-after =
-          let b = f .ready .blank in
-          record {
-            blank = record {
-              counted = counted;
-              zeros = λ A. ap (λ (l : List ℕ). getD l A 0) (q .kept 17 (omega arith)) ∙ b .zeros A;
-              room = omega (arith, q .long, b .room);
-            };
+      module _ (a : ℕ) (e : a ≡ startIn rules) where
+        pub whole-asks : Placed after lettered a 0 (length s)
+        whole-asks = whole-placed counted (q .mapped) a e
+
+        pub found-as : (x : ℕ) → x ≡ totalAt after lettered 0 a (length s) → FoundAs rules plan lettered first s totals sets′ after x
+        found-as x h = record {
+          derivations = h
+              ∙ ap (λ (b : ℕ). totalAt after lettered 0 b (length s)) e
+              ∙ q .mapped .right 0 (startIn rules) (length s) (start-asked counted) (whole counted) (f .ready .planned .cut .whole)
+              ∙ readings-weigh rules lettered s letters small;
+          letters = letters;
+          small = small;
+          filled = q;
+          ready = record {
+            blank = filled-blank (f .ready .blank) (f .ready .planned .behind) q;
             linked = f .ready .linked;
             planned = ready-lettered .planned;
             long = p .long;
             wide = p .wide;
-          }
+          };
+          clean = rw (f .ready .planned .length) at (charted .clean);
+        }
 
-      pub found-as : {o : Found} → Says rules s o → FoundAs rules plan lettered s sets′ after o
-      found-as says = record { says = says; ready = ready-after; clean = rw (f .ready .planned .length) at (charted .clean) }
+-- ---- the place of its first
 
-      abbrev tables : WalkTables rules after lettered counts (length s)
-      tables = record {
-        counted = counted;
-        known = needed plan;
-        closed = planned-closed short (ready-lettered .planned);
-        by = mapped;
-        to = everywhere-mapped rules (f .everywhere) counted (needed plan);
-        linked = λ i h l. f .ready .linked;
-        weights = λ i h l. absurd (omega (arith, p .small i h));
-        measures = λ i h l. absurd (omega (arith, f .everywhere .letter i (omega (arith, short))));
-      }
+-- a sentence with derivations, once its chart is filled, and a measure whose totals the table has over the same spans
+module _ {rules plan map : List (List ℕ)} {first : ℕ} {s : List ℕ} {before : List (List ℕ)} {sets : List ℕ} {totals : List (List ℕ)} {k : ℕ}
+    (f : FoundAs rules plan map first s before sets totals k) (some : 1 ≤ k) {measure : List (List ℕ)} where
+  pub place-asks : Mapped rules totals measure (length s) (needed plan) → ((p : ℕ) → p < length s → letterAt measure p ≤ any) → stands measure 0 s ≡ true
+      → PlaceSought rules totals map measure (length s) s
+  place-asks m letters stand = record {
+    long = refl;
+    some = omega (arith, f .derivations);
+    stand = stand;
+    counted = f .ready .blank .counted;
+    linked = f .ready .linked;
+    known = needed plan;
+    closed = planned-closed (f .ready .blank .counted .short) (f .ready .planned);
+    mapped = f .filled .mapped;
+    measured = m;
+    letters = f .letters;
+    small = f .small;
+    measure-letters = letters;
+  }
 
-      module _ (a : ℕ) (e : a ≡ startIn rules) where
-        pub count-asks : Placed after lettered a 0 (length s)
-        count-asks = rw e
-            (record {
-              wide = counted .wide;
-              low = mapped .low 0 (length s) (whole counted);
-              inside = omega (arith, counted .table .starts, counted .table .few);
-              early = omega arith;
-              short = short;
-            })
+  -- the counts measure every sentence
+  pub place-asks-counts : Everywhere measure → PlaceSought rules totals map measure (length s) s
+  place-asks-counts e =
+      let c = f .ready .blank .counted in
+      let letter : (p : ℕ) → p < length s → letterAt measure p ≡ any = λ p h. e .letter p (omega (arith, c .short)) in
+      place-asks (everywhere-mapped rules e c (needed plan)) (λ p h. omega (arith, letter p h)) (any-stands measure 0 s (λ i h. letter (0 + i) (omega arith)))
 
-        pub count-is : (x : ℕ) → x ≡ totalAt after lettered 0 a (length s) → x ≡ readingsIn rules s
-        count-is x h =
-            h
-            ∙ ap (λ (b : ℕ). totalAt after lettered 0 b (length s)) e
-            ∙ mapped .right 0 (startIn rules) (length s) (start-asked counted) (whole counted) (f .ready .planned .cut .whole)
-            ∙ readings-weigh rules (f .everywhere) (length s) short lettered s refl (p .letters) (p .small)
+module _ {rules totals letters measure : List (List ℕ)} {n : ℕ} {s : List ℕ} (w : PlaceSought rules totals letters measure n s) (a : ℕ) (e : a ≡ startIn rules) where
+  abbrev place-tables : WalkTables rules totals letters measure n
+  place-tables = record {
+    counted = w .counted;
+    known = w .known;
+    closed = w .closed;
+    by = w .mapped;
+    to = w .measured;
+    linked = λ i h l. w .linked;
+    weights = λ i h l. absurd (omega (arith, w .small i h));
+    measures = λ i h l. absurd (omega (arith, w .measure-letters i h));
+  }
 
-        pub find-sought : {ticket : ℕ} → ticket < readingsIn rules s → Sought rules after lettered counts a 0 (length s) ticket
-        find-sought h =
-            rw e
-            (record {
-              n = length s;
-              tables = tables;
-              asked = start-asked counted;
-              span = whole counted;
-              known = f .ready .planned .cut .whole;
-              inside = rw (readings-weigh rules (f .everywhere) (length s) short lettered s refl (p .letters) (p .small)) h;
-            })
+  -- what is asked of s, by its own length
+  own : (i : ℕ) → i < length s → i < n
+  own i h = omega (arith, w .long)
 
-        pub found-number : {words : List ℕ} {place measured weight offset : ℕ}
-            → OwnedAs (ruled rules) (weightBy rules lettered) (weightBy rules counts) a 0 (length s) 0 words place measured weight offset → place ≡ numberIn rules s
-        found-number r = numbered rules (f .everywhere) (length s) short lettered s refl (p .letters) (p .small) (rw e at r)
+  pub place-sought : Sought rules totals letters measure a 0 n 0
+  place-sought =
+      let weighs = readings-weigh rules letters s (λ i h. w .letters i (own i h)) (λ i h. w .small i (own i h)) in
+      let some : 0 < total (ruled rules) (weightBy rules letters) 0 (startIn rules) (length s) = omega (arith, weighs, w .some) in
+      rw e
+      (record {
+        n = n;
+        tables = place-tables;
+        asked = start-asked (w .counted);
+        span = whole (w .counted);
+        known = w .closed .whole;
+        inside = rw (w .long) at some;
+      })
+
+  pub place-found : {words : List ℕ} {place measured weight offset : ℕ}
+      → OwnedAs (ruled rules) (weightBy rules letters) (weightBy rules measure) a 0 n 0 words place measured weight offset → place ≡ placeIn rules measure s
+  place-found {words} {place} {measured} {weight} {offset} r =
+      let q : OwnedAs (ruled rules) (weightBy rules letters) (weightBy rules measure) (startIn rules) 0 (length s) 0 words place measured weight offset = rw (w .long, ← e) r in
+      placed rules letters s (λ i h. w .letters i (own i h)) (λ i h. w .small i (own i h)) measure (λ i h. w .measure-letters i (own i h)) (w .stand)
+      q
+
+-- ---- *Give* and *Number*: by the counts every sentence stands
+
+module _ (rules : List (List ℕ)) {counts : List (List ℕ)} (e : Everywhere counts) where
+  pub counts-total : (n : ℕ) → n ≤ 16 → length (standing rules counts n) ≡ totalIn rules n
+  counts-total n short = ap length (counts-standing rules e n short) ∙ sym (T-sentences (ruled rules) (startIn rules) n)
+
+  pub counts-entry : (n d : ℕ) → n ≤ 16 → d < totalIn rules n → getD (standingAt rules counts n) d (0, []) ≡ (d, entryIn rules n d)
+  counts-entry n d short h =
+      ap (λ (l : List (ℕ × List ℕ)). getD l d (0, [])) (counts-standing-at rules e n short)
+      ∙ numbered-at 0 (fullIn rules n) d [] (0, []) (omega (arith, T-sentences (ruled rules) (startIn rules) n))
+      ∙ ap (λ (i : ℕ). (i, entryIn rules n d)) (omega arith)
+
+  pub counts-place : (s : List ℕ) → length s ≤ 16 → placeIn rules counts s ≡ numberIn rules s
+  counts-place s short = ap (firstPlace (λ u. same u s)) (counts-standing rules e (length s) short)
 
 -- ---- the tables, once 1 to 10 are passed
 
@@ -240,7 +327,3 @@ roomy-long n = record {
   long = λ l. omega (arith, room-low n l, length-replicate 154 (replicate 32 zero));
   counts = omega (arith, length-replicate 154 (replicate 32 zero));
 }
-
--- what is found, once its case is known
-pub found-case : {rules plan map : List (List ℕ)} {s sets : List ℕ} {totals : List (List ℕ)} {f d : Found} → FoundAs rules plan map s sets totals f → f ≡ d → Says rules s d
-found-case q e = (rw e at q) .says

@@ -1,30 +1,24 @@
 // *Number*: how many derivations a sentence has, and the lowest of their numbers.
 ghost use mathlib.Core.Path.{_≡_};
+ghost use mathlib.Core.List.{List};
+ghost use Prim.Native.Nat.{ℕ};
 ghost use lib.ListN.{length};
 ghost use Rattle.ranking.specs.Answers.{rankOf};
 ghost use Rattle.ranking.specs.Inner.Says.{rankSays};
-ghost use Rattle.ranking.specs.Inner.Inside.{rankIn};
-ghost use Rattle.ranking.specs.Inner.Ranking.{FindSought, FoundAs, NumberSought, Roomy};
+ghost use Rattle.ranking.specs.Inner.Inside.{placeIn, rankIn};
+ghost use Rattle.ranking.specs.Inner.Ranking.{FindSought, FoundAs, PlaceSought, NumberSought, Roomy};
 use crate::unrank;
 use crate::unrank::DerivationNumber;
 use answers::refusal::Refusal;
 use charts::chart;
 use charts::maps;
+use charts::maps::ANY;
 use charts::ready;
 use counting::prepare;
 use counting::prepare::Prepared;
 use grammar::rules;
 use walk::nodes;
 use walk::nodes::Node;
-
-// The derivations of a sentence: none, or how many and the lowest of their numbers.
-pub enum Found {
-    None,
-    Some {
-        derivations: u64,
-        lowest: DerivationNumber,
-    },
-}
 
 pub enum RankAnswer {
     Given {
@@ -35,37 +29,47 @@ pub enum RankAnswer {
     Refused(Refusal),
 }
 
-// The derivations of a sentence of the plan's length: chosen by the sentence, measured by the counts. Ticket 0 is the first's.
-pub fn find(
+// How many derivations a sentence of the plan's length has: what the whole weighs by its letters.
+pub fn derivations(
     rules: &[[u8; 256]],
     plan: &[[u32; 32]; 4],
     map: &mut [[u16; 16]; 17],
-    counts: &[[u16; 16]; 17],
     sentence: &[u8],
     sets: &mut [u32],
     totals: &mut [[u64; 32]],
-) -> Found
-    requires { ⌜ FindSought (now rules) (now plan) (now map) (now counts) (now sentence) (now sets) (now totals) ⌝ }
-    ensures { λ f. ⌜ FoundAs (now (rules .entry)) (now (plan .entry)) (now (map .exit)) (now (sentence .entry)) (now (sets .exit)) (now (totals .exit)) f ⌝ }
+) -> u64
+    requires { ⌜ ((first : ℕ) × FindSought (now rules) (now plan) (now map) first (now sentence) (now sets) (now totals)) ⌝ }
+    ensures { λ k. ⌜ ((first : ℕ) → FindSought (now (rules .entry)) (now (plan .entry)) (now (map .entry)) first (now (sentence .entry)) (now (sets .entry)) (now (totals .entry)) → FoundAs (now (rules .entry)) (now (plan .entry)) (now (map .exit)) first (now (sentence .entry)) (now (totals .entry)) (now (sets .exit)) (now (totals .exit)) k) ⌝ }
 {
-    maps::set_letters(sentence, map);
+    maps::set_letters(sentence, ANY, map);
     chart::fill(rules, plan, map, sets, totals);
-    let n = sentence.len();
+    let node = Node {
+        a: rules::start(rules),
+        p: 0,
+        m: sentence.len(),
+    };
+    nodes::total(totals, map, node)
+}
+
+// The place of a sentence's first derivation by a measure. The sentence's letters choose, so that ticket 0 is the first's.
+pub fn place(
+    rules: &[[u8; 256]],
+    totals: &[[u64; 32]],
+    letters: &[[u16; 16]; 17],
+    measure: &[[u16; 16]; 17],
+    n: usize,
+) -> u64
+    requires { ⌜ ((s : List ℕ) × PlaceSought (now rules) (now totals) (now letters) (now measure) n s) ⌝ }
+    ensures { λ d. ⌜ ((s : List ℕ) → PlaceSought (now (rules .entry)) (now (totals .entry)) (now (letters .entry)) (now (measure .entry)) n s → d ≡ placeIn (now (rules .entry)) (now (measure .entry)) s) ⌝ }
+{
     let node = Node {
         a: rules::start(rules),
         p: 0,
         m: n,
     };
-    let derivations = nodes::total(totals, map, node);
-    if derivations == 0 {
-        return Found::None;
-    }
     let mut words = [0u8; 16];
-    let f = walk::choose(rules, totals, map, counts, node, 0, &mut words[0..n]);
-    Found::Some {
-        derivations: derivations,
-        lowest: DerivationNumber(f.place),
-    }
+    let f = walk::choose(rules, totals, letters, measure, node, 0, &mut words[0..n]);
+    f.place
 }
 
 // With the tables at hand.
@@ -79,19 +83,16 @@ fn number_by(rules: &mut [[u8; 256]], sentence: &[u8], totals: &mut [[u64; 32]])
     let map_row = [0u16; 16];
     let mut map = [map_row; 17];
     ready::ready(rules, totals, n, &mut plan, &mut map);
-    let counts = maps::EVERYWHERE;
     let mut sets = [0u32; 154];
-    let f = find(rules, &plan, &mut map, &counts, sentence, &mut sets, totals);
-    match f {
-        Found::None => RankAnswer::Refused(Refusal::SentenceUnderivable),
-        Found::Some {
-            derivations: k,
-            lowest: d,
-        } => RankAnswer::Given {
-            lowest: d,
-            total: unrank::total(rules, totals, n),
-            derivations: k,
-        },
+    let k = derivations(rules, &plan, &mut map, sentence, &mut sets, totals);
+    if k == 0 {
+        return RankAnswer::Refused(Refusal::SentenceUnderivable);
+    }
+    let counts = maps::EVERYWHERE;
+    RankAnswer::Given {
+        lowest: DerivationNumber(place(rules, totals, &map, &counts, n)),
+        total: unrank::count(rules, totals, n),
+        derivations: k,
     }
 }
 

@@ -1,17 +1,17 @@
 // *Give*: the sentence with a derivation number.
 ghost use mathlib.Core.Path.{_≡_};
-ghost use mathlib.Core.List.{_++_};
-ghost use lib.ListN.{drop};
+ghost use lib.ListN.{length};
 ghost use Rattle.counting.specs.Inner.Counted.{Counted};
 ghost use Rattle.ranking.specs.Answers.{unrankOf};
 ghost use Rattle.ranking.specs.Inner.Says.{unrankSays};
-ghost use Rattle.ranking.specs.Inner.Inside.{totalIn, entryIn, WriteSought, unrankIn};
+ghost use Rattle.ranking.specs.Inner.Inside.{totalIn, standing, Chooses, WriteSought, WrittenAs, unrankIn};
 use answers::refusal::Refusal;
 use charts::maps;
 use counting::prepare;
 use counting::prepare::Prepared;
 use counting::tallies;
 use grammar::rules;
+use walk::nodes;
 use walk::nodes::Node;
 
 // How many derivations stand before one (document 01: derivation number). No draw number is one.
@@ -23,39 +23,55 @@ pub enum UnrankAnswer {
 }
 
 // T(S, n), from the table.
-pub fn total(rules: &[[u8; 256]], totals: &[[u64; 32]], n: usize) -> u64
+pub fn count(rules: &[[u8; 256]], totals: &[[u64; 32]], n: usize) -> u64
     requires { ⌜ Counted (now rules) (now totals) n ⌝ }
     ensures { λ t. ⌜ t ≡ totalIn (now (rules .entry)) n ⌝ }
 {
     tallies::count_at(totals, rules::start(rules), n)
 }
 
-// The sentence with the derivation number d into the first bytes of `out`: choice and measure are the counts, so that ticket d is entry d.
-pub fn write(
-    rules: &[[u8; 256]],
-    totals: &[[u64; 32]],
-    n: usize,
-    number: DerivationNumber,
-    out: &mut [u8],
-)
-    requires { ⌜ WriteSought (now rules) (now totals) n (number .0) (now out) ⌝ }
-    ensures { λ _. ⌜ now (out .exit) ≡ entryIn (now (rules .entry)) n (number .0) ++ drop n (now (out .entry)) ⌝ }
+// How many derivations there are whose words stand where the choice's letters ask for them; by the counts T(S, n).
+pub fn total(rules: &[[u8; 256]], totals: &[[u64; 32]], choice: &[[u16; 16]; 17], n: usize) -> u64
+    requires { ⌜ Chooses (now rules) (now totals) (now choice) n ⌝ }
+    ensures { λ t. ⌜ t ≡ length (standing (now (rules .entry)) (now (choice .entry)) n) ⌝ }
 {
-    let counts = maps::EVERYWHERE;
     let node = Node {
         a: rules::start(rules),
         p: 0,
         m: n,
     };
-    walk::choose(
+    nodes::total(totals, choice, node)
+}
+
+// Of these derivations the one with so many of them before it: its sentence into the first bytes of `out`, and its number among all, which the counts
+// measure. Where the counts choose too, that is the number given.
+pub fn write(
+    rules: &[[u8; 256]],
+    totals: &[[u64; 32]],
+    choice: &[[u16; 16]; 17],
+    counts: &[[u16; 16]; 17],
+    n: usize,
+    number: DerivationNumber,
+    out: &mut [u8],
+) -> DerivationNumber
+    requires { ⌜ WriteSought (now rules) (now totals) (now choice) (now counts) n (number .0) (now out) ⌝ }
+    ensures { λ d. ⌜ WrittenAs (now (rules .entry)) (now (choice .entry)) n (number .0) (now (out .entry)) (now (out .exit)) (d .0) ⌝ }
+{
+    let node = Node {
+        a: rules::start(rules),
+        p: 0,
+        m: n,
+    };
+    let f = walk::choose(
         rules,
         totals,
-        &counts,
-        &counts,
+        choice,
+        counts,
         node,
         number.0,
         &mut out[0..n],
     );
+    DerivationNumber(f.place)
 }
 
 // With the tables at hand.
@@ -69,14 +85,15 @@ fn give(
     requires { ⌜ Counted (now rules) (now totals) n ⌝ }
     ensures { λ r. ⌜ unrankSays r (now (out .exit)) ≡ unrankIn (now (rules .entry)) n (number .0) (now (out .entry)) ⌝ }
 {
-    let t = total(rules, totals, n);
+    let t = count(rules, totals, n);
     if t <= number.0 {
         return UnrankAnswer::Refused(Refusal::NumberBeyond);
     }
     if out.len() < n {
         return UnrankAnswer::Refused(Refusal::BufferTooShort);
     }
-    write(rules, totals, n, number, out);
+    let counts = maps::EVERYWHERE;
+    write(rules, totals, &counts, &counts, n, number, out);
     UnrankAnswer::Given(t)
 }
 

@@ -1,42 +1,44 @@
--- How many derivations are struck. A heard sentence with one derivation has just one place in the full list, its number; where no heard
--- sentence has two derivations, every struck place is such a number. So the numbers of the heard sentences that *Left* counts are the struck
--- places, each once, and left is the length of the unheard list.
+-- How many derivations are struck, of those that fit. A heard sentence that fits and has one derivation has just one place among them; where no heard
+-- sentence has two derivations, every struck place is that of such a sentence. So the places of the heard sentences that *Left* counts are the struck
+-- ones, each once, and left is the length of the unheard list.
 -- Assumes nothing.
 use mathlib.Core.Path.{_≡_, refl, sym, ap, _∙_}
-use mathlib.Core.Bool.{Bool, true, false, cond, not, true≢false}
+use mathlib.Core.Logic.{_≢_}
+use mathlib.Core.Bool.{Bool, true, false, cond, not, _&&_, true≢false}
 use mathlib.Core.List.{List, [], _∷_, map, List·Memᴰ·head, List·Memᴰ·tail, Memᴰ·cast, Memᴰ·map, Memᴰ·of-map}
-use Prim.Native.Nat.{ℕ, suc, _+_, _≤_, _<_}
+use Prim.Native.Nat.{ℕ, suc, _+_, _-_, _≤_, _<_}
 use native.Mathlib.Omega.{arith}
 use lib.ListN.{length, getD, length-map, List·getD-map}
 use lib.Dec.{leb, eqb}
 use borrow.Author.Tests.{leb-false, eqb-true, eq-eqb, not-false}
-use Rattle.lists.specs.Joined.{_∈_}
+use Rattle.lists.specs.Joined.{_∈_, At}
 use Rattle.lists.specs.Ordered.{Pairwise, none, more, Distinct, Exactly}
-use Rattle.lists.specs.Searched.{someOf, same, keep}
+use Rattle.lists.specs.Searched.{bit, howMany, firstPlace, someOf, same, keep}
 use Rattle.lists.specs.Inner.Struck.{numbered, skip}
-use Rattle.lists.proofs.Members.{getD-∈}
+use Rattle.lists.proofs.Members.{getD-∈, At-∈}
 use Rattle.lists.proofs.Orders.{pairwise-distinct, distinct-le}
 use Rattle.lists.proofs.Tests.{some-∈, ∈-some, none-∈, same-eq, same-refl}
-use Rattle.lists.proofs.Searches.{many-at}
-use Rattle.lists.proofs.Strikes.{keep-length, keep-∈, ∈-keep, keep-map, struck-rising, struck-fails, fails-struck, struck-unique, keep-numbered, kept-at}
+use Rattle.lists.proofs.Searches.{many-at, place-lt, place-hit, place-only}
+use Rattle.lists.proofs.Struck.{numbered-∈, numbered-sum}
+use Rattle.lists.proofs.Strikes.{keep-∈, ∈-keep, keep-map, keep-keep, keep-many, keep-length, keep-at, sum-keep, keep-pairwise, struck-rising, struck-fails, fails-struck, struck-unique}
 use Rattle.grammar.specs.Layout.{start}
 use Rattle.grammar.specs.Chains.{chain}
 use Rattle.grammar.specs.Trees.{Tree, leaf, sentence}
 use Rattle.counting.specs.Inner.Sentences as counting
 use Rattle.counting.proofs.Sentences.{sentence-length}
-use Rattle.ranking.specs.Answers.{fullList, totalOf, entryOf, derives, readingsOf, numberOf}
-use Rattle.ranking.proofs.Demand2.{listed-total, number-inside, number-says, number-only}
+use Rattle.ranking.specs.Answers.{fullList, derives, readingsOf}
 use Rattle.history.specs.Refusals as history
 use Rattle.history.specs.Heard.{sentencesIn, heard}
 use Rattle.history.proofs.Chain.{heard-sentences}
+use Rattle.sampling.specs.Pattern.{matches}
 use Rattle.sampling.specs.Question.{Question}
-use Rattle.sampling.specs.Unheard.{Entry, entriesFrom, outside, unheard, distinct, ofLength, heardOf, leftOf, ambiguous}
-use Rattle.sampling.specs.Inner.Collect.{barred}
+use Rattle.sampling.specs.Unheard.{Entry, entriesFrom, outside, suits, unheard, totalFor, distinct, ofLength, heardOf, leftOf, ambiguous}
+use Rattle.sampling.specs.Inner.Collect.{fittingAt, barred}
 use Rattle.sampling.specs.Answers.{drawn}
 
 -- ---- sentences, each once
 
-distinct-∈ : (l : List (List ℕ)) (s : List ℕ) → s ∈ distinct l → s ∈ l
+pub distinct-∈ : (l : List (List ℕ)) (s : List ℕ) → s ∈ distinct l → s ∈ l
 distinct-∈ (t ∷ l) s m = go (someOf (same t) l) (distinct-∈ l s) m
   where
     go : (b : Bool) → (s ∈ distinct l → s ∈ l) → s ∈ cond b (distinct l) (t ∷ distinct l) → s ∈ (t ∷ l)
@@ -69,44 +71,11 @@ distinct-once (t ∷ l) = go (someOf (same t) l) refl (distinct-once l)
 
 -- ---- the full list
 
-module _ (g : List ℕ) (n : ℕ) where
-  pub listed-length : (t : Tree) → t ∈ fullList g n → length (sentence t) ≡ n
-  unfolding counting.sentences
-  listed-length t m = sentence-length (chain g) (start g) n (sentence t) (Memᴰ·map sentence m)
+pub listed-length : (g : List ℕ) (n : ℕ) (t : Tree) → t ∈ fullList g n → length (sentence t) ≡ n
+unfolding counting.sentences
+listed-length g n t m = sentence-length (chain g) (start g) n (sentence t) (Memᴰ·map sentence m)
 
-  pub entry-length : (d : ℕ) → d < length (fullList g n) → length (entryOf g n d) ≡ n
-  entry-length d h = listed-length (getD (fullList g n) d (leaf 0 0)) (getD-∈ (fullList g n) d (leaf 0 0) h)
-
-  -- a sentence with one derivation: its number is a place of the full list, the sentence stands there, and nowhere else
-  module _ (s : List ℕ) (e : length s ≡ n) (one : readingsOf g s ≡ 1) where
-    pub number-listed : numberOf g s < length (fullList g n)
-    number-listed = omega (arith, number-inside g s (omega arith), listed-total g (length s), ap (λ (m : ℕ). length (fullList g m)) e)
-
-    pub number-entry : entryOf g n (numberOf g s) ≡ s
-    number-entry = ap (λ (m : ℕ). entryOf g m (numberOf g s)) (sym e) ∙ number-says g s (omega arith)
-
-    pub entry-only : (d : ℕ) → d < length (fullList g n) → entryOf g n d ≡ s → d ≡ numberOf g s
-    entry-only d h f = number-only g s one d (rw e (omega (arith, listed-total g n))) (rw e f)
-
-  -- a sentence that stands in the full list has a derivation
-  pub entry-read : (s : List ℕ) (d : ℕ) → length s ≡ n → d < length (fullList g n) → entryOf g n d ≡ s → 1 ≤ readingsOf g s
-  entry-read s d e h f =
-      many-at (derives s) (fullList g (length s)) d (leaf 0 0) (rw e h) (rw e (ap (λ (u : List ℕ). same u s) f ∙ same-refl s))
-
-  -- sentences with one derivation have different numbers
-  numbers-once : (l : List (List ℕ)) → ((s : List ℕ) → s ∈ l → (length s ≡ n) × (readingsOf g s ≡ 1)) → Distinct l → Distinct (map (numberOf g) l)
-  numbers-once [] h none = none
-  numbers-once (s ∷ l) h (more f d) =
-      more {x = numberOf g s}
-      (λ i m e.
-      let q = Memᴰ·of-map (numberOf g) l m in
-      let a = h s (List·Memᴰ·head refl) in
-      let b = h (q .0) (List·Memᴰ·tail (q .1)) in
-      f (q .0) (q .1)
-      (sym (number-entry s (a .0) (a .1)) ∙ ap (entryOf g n) (e ∙ sym (q .2)) ∙ number-entry (q .0) (b .0) (b .1)))
-      (numbers-once l (λ t m. h t (List·Memᴰ·tail m)) d)
-
--- ---- the unheard list
+-- ---- the derivations that fit
 
 -- a place and what stands there, as an entry
 abbrev pub entry : ℕ × Tree → Entry
@@ -116,33 +85,122 @@ entries-are : (d : ℕ) (l : List Tree) → entriesFrom d l ≡ map entry (numbe
 entries-are d [] = refl
 entries-are d (t ∷ l) = rw (entries-are (suc d) l)
 
+-- what stands where nothing does
+abbrev pub no-entry : ℕ × Tree
+no-entry = (0, leaf 0 0)
+
+module _ (g : List ℕ) (a : Question) where
+  -- each is listed, at its number, and fits
+  pub fitting-∈ : (e : ℕ × Tree) → e ∈ fittingAt g a → At (fullList g (a .length)) (e .0) (e .1) × (e .1 ∈ fullList g (a .length)) × (suits a (e .1) ≡ true)
+  fitting-∈ e m =
+      let q = keep-∈ (λ (e : ℕ × Tree). suits a (e .1)) (numbered 0 (fullList g (a .length))) e m in
+      let z : e .0 - 0 ≡ e .0 = omega arith in
+      let at = rw z at (numbered-∈ 0 (fullList g (a .length)) (q .0) .1) in
+      (at, At-∈ (fullList g (a .length)) (e .0) at, q .1)
+
+  pub fitting-length : length (fittingAt g a) ≡ totalFor g a
+  unfolding totalFor
+  fitting-length = keep-many (λ (e : ℕ × Tree). suits a (e .1)) (numbered 0 (fullList g (a .length))) ∙ numbered-sum (λ t. bit (suits a t)) 0 (fullList g (a .length))
+
+  -- the sentence at a place
+  abbrev sentenceAt : ℕ → List ℕ
+  sentenceAt i = sentence (getD (fittingAt g a) i no-entry .1)
+
+  at-∈ : (i : ℕ) → i < length (fittingAt g a) → (length (sentenceAt i) ≡ a .length) × (matches (a .pattern) (sentenceAt i) ≡ true)
+  at-∈ i h =
+      let q = fitting-∈ (getD (fittingAt g a) i no-entry) (getD-∈ (fittingAt g a) i no-entry h) in
+      (listed-length g (a .length) (getD (fittingAt g a) i no-entry .1) (q .1), q .2)
+
+  -- the place of a sentence's first derivation
+  abbrev pub says : (s : List ℕ) → ℕ × Tree → Bool
+  says s e = derives s (e .1)
+
+  abbrev pub placeOf : List ℕ → ℕ
+  placeOf s = firstPlace (says s) (fittingAt g a)
+
+  -- a sentence that fits has all its derivations there
+  module _ (s : List ℕ) (e : length s ≡ a .length) (fit : matches (a .pattern) s ≡ true) where
+    other : (t : Tree) → suits a t ≡ false → bit (derives s t) ≡ 0
+    other t f = go (derives s t) refl
+      where
+        go : (b : Bool) → derives s t ≡ b → bit b ≡ 0
+        go true q = absurd (true≢false (sym fit ∙ ap (matches (a .pattern)) (sym (same-eq (sentence t) s q)) ∙ f))
+        go false q = refl
+
+    pub many-says : howMany (says s) (fittingAt g a) ≡ readingsOf g s
+    many-says =
+        sum-keep (λ (e : ℕ × Tree). suits a (e .1)) (λ (e : ℕ × Tree). bit (derives s (e .1))) (numbered 0 (fullList g (a .length))) (λ x m f. other (x .1) f)
+        ∙ numbered-sum (λ t. bit (derives s t)) 0 (fullList g (a .length))
+        ∙ ap (λ (n : ℕ). howMany (derives s) (fullList g n)) (sym e)
+
+    -- with one derivation: its place is there, the sentence stands there, and nowhere else
+    module _ (one : readingsOf g s ≡ 1) where
+      pub place-listed : placeOf s < length (fittingAt g a)
+      place-listed = place-lt (says s) (fittingAt g a) (omega (arith, many-says))
+
+      pub place-entry : sentenceAt (placeOf s) ≡ s
+      place-entry = same-eq (sentenceAt (placeOf s)) s (place-hit (says s) (fittingAt g a) no-entry (omega (arith, many-says)))
+
+      pub entry-only : (i : ℕ) → i < length (fittingAt g a) → sentenceAt i ≡ s → i ≡ placeOf s
+      entry-only i h f = place-only (says s) (fittingAt g a) i no-entry (many-says ∙ one) h (ap (λ (u : List ℕ). same u s) f ∙ same-refl s)
+
+  -- a sentence that stands there has a derivation
+  entry-read : (i : ℕ) → i < length (fittingAt g a) → 1 ≤ readingsOf g (sentenceAt i)
+  entry-read i h =
+      let q = at-∈ i h in
+      omega (
+        arith,
+        many-says (sentenceAt i) (q .0) (q .1),
+        many-at (says (sentenceAt i)) (fittingAt g a) i no-entry h (same-refl (sentenceAt i)),
+      )
+
+  -- sentences with one derivation have different places
+  places-once : (l : List (List ℕ)) → ((s : List ℕ) → s ∈ l → (length s ≡ a .length) × (matches (a .pattern) s ≡ true) × (readingsOf g s ≡ 1)) → Distinct l
+      → Distinct (map placeOf l)
+  places-once [] h none = none
+  places-once (s ∷ l) h (more f d) =
+      more {x = placeOf s}
+      (λ i m e.
+      let q = Memᴰ·of-map placeOf l m in
+      let x = h s (List·Memᴰ·head refl) in
+      let y = h (q .0) (List·Memᴰ·tail (q .1)) in
+      f (q .0) (q .1)
+      (sym (place-entry s (x .0) (x .1) (x .2)) ∙ ap sentenceAt (e ∙ sym (q .2)) ∙ place-entry (q .0) (y .0) (y .1) (y .2)))
+      (places-once l (λ t m. h t (List·Memᴰ·tail m)) d)
+
+-- ---- the unheard list
+
 module _ (g h : List ℕ) (a : Question) where
-  -- the heard sentences of the length that have one derivation
+  -- the sentence at a place is unheard
+  abbrev pub free : ℕ × Tree → Bool
+  free e = outside h (a .voice) (e .1)
+
+  -- the heard sentences of the length that have one derivation, and of these the ones that fit
   abbrev oneReading : List (List ℕ)
   oneReading = keep (λ s. eqb (readingsOf g s) 1) (ofLength h a)
 
-  -- the unheard list, by pairs of a place and what stands there
-  abbrev pub kept : List (ℕ × Tree)
-  kept = keep (λ (e : ℕ × Tree). outside h (a .voice) (e .1)) (numbered 0 (fullList g (a .length)))
+  abbrev counted : List (List ℕ)
+  counted = keep (matches (a .pattern)) (distinct oneReading)
 
-  pub unheard-is : unheard g h a ≡ map entry kept
+  pub unheard-is : unheard g h a ≡ map entry (keep free (fittingAt g a))
   unfolding unheard
   unheard-is =
-      ap (keep (λ (e : Entry). outside h (a .voice) (e .tree))) (entries-are 0 (fullList g (a .length)))
-      ∙ keep-map entry (λ (e : Entry). outside h (a .voice) (e .tree)) (numbered 0 (fullList g (a .length)))
+      ap (keep (λ (e : Entry). suits a (e .tree) && outside h (a .voice) (e .tree))) (entries-are 0 (fullList g (a .length)))
+      ∙ keep-map entry (λ (e : Entry). suits a (e .tree) && outside h (a .voice) (e .tree)) (numbered 0 (fullList g (a .length)))
+      ∙ ap (map entry) (sym (keep-keep free (λ (e : ℕ × Tree). suits a (e .1)) (numbered 0 (fullList g (a .length)))))
 
-  pub unheard-length : length (unheard g h a) ≡ length (keep (outside h (a .voice)) (fullList g (a .length)))
-  unheard-length = ap length unheard-is ∙ length-map kept entry ∙ keep-numbered (outside h (a .voice)) 0 (fullList g (a .length))
+  pub unheard-length : length (unheard g h a) ≡ length (keep free (fittingAt g a))
+  unheard-length = ap length unheard-is ∙ length-map (keep free (fittingAt g a)) entry
 
-  pub unheard-all : length (unheard g h a) + length (barred g h a) ≡ totalOf g (a .length)
-  unheard-all = omega (arith, unheard-length, keep-length (outside h (a .voice)) (fullList g (a .length)), listed-total g (a .length))
+  pub unheard-all : length (unheard g h a) + length (barred g h a) ≡ totalFor g a
+  unheard-all = omega (arith, unheard-length, keep-length free (fittingAt g a), fitting-length g a)
 
-  -- entry q is what the skip of q over the struck places finds
-  pub unheard-at : (q : ℕ) → q < length (unheard g h a) → drawn g h a q ≡ entry (skip q (barred g h a), getD (fullList g (a .length)) (skip q (barred g h a)) (leaf 0 0))
-  unheard-at q l =
-      ap (λ (l : List Entry). getD l q (entry (0, leaf 0 0))) unheard-is
-      ∙ List·getD-map entry kept q (0, leaf 0 0)
-      ∙ ap entry (kept-at (outside h (a .voice)) (fullList g (a .length)) q (leaf 0 0) (omega (arith, unheard-length)))
+  -- entry q is what stands, of those that fit, at the skip of q over the struck places
+  pub unheard-at : (q : ℕ) → drawn g h a q ≡ entry (getD (fittingAt g a) (skip q (barred g h a)) no-entry)
+  unheard-at q =
+      ap (λ (l : List Entry). getD l q (entry no-entry)) unheard-is
+      ∙ List·getD-map entry (keep free (fittingAt g a)) q no-entry
+      ∙ ap entry (keep-at free (fittingAt g a) q no-entry)
 
 -- with an accepted history
 module _ (g h : List ℕ) (a : Question) (diary : history.Accepted h) where
@@ -164,93 +222,101 @@ module _ (g h : List ℕ) (a : Question) (diary : history.Accepted h) where
   pub ∈-length : (s : List ℕ) → heard h (a .voice) s ≡ true → length s ≡ a .length → s ∈ ofLength h a
   ∈-length s e l = ∈-keep (λ s. eqb (length s) (a .length)) (sentencesIn h (a .voice)) s (heard-∈ s e) (eq-eqb (length s) (a .length) l)
 
-  -- ---- the struck places are the numbers of the heard sentences that have one derivation
+  -- ---- the struck places are those of the heard sentences that fit and have one derivation
 
-  -- the number of such a sentence is struck
-  number-fails : (s : List ℕ) → s ∈ ofLength h a → readingsOf g s ≡ 1
-      → (numberOf g s < length (fullList g (a .length))) × (outside h (a .voice) (getD (fullList g (a .length)) (numberOf g s) (leaf 0 0)) ≡ false)
-  number-fails s m one =
+  -- the place of such a sentence is struck
+  place-fails : (s : List ℕ) → s ∈ ofLength h a → matches (a .pattern) s ≡ true → readingsOf g s ≡ 1
+      → (placeOf g a s < length (fittingAt g a)) × (free g h a (getD (fittingAt g a) (placeOf g a s) no-entry) ≡ false)
+  place-fails s m fit one =
       let q = length-∈ s m in
-      (number-listed g (a .length) s (q .1) one, ap (λ (u : List ℕ). not (heard h (a .voice) u)) (number-entry g (a .length) s (q .1) one) ∙ ap not (q .0))
+      (place-listed g a s (q .1) fit one, ap (λ (u : List ℕ). not (heard h (a .voice) u)) (place-entry g a s (q .1) fit one) ∙ ap not (q .0))
 
   module _ (clear : ambiguous g h a ≡ false) where
     pub few-readings : (s : List ℕ) → s ∈ ofLength h a → readingsOf g s < 2
     unfolding ambiguous
     few-readings s m = leb-false 2 (readingsOf g s) (none-∈ (λ s. leb 2 (readingsOf g s)) (ofLength h a) clear s m)
 
-    -- a struck place is the number of such a sentence
-    fails-number : (d : ℕ) → d < length (fullList g (a .length)) → outside h (a .voice) (getD (fullList g (a .length)) d (leaf 0 0)) ≡ false
-        → (s : List ℕ) × (s ∈ ofLength h a) × (readingsOf g s ≡ 1) × (numberOf g s ≡ d)
-    fails-number d l e =
-        let long = entry-length g (a .length) d l in
-        let m = ∈-length (entryOf g (a .length) d) (not-false (heard h (a .voice) (entryOf g (a .length) d)) e) long in
-        let one : readingsOf g (entryOf g (a .length) d) ≡ 1 = omega (arith, few-readings (entryOf g (a .length) d) m, entry-read g (a .length) (entryOf g (a .length) d) d long l refl) in
-        (entryOf g (a .length) d, m, one, sym (entry-only g (a .length) (entryOf g (a .length) d) long one d l refl))
+    -- a struck place is that of such a sentence
+    fails-place : (i : ℕ) → i < length (fittingAt g a) → free g h a (getD (fittingAt g a) i no-entry) ≡ false
+        → (s : List ℕ) × (s ∈ ofLength h a) × (matches (a .pattern) s ≡ true) × (readingsOf g s ≡ 1) × (placeOf g a s ≡ i)
+    fails-place i l e =
+        let s = sentenceAt g a i in
+        let q = at-∈ g a i l in
+        let m = ∈-length s (not-false (heard h (a .voice) s) e) (q .0) in
+        let one : readingsOf g s ≡ 1 = omega (arith, few-readings s m, entry-read g a i l) in
+        (s, m, q .1, one, sym (entry-only g a s (q .0) (q .1) one i l refl))
 
-    -- a rising list of just these numbers is that of the struck places
+    -- a rising list of just these places is that of the struck ones
     pub collected : (l : List ℕ) → Pairwise _<_ l
-        → ((d : ℕ) → d ∈ l → (s : List ℕ) × (s ∈ ofLength h a) × (readingsOf g s ≡ 1) × (numberOf g s ≡ d))
-        → ((s : List ℕ) → s ∈ ofLength h a → readingsOf g s ≡ 1 → numberOf g s ∈ l)
+        → ((d : ℕ) → d ∈ l → (s : List ℕ) × (s ∈ ofLength h a) × (matches (a .pattern) s ≡ true) × (readingsOf g s ≡ 1) × (placeOf g a s ≡ d))
+        → ((s : List ℕ) → s ∈ ofLength h a → matches (a .pattern) s ≡ true → readingsOf g s ≡ 1 → placeOf g a s ∈ l)
         → l ≡ barred g h a
     collected l rising from into =
-        struck-unique (outside h (a .voice)) (fullList g (a .length)) (leaf 0 0) l rising
+        struck-unique (free g h a) (fittingAt g a) no-entry l rising
         (λ d. (
-          λ m. let q = from d m in rw (← q .3) (number-fails (q .0) (q .1) (q .2)),
-          λ p. let q = fails-number d (p .0) (p .1) in Memᴰ·cast (sym (q .3)) (into (q .0) (q .1) (q .2)),
+          λ m. let q = from d m in rw (← q .4) (place-fails (q .0) (q .1) (q .2) (q .3)),
+          λ p. let q = fails-place d (p .0) (p .1) in Memᴰ·cast (sym (q .4)) (into (q .0) (q .1) (q .2) (q .3)),
         ))
 
     -- ---- what *Left* counts
 
     -- a sentence counted is one of these
-    counted-∈ : (s : List ℕ) → s ∈ distinct (oneReading g h a) → (s ∈ ofLength h a) × (readingsOf g s ≡ 1)
+    counted-∈ : (s : List ℕ) → s ∈ counted g h a → (s ∈ ofLength h a) × (matches (a .pattern) s ≡ true) × (readingsOf g s ≡ 1)
     counted-∈ s m =
-        let q = keep-∈ (λ s. eqb (readingsOf g s) 1) (ofLength h a) s (distinct-∈ (oneReading g h a) s m) in
-        (q .0, eqb-true (readingsOf g s) 1 (q .1))
+        let p = keep-∈ (matches (a .pattern)) (distinct (oneReading g h a)) s m in
+        let q = keep-∈ (λ s. eqb (readingsOf g s) 1) (ofLength h a) s (distinct-∈ (oneReading g h a) s (p .0)) in
+        (q .0, p .1, eqb-true (readingsOf g s) 1 (q .1))
 
-    ∈-counted : (s : List ℕ) → s ∈ ofLength h a → readingsOf g s ≡ 1 → s ∈ distinct (oneReading g h a)
-    ∈-counted s m one =
-        ∈-distinct (oneReading g h a) s (∈-keep (λ s. eqb (readingsOf g s) 1) (ofLength h a) s m (eq-eqb (readingsOf g s) 1 one))
+    ∈-counted : (s : List ℕ) → s ∈ ofLength h a → matches (a .pattern) s ≡ true → readingsOf g s ≡ 1 → s ∈ counted g h a
+    ∈-counted s m fit one =
+        ∈-keep (matches (a .pattern)) (distinct (oneReading g h a)) s
+        (∈-distinct (oneReading g h a) s (∈-keep (λ s. eqb (readingsOf g s) 1) (ofLength h a) s m (eq-eqb (readingsOf g s) 1 one)))
+        fit
 
-    -- their numbers are the struck places
-    counted-struck : (d : ℕ) → d ∈ map (numberOf g) (distinct (oneReading g h a)) → d ∈ barred g h a
+    counted-once : Distinct (counted g h a)
+    counted-once = keep-pairwise _≢_ (matches (a .pattern)) (distinct (oneReading g h a)) (distinct-once (oneReading g h a))
+
+    -- their places are the struck ones
+    counted-struck : (d : ℕ) → d ∈ map (placeOf g a) (counted g h a) → d ∈ barred g h a
     counted-struck d m =
-        let p = Memᴰ·of-map (numberOf g) (distinct (oneReading g h a)) m in
+        let p = Memᴰ·of-map (placeOf g a) (counted g h a) m in
         let q = counted-∈ (p .0) (p .1) in
-        let r = number-fails (p .0) (q .0) (q .1) in
-        Memᴰ·cast (sym (p .2)) (fails-struck (outside h (a .voice)) (fullList g (a .length)) (numberOf g (p .0)) (leaf 0 0) (r .0) (r .1))
+        let r = place-fails (p .0) (q .0) (q .1) (q .2) in
+        Memᴰ·cast (sym (p .2)) (fails-struck (free g h a) (fittingAt g a) (placeOf g a (p .0)) no-entry (r .0) (r .1))
 
-    struck-counted : (d : ℕ) → d ∈ barred g h a → d ∈ map (numberOf g) (distinct (oneReading g h a))
+    struck-counted : (d : ℕ) → d ∈ barred g h a → d ∈ map (placeOf g a) (counted g h a)
     struck-counted d m =
-        let p = struck-fails (outside h (a .voice)) (fullList g (a .length)) d (leaf 0 0) m in
-        let q = fails-number d (p .0) (p .1) in
-        Memᴰ·cast (sym (q .3)) (Memᴰ·map (numberOf g) (∈-counted (q .0) (q .1) (q .2)))
+        let p = struck-fails (free g h a) (fittingAt g a) d no-entry m in
+        let q = fails-place d (p .0) (p .1) in
+        Memᴰ·cast (sym (q .4)) (Memᴰ·map (placeOf g a) (∈-counted (q .0) (q .1) (q .2) (q .3)))
 
     pub heard-length : heardOf g h a ≡ length (barred g h a)
     unfolding heardOf
     heard-length =
-        sym (length-map (distinct (oneReading g h a)) (numberOf g))
+        sym (length-map (counted g h a) (placeOf g a))
         ∙ omega (
           arith,
-          distinct-le (map (numberOf g) (distinct (oneReading g h a))) (barred g h a)
-              (numbers-once g (a .length) (distinct (oneReading g h a))
-              (λ s m. let q = counted-∈ s m in (length-∈ s (q .0) .1, q .1)) (distinct-once (oneReading g h a)))
+          distinct-le (map (placeOf g a) (counted g h a)) (barred g h a)
+              (places-once g a (counted g h a)
+              (λ s m. let q = counted-∈ s m in (length-∈ s (q .0) .1, q .1, q .2)) counted-once)
               counted-struck,
-          distinct-le (barred g h a) (map (numberOf g) (distinct (oneReading g h a)))
-              (pairwise-distinct _<_ (λ x y l e. omega arith) (barred g h a) (struck-rising (outside h (a .voice)) (fullList g (a .length))))
+          distinct-le (barred g h a) (map (placeOf g a) (counted g h a))
+              (pairwise-distinct _<_ (λ x y l e. omega arith) (barred g h a) (struck-rising (free g h a) (fittingAt g a)))
               struck-counted,
         )
 
-    -- it counts the heard sentences that have one derivation
-    pub heard-exactly : Exactly (heardOf g h a) (λ s. (length s ≡ a .length) × (heard h (a .voice) s ≡ true) × (readingsOf g s ≡ 1))
+    -- it counts the heard sentences that fit and have one derivation
+    pub heard-exactly : Exactly (heardOf g h a)
+        (λ s. (length s ≡ a .length) × (matches (a .pattern) s ≡ true) × (heard h (a .voice) s ≡ true) × (readingsOf g s ≡ 1))
     unfolding heardOf
     heard-exactly =
         record {
-          listed = distinct (oneReading g h a);
+          listed = counted g h a;
           many = refl;
-          once = distinct-once (oneReading g h a);
+          once = counted-once;
           all = λ s. (
-            λ p. ∈-counted s (∈-length s (p .1) (p .0)) (p .2),
-            λ m. let q = counted-∈ s m in let r = length-∈ s (q .0) in (r .1, r .0, q .1),
+            λ p. ∈-counted s (∈-length s (p .2) (p .0)) (p .1) (p .3),
+            λ m. let q = counted-∈ s m in let r = length-∈ s (q .0) in (r .1, q .1, r .0, q .2),
           );
         }
 
@@ -259,9 +325,5 @@ module _ (g h : List ℕ) (a : Question) (diary : history.Accepted h) where
     left-length = omega (arith, heard-length, unheard-all g h a)
 
     -- so "left = T - heard" is no cut-off difference
-    pub heard-left : heardOf g h a + leftOf g h a ≡ totalOf g (a .length)
+    pub heard-left : heardOf g h a + leftOf g h a ≡ totalFor g a
     heard-left = omega (arith, heard-length, unheard-all g h a)
-
-    pub left-at : (q : ℕ) → q < leftOf g h a
-        → drawn g h a q ≡ entry (skip q (barred g h a), getD (fullList g (a .length)) (skip q (barred g h a)) (leaf 0 0))
-    left-at q l = unheard-at g h a q (omega (arith, left-length))

@@ -1,4 +1,4 @@
--- Collecting the heard numbers: what one sentence adds, and what is collected along the chain. The numbers so far, with what the sentences still
+-- Collecting the heard derivations: what one sentence adds, and what is collected along the chain. The places so far, with what the sentences still
 -- to come add, are all of them.
 -- Assumes nothing.
 use mathlib.Core.Path.{_≡_, refl, sym, ap, _∙_}
@@ -12,13 +12,14 @@ use lib.ListN.{length, set, take, length-set}
 use lib.Seq.{take-suc-set}
 use lib.Dec.{leb, eqb}
 use Rattle.lists.specs.Joined.{concatMap}
-use Rattle.lists.specs.Searched.{someOf, keep}
+use Rattle.lists.specs.Searched.{someOf, firstPlace, same, keep}
+use Rattle.charts.specs.Inner.Letters.{stands}
+use Rattle.charts.specs.Inner.Maps.{Fitted}
 use Rattle.charts.specs.Inner.Plan.{lengthIn}
-use Rattle.ranking.specs.Inner.Inside.{readingsIn, numberIn}
-use Rattle.ranking.specs.Inner.Ranking.{FindSought, Says, FoundAs}
-use Rattle.ranking.specs.declared.rank.Found.{Found}
-use Rattle.ranking.specs.declared.rank.Found.the-variants.{None, Some}
-use Rattle.ranking.specs.declared.unrank.DerivationNumber.{DerivationNumber}
+use Rattle.charts.proofs.Mapping.{mapped-kept, clean-start}
+use Rattle.ranking.specs.Inner.Inside.{readingsIn, fullIn, placeIn}
+use Rattle.ranking.specs.Inner.Ranking.{FindSought, FoundAs, PlaceSought}
+use Rattle.ranking.proofs.Finding.{place-asks}
 use Rattle.history.specs.Layout.{recordsOf, headOf, recordWords}
 use Rattle.history.specs.Chain.{numbersFrom}
 use Rattle.history.specs.Refusals.{Accepted}
@@ -28,55 +29,96 @@ use Rattle.history.specs.Heard.{makesHeard, sentencesIn}
 use Rattle.history.proofs.Acceptance.{known}
 use Rattle.history.proofs.Chain.{chained, numbers-zero}
 use Rattle.history.proofs.Reading.{read-words, read-next, read-step}
-use Rattle.sampling.specs.Question.{Question}
-use Rattle.sampling.specs.Inner.Collect.{numbersIn, manyIn, ambiguousIn, allNumbersIn, HeardSought, Adds, HeardFoundAs, CollectedIs, CollectedAs}
+use Rattle.sampling.specs.Inner.Collect.{numbersIn, manyIn, ambiguousIn, allNumbersIn, Measures, Serves, Adds, HeardFoundAs, Collects, CollectedIs, Still, CollectedAs}
+use Rattle.sampling.specs.declared.heard.Added.{Added}
+use Rattle.sampling.specs.declared.heard.Added.the-variants.{Nothing, Place, Many}
 use Rattle.sampling.specs.declared.heard.Collected.{Collected}
 use Rattle.sampling.specs.declared.heard.Collected.the-variants.{Numbers, Ambiguous}
 
 -- ---- what a sentence adds
 
-module _ (rules : List (List ℕ)) (n : ℕ) (s : List ℕ) where
-  other-none : (length s ≡ n → ⊥) → (manyIn rules n s ≡ false) × (numbersIn rules n s ≡ [])
+module _ (rules : List (List ℕ)) (P : List ℕ → Bool) (n : ℕ) (s : List ℕ) where
+  other-none : (length s ≡ n → ⊥) → Adds rules P n s Nothing
   other-none h = let e = ne-eqb (length s) n h in (rw e, rw e)
 
   module _ (e : length s ≡ n) where
-    read-none : readingsIn rules s ≡ 0 → (manyIn rules n s ≡ false) × (numbersIn rules n s ≡ [])
+    l : eqb (length s) n ≡ true
+    l = eq-eqb (length s) n e
+
+    read-none : readingsIn rules s ≡ 0 → Adds rules P n s Nothing
     read-none z =
-        let l = eq-eqb (length s) n e in
         let m = lt-leb 2 (readingsIn rules s) (omega arith) in
         let o = ne-eqb (readingsIn rules s) 1 (λ f. omega arith) in
         (rw (l, m), rw (l, o))
 
-    read-one : readingsIn rules s ≡ 1 → (manyIn rules n s ≡ false) × (numbersIn rules n s ≡ numberIn rules s ∷ [])
-    read-one z =
-        let l = eq-eqb (length s) n e in
-        let m = lt-leb 2 (readingsIn rules s) (omega arith) in
-        let o = eq-eqb (readingsIn rules s) 1 z in
-        (rw (l, m), rw (l, o))
+    read-many : 2 ≤ readingsIn rules s → Adds rules P n s Many
+    read-many h = rw (l, le-leb 2 (readingsIn rules s) h)
 
-    read-many : 2 ≤ readingsIn rules s → manyIn rules n s ≡ true
-    read-many h = rw (eq-eqb (length s) n e, le-leb 2 (readingsIn rules s) h)
+    module _ (z : readingsIn rules s ≡ 1) where
+      m : leb 2 (readingsIn rules s) ≡ false
+      m = lt-leb 2 (readingsIn rules s) (omega arith)
+
+      o : eqb (readingsIn rules s) 1 ≡ true
+      o = eq-eqb (readingsIn rules s) 1 z
+
+      read-one : P s ≡ true → Adds rules P n s (Place (firstPlace (λ u. same u s) (keep P (fullIn rules n))))
+      read-one p = (rw (l, m), rw (l, o, p))
+
+      read-unfit : P s ≡ false → Adds rules P n s Nothing
+      read-unfit p = (rw (l, m), rw (l, o, p))
 
 -- ---- one sentence
 
-module _ {rules plan map counts : List (List ℕ)} {sets : List ℕ} {totals : List (List ℕ)} (w : HeardSought rules plan map counts sets totals) {s : List ℕ} where
-  pub heard-other : (length s ≡ lengthIn plan → ⊥) → HeardFoundAs rules plan map s sets totals None
-  heard-other f = record { adds = other-none rules (lengthIn plan) s f; ready = w .ready; clean = w .clean }
+module _ {rules plan map measure : List (List ℕ)} {sets : List ℕ} {totals : List (List ℕ)} (w : Serves rules plan map measure sets totals) {s : List ℕ} where
+  pub heard-other : (length s ≡ lengthIn plan → ⊥) → HeardFoundAs rules plan map measure s sets totals Nothing
+  heard-other f = record { adds = other-none rules (stands measure 0) (lengthIn plan) s f; serves = w }
 
   module _ (e : length s ≡ lengthIn plan) where
-    pub heard-sought : FindSought rules plan map counts s sets totals
-    heard-sought = record { ready = rw e (w .ready); everywhere = w .everywhere; clean = rw e (w .clean) }
+    pub heard-sought : FindSought rules plan map (w .first) s sets totals
+    heard-sought = record { ready = rw e (w .ready); clean = rw e (w .clean) }
 
-    pub heard-found : {map′ : List (List ℕ)} {sets′ : List ℕ} {totals′ : List (List ℕ)} {f : Found} → FoundAs rules plan map′ s sets′ totals′ f
-        → HeardFoundAs rules plan map′ s sets′ totals′ f
-    heard-found {f = f} q = record { adds = adds f (q .says); ready = rw e at (q .ready); clean = rw e at (q .clean) }
-      where
-        adds : (f : Found) → Says rules s f → Adds rules (lengthIn plan) s f
-        adds None z = read-none rules (lengthIn plan) s e z
-        adds (Some k d) z = (
-          λ many. read-many rules (lengthIn plan) s e (omega (arith, z .1)),
-          λ few. rw (z .2) (read-one rules (lengthIn plan) s e (omega (arith, z .0, z .1))),
-        )
+    pub heard-fitted : Fitted measure s
+    heard-fitted = record { short = omega (arith, w .ready .blank .counted .short); plain = λ l. w .measures .plain l s e }
+
+    module _ {map′ : List (List ℕ)} {sets′ : List ℕ} {totals′ : List (List ℕ)} {k : ℕ} (q : FoundAs rules plan map′ (w .first) s totals sets′ totals′ k) where
+      -- the measure's rows are none of the chart's
+      measures : Measures rules plan measure totals′ (w .first) (lengthIn plan)
+      measures =
+          let m = w .measures in
+          record {
+            mapped = mapped-kept totals′ (q .filled .long) (λ p j c. q .filled .kept _ (λ l u. omega (arith, m .rows p j c))) (m .mapped);
+            rows = m .rows;
+            letters = m .letters;
+            plain = m .plain;
+          }
+
+      serves : Serves rules plan map′ measure sets′ totals′
+      serves = record { first = w .first; ready = rw e at (q .ready); clean = rw e at (q .clean); measures = measures }
+
+      found : {f : Added} → Adds rules (stands measure 0) (lengthIn plan) s f → HeardFoundAs rules plan map′ measure s sets′ totals′ f
+      found adds = record { adds = adds; serves = serves }
+
+      pub heard-many : 2 ≤ k → HeardFoundAs rules plan map′ measure s sets′ totals′ Many
+      heard-many h = found (read-many rules (stands measure 0) (lengthIn plan) s e (omega (arith, q .derivations)))
+
+      pub heard-none : k ≡ 0 → HeardFoundAs rules plan map′ measure s sets′ totals′ Nothing
+      heard-none h = found (read-none rules (stands measure 0) (lengthIn plan) s e (sym (q .derivations) ∙ h))
+
+      module _ (few : k < 2) (some : k ≡ 0 → ⊥) where
+        one : readingsIn rules s ≡ 1
+        one = omega (arith, q .derivations)
+
+        pub heard-unfit : stands measure 0 s ≡ false → HeardFoundAs rules plan map′ measure s sets′ totals′ Nothing
+        heard-unfit p = found (read-unfit rules (stands measure 0) (lengthIn plan) s e one p)
+
+        pub heard-asks : stands measure 0 s ≡ true → PlaceSought rules totals′ map′ measure (length s) s
+        heard-asks p = place-asks q (omega arith) (rw e (measures .mapped)) (rw e (measures .letters)) p
+
+        pub heard-place : stands measure 0 s ≡ true → {d : ℕ} → d ≡ placeIn rules measure s → HeardFoundAs rules plan map′ measure s sets′ totals′ (Place d)
+        heard-place p {d} h =
+            let z : placeIn rules measure s ≡ firstPlace (λ u. same u s) (keep (stands measure 0) (fullIn rules (lengthIn plan)))
+            = ap (λ (n : ℕ). firstPlace (λ u. same u s) (keep (stands measure 0) (fullIn rules n))) e in
+            rw (h ∙ z) (found (read-one rules (stands measure 0) (lengthIn plan) s e one p))
 
 -- ---- the whole chain
 
@@ -93,49 +135,46 @@ many-ambiguous rules n (s ∷ l) = go (eqb (length s) n) (many-ambiguous rules n
     go false ih = ih
 
 -- the sentences, heard in the voice, that a walk from the number r still tells
-abbrev pub toCome : (h : List ℕ) (a : Question) (r : ℕ) → List (List ℕ)
-toCome h a r = map (recordWords h) (keep (makesHeard h (a .voice)) (numbersFrom h r))
+abbrev pub toCome : (h : List ℕ) (v : ℕ) (r : ℕ) → List (List ℕ)
+toCome h v r = map (recordWords h) (keep (makesHeard h v) (numbersFrom h r))
 
 -- the numbers that they add, and whether one of them has two or more derivations
-abbrev pub numbersDue : (rules : List (List ℕ)) (h : List ℕ) (a : Question) (r : ℕ) → List ℕ
-numbersDue rules h a r = concatMap (numbersIn rules (a .length)) (toCome h a r)
+abbrev pub numbersDue : (rules : List (List ℕ)) (P : List ℕ → Bool) (h : List ℕ) (n v r : ℕ) → List ℕ
+numbersDue rules P h n v r = concatMap (numbersIn rules P n) (toCome h v r)
 
-abbrev pub manyDue : (rules : List (List ℕ)) (h : List ℕ) (a : Question) (r : ℕ) → Bool
-manyDue rules h a r = someOf (manyIn rules (a .length)) (toCome h a r)
+abbrev pub manyDue : (rules : List (List ℕ)) (h : List ℕ) (n v r : ℕ) → Bool
+manyDue rules h n v r = someOf (manyIn rules n) (toCome h v r)
 
 -- before the record `at`, with the first `count` numbers found
-pub record Collecting (rules : List (List ℕ)) (h : List ℕ) (a : Question) (numbers : List ℕ) (at count : ℕ) : Type 0 where
-  pub due : take count numbers ++ numbersDue rules h a at ≡ allNumbersIn rules h a
-  pub many : manyDue rules h a at ≡ ambiguousIn rules h a
+pub record Collecting (rules : List (List ℕ)) (P : List ℕ → Bool) (h : List ℕ) (n v : ℕ) (numbers : List ℕ) (at count : ℕ) : Type 0 where
+  pub due : take count numbers ++ numbersDue rules P h n v at ≡ allNumbersIn rules P h n v
+  pub many : manyDue rules h n v at ≡ ambiguousIn rules h n v
   pub room : count + length (numbersFrom h at) ≤ recordsOf h
   pub long : recordsOf h ≤ length numbers
   pub low : at ≤ recordsOf h
 
-pub collect-start : (rules : List (List ℕ)) (h : List ℕ) (a : Question) (numbers : List ℕ) → Accepted h → recordsOf h ≤ length numbers → {at : ℕ}
-    → at ≡ headOf h → Collecting rules h a numbers at 0
-collect-start rules h a numbers diary long e =
+pub collect-start : (rules : List (List ℕ)) (P : List ℕ → Bool) (h : List ℕ) (n v : ℕ) (numbers : List ℕ) → Accepted h → recordsOf h ≤ length numbers → {at : ℕ}
+    → at ≡ headOf h → Collecting rules P h n v numbers at 0
+collect-start rules P h n v numbers diary long e =
     let all = chained h diary .many in
     rw e
     (record {
       due = refl;
-      many = many-ambiguous rules (a .length) (sentencesIn h (a .voice));
+      many = many-ambiguous rules n (sentencesIn h v);
       room = omega (arith, all);
       long = long;
       low = known h diary .head;
     })
 
-module _ {rules : List (List ℕ)} {h : List ℕ} {a : Question} {numbers : List ℕ} {at count : ℕ} (w : Collecting rules h a numbers at count) (diary : Accepted h) where
+module _ {rules : List (List ℕ)} {P : List ℕ → Bool} {h : List ℕ} {n v : ℕ} {numbers : List ℕ} {at count : ℕ} (w : Collecting rules P h n v numbers at count) (diary : Accepted h) where
   -- at the end
-  pub collect-end : at ≡ 0 → CollectedAs rules h a numbers (Numbers count)
+  pub collect-end : at ≡ 0 → CollectedIs rules P h n v numbers (Numbers count)
   collect-end z =
-      let e : toCome h a at ≡ [] = ap (λ (l : List ℕ). map (recordWords h) (keep (makesHeard h (a .voice)) l)) (numbers-zero h diary at z) in
-      record {
-        holds = (
-          sym (w .many) ∙ ap (someOf (manyIn rules (a .length))) e,
-          omega (arith, w .room),
-          sym (append-nil (take count numbers)) ∙ ap (λ (l : List (List ℕ)). take count numbers ++ concatMap (numbersIn rules (a .length)) l) (sym e) ∙ w .due,
-        );
-      }
+      let e : toCome h v at ≡ [] = ap (λ (l : List ℕ). map (recordWords h) (keep (makesHeard h v) l)) (numbers-zero h diary at z) in (
+        sym (w .many) ∙ ap (someOf (manyIn rules n)) e,
+        omega (arith, w .room),
+        sym (append-nil (take count numbers)) ∙ ap (λ (l : List (List ℕ)). take count numbers ++ concatMap (numbersIn rules P n) l) (sym e) ∙ w .due,
+      )
 
   -- a record more
   module _ (more : at ≡ 0 → ⊥) where
@@ -160,28 +199,28 @@ module _ {rules : List (List ℕ)} {h : List ℕ} {a : Question} {numbers : List
     next-low = omega (arith, read-next h at diary (collect-inside .low) (w .low), known h diary .nexts at (collect-inside .low) (w .low))
 
     -- its sentence is the first to come if it makes it heard
-    first : {b : Bool} → b ≡ makesHeard h (a .voice) at → toCome h a at ≡ cond b (recordWords h at ∷ toCome h a (nextAt h at)) (toCome h a (nextAt h at))
+    first : {b : Bool} → b ≡ makesHeard h v at → toCome h v at ≡ cond b (recordWords h at ∷ toCome h v (nextAt h at)) (toCome h v (nextAt h at))
     first {b} e =
-        ap (λ (l : List ℕ). map (recordWords h) (keep (makesHeard h (a .voice)) l)) step
+        ap (λ (l : List ℕ). map (recordWords h) (keep (makesHeard h v) l)) step
         ∙ rw (← e) (go b)
       where
         rest : List ℕ
-        rest = keep (makesHeard h (a .voice)) (numbersFrom h (nextAt h at))
+        rest = keep (makesHeard h v) (numbersFrom h (nextAt h at))
 
-        go : (b : Bool) → map (recordWords h) (cond b (at ∷ rest) rest) ≡ cond b (recordWords h at ∷ toCome h a (nextAt h at)) (toCome h a (nextAt h at))
+        go : (b : Bool) → map (recordWords h) (cond b (at ∷ rest) rest) ≡ cond b (recordWords h at ∷ toCome h v (nextAt h at)) (toCome h v (nextAt h at))
         go true = refl
         go false = refl
 
     -- the numbers that it adds stand behind those so far
-    behind : (k : List ℕ) → manyDue rules h a at ≡ manyDue rules h a (nextAt h at) → numbersDue rules h a at ≡ k ++ numbersDue rules h a (nextAt h at)
+    behind : (k : List ℕ) → manyDue rules h n v at ≡ manyDue rules h n v (nextAt h at) → numbersDue rules P h n v at ≡ k ++ numbersDue rules P h n v (nextAt h at)
         → length k ≤ 1 → {next count′ : ℕ} {numbers′ : List ℕ} → next ≡ nextAt h at → count′ ≡ count + length k
         → take count′ numbers′ ≡ take count numbers ++ k → length numbers′ ≡ length numbers
-        → Collecting rules h a numbers′ next count′
+        → Collecting rules P h n v numbers′ next count′
     behind k many adds few e c front kept =
         rw e
         (record {
-          due = ap (λ (l : List ℕ). l ++ numbersDue rules h a (nextAt h at)) front
-              ∙ append-assoc (take count numbers) k (numbersDue rules h a (nextAt h at))
+          due = ap (λ (l : List ℕ). l ++ numbersDue rules P h n v (nextAt h at)) front
+              ∙ append-assoc (take count numbers) k (numbersDue rules P h n v (nextAt h at))
               ∙ ap (λ (l : List ℕ). take count numbers ++ l) (sym adds)
               ∙ w .due;
           many = sym many ∙ w .many;
@@ -191,49 +230,60 @@ module _ {rules : List (List ℕ)} {h : List ℕ} {a : Question} {numbers : List
         })
 
     -- it makes nothing heard
-    pub collect-unheard : {b : Bool} → b ≡ makesHeard h (a .voice) at → b ≡ false → {next : ℕ} → next ≡ nextAt h at → Collecting rules h a numbers next count
+    pub collect-unheard : {b : Bool} → b ≡ makesHeard h v at → b ≡ false → {next : ℕ} → next ≡ nextAt h at → Collecting rules P h n v numbers next count
     collect-unheard makes fails e =
         let f = first (sym fails ∙ makes) in
-        behind [] (ap (someOf (manyIn rules (a .length))) f) (ap (concatMap (numbersIn rules (a .length))) f) (omega arith) e (omega arith)
+        behind [] (ap (someOf (manyIn rules n)) f) (ap (concatMap (numbersIn rules P n)) f) (omega arith) e (omega arith)
         (sym (append-nil (take count numbers))) refl
 
     -- it makes its sentence heard, which was read
-    module _ {b : Bool} (makes : b ≡ makesHeard h (a .voice) at) (passes : b ≡ true) {s : List ℕ} (read : s ≡ sentenceAt h at) {plan map : List (List ℕ)} {sets : List ℕ}
-        {totals : List (List ℕ)} {f : Found} (long : lengthIn plan ≡ a .length) (told : HeardFoundAs rules plan map s sets totals f) where
-      comes : toCome h a at ≡ s ∷ toCome h a (nextAt h at)
+    module _ {b : Bool} (makes : b ≡ makesHeard h v at) (passes : b ≡ true) {s : List ℕ} (read : s ≡ sentenceAt h at) where
+      comes : toCome h v at ≡ s ∷ toCome h v (nextAt h at)
       comes =
           first (sym passes ∙ makes)
-          ∙ ap (λ (x : List ℕ). x ∷ toCome h a (nextAt h at)) (sym (read ∙ read-words h at diary (collect-inside .low) (w .low)))
+          ∙ ap (λ (x : List ℕ). x ∷ toCome h v (nextAt h at)) (sym (read ∙ read-words h at diary (collect-inside .low) (w .low)))
 
-      adds : {f′ : Found} → f ≡ f′ → Adds rules (a .length) s f′
-      adds case = rw (long, case) at (told .adds)
-
-      pub collect-many : {k : ℕ} {d : DerivationNumber} → f ≡ Some k d → 2 ≤ k → {numbers′ : List ℕ} → CollectedAs rules h a numbers′ Ambiguous
-      collect-many case many = record { holds = sym (w .many) ∙ rw (comes, adds case .0 many) }
+      pub collect-many : Adds rules P n s Many → (numbers′ : List ℕ) → CollectedIs rules P h n v numbers′ Ambiguous
+      collect-many adds numbers′ = sym (w .many) ∙ rw (comes, adds)
 
       -- the sentence adds these
-      added : (k : List ℕ) → manyIn rules (a .length) s ≡ false → numbersIn rules (a .length) s ≡ k → length k ≤ 1
+      added : (k : List ℕ) → manyIn rules n s ≡ false → numbersIn rules P n s ≡ k → length k ≤ 1
           → {next count′ : ℕ} {numbers′ : List ℕ} → next ≡ nextAt h at → count′ ≡ count + length k
           → take count′ numbers′ ≡ take count numbers ++ k → length numbers′ ≡ length numbers
-          → Collecting rules h a numbers′ next count′
+          → Collecting rules P h n v numbers′ next count′
       added k single numbers-are few =
           behind k
-          (ap (someOf (manyIn rules (a .length))) comes ∙ ap (λ (b : Bool). b || manyDue rules h a (nextAt h at)) single)
-          (ap (concatMap (numbersIn rules (a .length))) comes ∙ ap (λ (l : List ℕ). l ++ numbersDue rules h a (nextAt h at)) numbers-are)
+          (ap (someOf (manyIn rules n)) comes ∙ ap (λ (b : Bool). b || manyDue rules h n v (nextAt h at)) single)
+          (ap (concatMap (numbersIn rules P n)) comes ∙ ap (λ (l : List ℕ). l ++ numbersDue rules P h n v (nextAt h at)) numbers-are)
           few
 
-      pub collect-none : f ≡ None → {next : ℕ} → next ≡ nextAt h at → Collecting rules h a numbers next count
-      collect-none case e =
-          let q = adds case in
-          added [] (q .0) (q .1) (omega arith) e (omega arith) (sym (append-nil (take count numbers))) refl
+      pub collect-none : Adds rules P n s Nothing → {next : ℕ} → next ≡ nextAt h at → Collecting rules P h n v numbers next count
+      collect-none q e = added [] (q .0) (q .1) (omega arith) e (omega arith) (sym (append-nil (take count numbers))) refl
 
-      pub collect-one : {k : ℕ} {d : DerivationNumber} → f ≡ Some k d → k < 2 → {next : ℕ} → next ≡ nextAt h at
-          → Collecting rules h a (set numbers count (d .0)) next (count + 1)
-      collect-one {d = d} case few e =
-          let q = adds case .1 few in
-          added (d .0 ∷ []) (q .0) (q .1) (omega arith) e refl (rw (add-one, take-suc-set numbers count (d .0) (omega (arith, collect-room, w .long))) refl) (length-set numbers count (d .0))
+      pub collect-one : {d : ℕ} → Adds rules P n s (Place d) → {next : ℕ} → next ≡ nextAt h at → Collecting rules P h n v (set numbers count d) next (count + 1)
+      collect-one {d} q e =
+          added (d ∷ []) (q .0) (q .1) (omega arith) e refl (rw (add-one, take-suc-set numbers count d (omega (arith, collect-room, w .long))) refl) (length-set numbers count d)
 
--- what is collected, once its case is known
-pub collect-case : {rules : List (List ℕ)} {h : List ℕ} {a : Question} {numbers : List ℕ} {c d : Collected} → CollectedAs rules h a numbers c → c ≡ d
-    → CollectedIs rules h a numbers d
+-- the tables serve the first sentence
+pub serves-start : {rules plan map measure : List (List ℕ)} {h : List ℕ} {n : ℕ} {totals : List (List ℕ)} {numbers : List ℕ} → Collects rules plan map measure h n totals numbers
+    → (sets : List ℕ) → length sets ≡ 290 → Serves rules plan map measure sets totals
+serves-start {n = n} {totals = totals} w sets long =
+    let e = w .planned in
+    let clean = clean-start (w .first) n sets totals (omega (arith, w .low)) (w .zeros) in
+    record { first = w .first; ready = rw e (w .ready); clean = rw e clean; measures = rw e (w .measures) }
+
+-- what a sentence adds, and what is collected, once its case is known
+pub added-case : {rules plan map measure : List (List ℕ)} {s sets : List ℕ} {totals : List (List ℕ)} {f d : Added} {n : ℕ} → lengthIn plan ≡ n
+    → HeardFoundAs rules plan map measure s sets totals f → f ≡ d → Adds rules (stands measure 0) n s d
+added-case long q e = rw (long, e) at (q .adds)
+
+pub collect-case : {rules plan measure : List (List ℕ)} {h : List ℕ} {n v : ℕ} {totals : List (List ℕ)} {numbers : List ℕ} {c d : Collected}
+    → CollectedAs rules plan measure h n v totals numbers c → c ≡ d → CollectedIs rules (stands measure 0) h n v numbers d
 collect-case q e = (rw e at q) .holds
+
+-- the counts and the measure are served to the end
+pub serves-still : {rules plan map measure : List (List ℕ)} {sets : List ℕ} {totals : List (List ℕ)} {n : ℕ} → lengthIn plan ≡ n → Serves rules plan map measure sets totals
+    → Still rules plan measure totals n
+serves-still {rules} {plan} {measure = measure} {totals = totals} e w =
+    let q : Still rules plan measure totals (lengthIn plan) = record { counted = w .ready .blank .counted; mapped = w .measures .mapped } in
+    rw e at q

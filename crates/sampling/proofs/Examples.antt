@@ -32,11 +32,13 @@ use Rattle.history.specs.Layout.{twoAt, recordWords}
 use Rattle.history.specs.Chain.{numbersFrom}
 use Rattle.history.specs.Heard.{makesHeard, heard}
 use Rattle.history.specs.Refusals as history
-use Rattle.sampling.specs.Question.{Question, plainly}
-use Rattle.sampling.specs.Unheard.{unheard, heardOf, leftOf, ambiguous}
+use Rattle.sampling.specs.Pattern.{blank, badPattern}
+use Rattle.sampling.specs.Question.{Question, plainly, matching}
+use Rattle.sampling.specs.Unheard.{unheard, totalFor, heardOf, leftOf, ambiguous}
 use Rattle.sampling.specs.Answers.{remainingRows, remainingOf, drawn, drawRows, drawOf, remainingTo, drawTo}
-use Rattle.sampling.specs.Demand3.{Premises, SameBarred}
-use Rattle.sampling.specs.Examples.{F, G, heard01, heardTwice, heardInFive, brokenOff, Examples}
+use Rattle.sampling.specs.Demand3.{Premises, Worded, SameBarred}
+use Rattle.sampling.specs.Examples.{F, G, heard01, heardTwice, heardInFive, brokenOff, Matched, Examples}
+use Rattle.sampling.proofs.Demand3.{demand-3, draw-accepted}
 use Rattle.sampling.proofs.Premises.{prepared-pass, heard-single, premises-pass}
 
 -- ---- the grammar F, and any other with its rules of nonterminals 0 and 1
@@ -175,8 +177,12 @@ heard-one : heardOf F heard01 (plainly 2 0) ≡ 1
 unfolding heardOf makesHeard twoAt recordWords numbersFrom trees treesTo metFrom rest
 heard-one = refl
 
+total-four : totalFor F (plainly 2 0) ≡ 4
+unfolding totalFor trees treesTo metFrom rest
+total-four = refl
+
 left-three : leftOf F heard01 (plainly 2 0) ≡ 3
-left-three = omega (arith, heard-one, T-doubled 0)
+left-three = omega (arith, heard-one, total-four)
 
 unheard-three : unheard F heard01 (plainly 2 0)
     ≡ record { number = 0; tree = node 0 (leaf 0 0) (leaf 0 0) }
@@ -186,14 +192,18 @@ unheard-three : unheard F heard01 (plainly 2 0)
 unfolding unheard heard makesHeard someBelow twoAt recordWords trees treesTo metFrom rest
 unheard-three = refl
 
+no-pattern : badPattern 2 [] ≡ false
+unfolding badPattern
+no-pattern = refl
+
 passes : firstThatApplies (remainingRows F heard01 (plainly 2 0)) ≡ 0
-passes = premises-pass F heard01 (plainly 2 0) example-premises
+passes = premises-pass F heard01 (plainly 2 0) example-premises no-pattern
 
 left-of-two : remainingOf F heard01 2 0 ≡ given (4 ∷ 1 ∷ 3 ∷ []) []
 unfolding remainingTo
 left-of-two =
-    answer-accepted (T (chain F) 0 2 ∷ heardOf F heard01 (plainly 2 0) ∷ leftOf F heard01 (plainly 2 0) ∷ []) [] [] passes
-    ∙ ap (λ (x : ℕ). given (x ∷ heardOf F heard01 (plainly 2 0) ∷ leftOf F heard01 (plainly 2 0) ∷ []) []) (T-doubled 0)
+    answer-accepted (totalFor F (plainly 2 0) ∷ heardOf F heard01 (plainly 2 0) ∷ leftOf F heard01 (plainly 2 0) ∷ []) [] [] passes
+    ∙ ap (λ (x : ℕ). given (x ∷ heardOf F heard01 (plainly 2 0) ∷ leftOf F heard01 (plainly 2 0) ∷ []) []) total-four
     ∙ ap (λ (x : ℕ). given (4 ∷ x ∷ leftOf F heard01 (plainly 2 0) ∷ []) []) heard-one
     ∙ ap (λ (x : ℕ). given (4 ∷ 1 ∷ x ∷ []) []) left-three
 
@@ -220,6 +230,44 @@ draw-beyond out =
     = rows-pass (remainingRows F heard01 (plainly 2 0)) ((leb (leftOf F heard01 (plainly 2 0)) 3, 16) ∷ (ltb (length out) 2, 20) ∷ []) refl passes
     ∙ row-applies 16 ((ltb (length out) 2, 20) ∷ []) (le-leb (leftOf F heard01 (plainly 2 0)) 3 (omega (arith, left-three))) in
     rw e (answer-refused 16 (leftOf F heard01 (plainly 2 0) ∷ drawn F heard01 (plainly 2 0) 3 .number ∷ []) out (sentence (drawn F heard01 (plainly 2 0) 3 .tree) ++ drop 2 out) (omega arith))
+
+-- ---- a pattern: of the two sentences that end in 1 the first is heard, and the other has the number 3 among all
+
+abbrev ending : Question
+ending = matching (blank ∷ 1 ∷ []) 0
+
+ending-worded : Worded F ending
+unfolding badPattern
+ending-worded = refl
+
+ending-clear : ambiguous F heard01 ending ≡ false
+unfolding ambiguous makesHeard twoAt recordWords numbersFrom trees treesTo metFrom rest
+ending-clear = refl
+
+ending-premises : Premises F heard01 ending
+ending-premises = premised F heard01 ending F-accepted (omega arith) (omega arith) (omega arith) (F-fits 2 (omega arith) (omega arith)) heard01-accepted ending-clear
+
+ending-two : totalFor F ending ≡ 2
+unfolding totalFor trees treesTo metFrom rest
+ending-two = refl
+
+ending-heard : heardOf F heard01 ending ≡ 1
+unfolding heardOf makesHeard twoAt recordWords numbersFrom trees treesTo metFrom rest
+ending-heard = refl
+
+ending-unheard : unheard F heard01 ending ≡ record { number = 3; tree = node 0 (leaf 1 1) (leaf 1 1) } ∷ []
+unfolding unheard heard makesHeard someBelow twoAt recordWords trees treesTo metFrom rest
+ending-unheard = refl
+
+pub example-matched : Matched
+example-matched = record {
+  premises = ending-premises;
+  worded = ending-worded;
+  left = demand-3 F heard01 ending ending-premises ending-worded .left ∙ rw (ending-two, ending-heard, ending-unheard);
+  draw = λ out l.
+      let one : 0 < length (unheard F heard01 ending) = omega (arith, ap length ending-unheard) in
+      draw-accepted F heard01 ending ending-premises ending-worded 0 out one l ∙ rw ending-unheard;
+}
 
 -- ---- the grammar G
 

@@ -7,4 +7,5 @@ pub mod Asking
 pub mod Answering
 pub mod Premises
 pub mod Demand3
+pub mod Blanks
 pub mod Examples

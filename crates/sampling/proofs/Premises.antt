@@ -17,20 +17,21 @@ use Rattle.answers.specs.Answer.{Row, firstThatApplies}
 use Rattle.answers.specs.Length.{badLength}
 use Rattle.answers.specs.Voice.{badVoice}
 use Rattle.answers.proofs.Refusals.{row-passed, row-clear, rows-pass, rows-clear, answer-number}
-use Rattle.grammar.specs.Layout.{start}
+use Rattle.grammar.specs.Layout.{words, start}
 use Rattle.grammar.specs.Chains.{chain}
 use Rattle.grammar.specs.Refusals.{grammarRows, Accepted}
 use Rattle.counting.specs.Refusals.{AllFit, tooLarge, preparedRows}
 use Rattle.counting.specs.Answers.{countOf}
 use Rattle.counting.proofs.Ten.{counts-small}
-use Rattle.ranking.specs.Answers.{totalOf, readingsOf}
+use Rattle.ranking.specs.Answers.{readingsOf}
 use Rattle.ranking.proofs.Demand2.{exactly-readings, figure-readings}
 use Rattle.history.specs.Refusals as history
 use Rattle.history.specs.Heard.{heard}
+use Rattle.sampling.specs.Pattern.{badPattern}
 use Rattle.sampling.specs.Question.{Question}
-use Rattle.sampling.specs.Unheard.{ofLength, heardOf, leftOf, ambiguous, derivationsGiven, Fifteen}
+use Rattle.sampling.specs.Unheard.{ofLength, totalFor, heardOf, leftOf, ambiguous, derivationsGiven, Fifteen}
 use Rattle.sampling.specs.Answers.{askedRows, remainingRows, remainingTo}
-use Rattle.sampling.specs.Demand3.{Single, Premises}
+use Rattle.sampling.specs.Demand3.{Single, Premises, Worded}
 use Rattle.sampling.proofs.Barred.{length-∈, ∈-length, few-readings}
 
 -- ---- 9
@@ -48,16 +49,18 @@ prepared-pass g n ok l u c =
     ∙ row-passed 9 ((tooLarge g n, 10) ∷ []) (length-within n .1 (l, u))
     ∙ row-passed 10 [] (counts-small g n .1 c)
 
--- nor any of 1 to 9, 22 and 10
+-- nor any of 1 to 9, 22, 10 and 21
 pub asked-pass : (g : List ℕ) (a : Question) → Accepted g → 1 ≤ a .length → a .length ≤ 16 → a .voice ≤ 15 → AllFit (chain g) (λ p w. 1) (start g) (a .length)
-    → firstThatApplies (askedRows g a) ≡ 0
+    → Worded g a → firstThatApplies (askedRows g a) ≡ 0
 unfolding firstThatApplies
-asked-pass g a ok l u v c =
-    let rest : List Row = (badVoice (a .voice), 22) ∷ (tooLarge g (a .length), 10) ∷ [] in
+asked-pass g a ok l u v c b =
+    let last : List Row = (badPattern (words g) (a .pattern), 21) ∷ [] in
+    let rest : List Row = (badVoice (a .voice), 22) ∷ (tooLarge g (a .length), 10) ∷ last in
     rows-pass (grammarRows g) ((badLength (a .length), 9) ∷ rest) refl ok
     ∙ row-passed 9 rest (length-within (a .length) .1 (l, u))
-    ∙ row-passed 22 ((tooLarge g (a .length), 10) ∷ []) (le-ltb 15 (a .voice) v)
-    ∙ row-passed 10 [] (counts-small g (a .length) .1 c)
+    ∙ row-passed 22 ((tooLarge g (a .length), 10) ∷ last) (le-ltb 15 (a .voice) v)
+    ∙ row-passed 10 last (counts-small g (a .length) .1 c)
+    ∙ row-passed 21 [] b
 
 -- ---- 15
 
@@ -100,44 +103,47 @@ module _ (g h : List ℕ) (a : Question) (diary : history.Accepted h) where
 
 -- ---- all lines
 
--- what the lines 1 to 9, 22 and 10 leave of a grammar and a question
+-- what the lines 1 to 9, 22, 10 and 21 leave of a grammar and a question
 record Asked (g : List ℕ) (a : Question) : Type 0 where
   pub bank : Accepted g
   pub some : 1 ≤ a .length
   pub short : a .length ≤ 16
   pub voiced : a .voice ≤ 15
   pub counts : AllFit (chain g) (λ p w. 1) (start g) (a .length)
+  pub fitted : Worded g a
 
 asked-clear : (g : List ℕ) (a : Question) → firstThatApplies (askedRows g a) ≡ 0 → Asked g a
 asked-clear g a e =
-    let v : List Row = (badVoice (a .voice), 22) ∷ (tooLarge g (a .length), 10) ∷ [] in
+    let p : List Row = (badPattern (words g) (a .pattern), 21) ∷ [] in
+    let v : List Row = (badVoice (a .voice), 22) ∷ (tooLarge g (a .length), 10) ∷ p in
     let b = rows-clear (grammarRows g) ((badLength (a .length), 9) ∷ v) refl e in
     let c = row-clear 9 v (badLength (a .length)) (omega arith) (b .1) in
-    let d = row-clear 22 ((tooLarge g (a .length), 10) ∷ []) (badVoice (a .voice)) (omega arith) (c .1) in
-    let f = row-clear 10 [] (tooLarge g (a .length)) (omega arith) (d .1) in
+    let d = row-clear 22 ((tooLarge g (a .length), 10) ∷ p) (badVoice (a .voice)) (omega arith) (c .1) in
+    let f = row-clear 10 p (tooLarge g (a .length)) (omega arith) (d .1) in
+    let q = row-clear 21 [] (badPattern (words g) (a .pattern)) (omega arith) (f .1) in
     let l = length-within (a .length) .0 (c .0) in
-    record { bank = b .0; some = l .0; short = l .1; voiced = ltb-false 15 (a .voice) (d .0); counts = counts-small g (a .length) .0 (f .0) }
+    record { bank = b .0; some = l .0; short = l .1; voiced = ltb-false 15 (a .voice) (d .0); counts = counts-small g (a .length) .0 (f .0); fitted = q .0 }
 
 module _ (g h : List ℕ) (a : Question) where
   pub remaining-refusal : remainingTo g h a .refusal ≡ firstThatApplies (remainingRows g h a)
   unfolding remainingTo
-  remaining-refusal = answer-number (firstThatApplies (remainingRows g h a)) (totalOf g (a .length) ∷ heardOf g h a ∷ leftOf g h a ∷ []) [] []
+  remaining-refusal = answer-number (firstThatApplies (remainingRows g h a)) (totalFor g a ∷ heardOf g h a ∷ leftOf g h a ∷ []) [] []
 
-  pub premises-pass : Premises g h a → firstThatApplies (remainingRows g h a) ≡ 0
+  pub premises-pass : Premises g h a → Worded g a → firstThatApplies (remainingRows g h a) ≡ 0
   unfolding firstThatApplies
-  premises-pass p =
+  premises-pass p b =
       rows-pass (askedRows g a) (history.historyRows h ++ ((ambiguous g h a, 15) ∷ [])) refl
-      (asked-pass g a (p .bank) (p .some) (p .short) (p .voiced) (p .counts))
+      (asked-pass g a (p .bank) (p .some) (p .short) (p .voiced) (p .counts) b)
       ∙ rows-pass (history.historyRows h) ((ambiguous g h a, 15) ∷ []) refl (p .diary)
       ∙ row-passed 15 [] (heard-single g h a (p .diary) .1 (p .single))
 
-  pub pass-premises : firstThatApplies (remainingRows g h a) ≡ 0 → Premises g h a
+  pub pass-premises : firstThatApplies (remainingRows g h a) ≡ 0 → Premises g h a × Worded g a
   pass-premises e =
       let b = rows-clear (askedRows g a) (history.historyRows h ++ ((ambiguous g h a, 15) ∷ [])) refl e in
       let c = rows-clear (history.historyRows h) ((ambiguous g h a, 15) ∷ []) refl (b .1) in
       let d = asked-clear g a (b .0) in
       let k = row-clear 15 [] (ambiguous g h a) (omega arith) (c .1) in
-      record {
+      let p : Premises g h a = record {
         bank = d .bank;
         some = d .some;
         short = d .short;
@@ -145,8 +151,9 @@ module _ (g h : List ℕ) (a : Question) where
         counts = d .counts;
         diary = c .0;
         single = heard-single g h a (c .0) .0 (k .0);
-      }
+      } in
+      (p, d .fitted)
 
-  -- the premises of demand 3 hold exactly where *Left* isn't refused
-  pub premises : Premises g h a ↔ (remainingTo g h a .refusal ≡ 0)
-  premises = (λ p. remaining-refusal ∙ premises-pass p, λ e. pass-premises (sym remaining-refusal ∙ e))
+  -- the premises of demand 3, with that 21 doesn't apply, hold exactly where *Left* isn't refused
+  pub premises : (Premises g h a × Worded g a) ↔ (remainingTo g h a .refusal ≡ 0)
+  premises = (λ p. remaining-refusal ∙ premises-pass (p .0) (p .1), λ e. pass-premises (sym remaining-refusal ∙ e))

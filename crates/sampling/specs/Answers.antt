@@ -6,18 +6,20 @@ use lib.ListN.{length, getD, drop}
 use lib.Dec.{ltb, leb}
 use Rattle.answers.specs.Answer.{Row, Answer, answer}
 use Rattle.answers.specs.Voice.{badVoice}
+use Rattle.grammar.specs.Layout.{words}
 use Rattle.grammar.specs.Trees.{leaf, sentence}
 use Rattle.counting.specs.Refusals.{tooLarge, openRows}
 use Rattle.history.specs.Refusals.{historyRows}
-use Rattle.ranking.specs.Answers.{totalOf}
-use Rattle.sampling.specs.Question.{Question, plainly}
-use Rattle.sampling.specs.Unheard.{Entry, unheard, heardOf, leftOf, ambiguous}
+use Rattle.sampling.specs.Pattern.{badPattern}
+use Rattle.sampling.specs.Question.{Question, plainly, matching}
+use Rattle.sampling.specs.Unheard.{Entry, unheard, totalFor, heardOf, leftOf, ambiguous}
 
 -- ---- *Left*
 
--- the lines 1 to 9, 22 and 10, in their order: "22, the voice is above 15, after 9" (document 02, U4)
+-- the lines 1 to 9, 22, 10 and 21, in their order: "22, the voice is above 15, after 9" (document 02, U4), "21, a pattern byte other than 255 is W or
+-- more, after 10" (U1)
 abbrev pub askedRows : (g : List ℕ) (a : Question) → List Row
-askedRows g a = openRows g (a .length) ++ ((badVoice (a .voice), 22) ∷ (tooLarge g (a .length), 10) ∷ [])
+askedRows g a = openRows g (a .length) ++ ((badVoice (a .voice), 22) ∷ (tooLarge g (a .length), 10) ∷ (badPattern (words g) (a .pattern), 21) ∷ [])
 
 -- and 11 to 14 and 15
 abbrev pub remainingRows : (g h : List ℕ) (a : Question) → List Row
@@ -25,10 +27,13 @@ remainingRows g h a = askedRows g a ++ (historyRows h ++ ((ambiguous g h a, 15) 
 
 -- "*Left* (bank, diary, length) gives T, heard (distinct heard sentences of that length with one derivation) and left = T - heard."
 unfoldable pub remainingTo : (g h : List ℕ) (a : Question) → Answer
-remainingTo g h a = answer (remainingRows g h a) (totalOf g (a .length) ∷ heardOf g h a ∷ leftOf g h a ∷ []) [] []
+remainingTo g h a = answer (remainingRows g h a) (totalFor g a ∷ heardOf g h a ∷ leftOf g h a ∷ []) [] []
 
 abbrev pub remainingOf : (g h : List ℕ) (n v : ℕ) → Answer
 remainingOf g h n v = remainingTo g h (plainly n v)
+
+abbrev pub remainingMatching : (g h pattern : List ℕ) (v : ℕ) → Answer
+remainingMatching g h pattern v = remainingTo g h (matching pattern v)
 
 -- ---- *Draw*
 
@@ -47,3 +52,6 @@ drawTo g h a q out =
 
 abbrev pub drawOf : (g h : List ℕ) (n v q : ℕ) (out : List ℕ) → Answer
 drawOf g h n v q out = drawTo g h (plainly n v) q out
+
+abbrev pub drawMatching : (g h pattern : List ℕ) (v q : ℕ) (out : List ℕ) → Answer
+drawMatching g h pattern v q out = drawTo g h (matching pattern v) q out

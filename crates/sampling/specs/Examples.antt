@@ -8,7 +8,10 @@ use Rattle.lists.specs.Joined.{upFrom}
 use Rattle.answers.specs.Answer.{given, refused}
 use Rattle.counting.specs.Answers.{countOf}
 use Rattle.ranking.specs.Answers.{unrankOf, rankOf}
-use Rattle.sampling.specs.Answers.{remainingOf, drawOf}
+use Rattle.sampling.specs.Pattern.{blank}
+use Rattle.sampling.specs.Question.{matching}
+use Rattle.sampling.specs.Answers.{remainingOf, remainingMatching, drawOf, drawMatching}
+use Rattle.sampling.specs.Demand3.{Premises, Worded}
 
 -- "Bank F: 2 2 4 0, 1 3, 1 1 1 2, 1 0 1 0, 0 0 0 4, 0 1 0 0."
 abbrev pub F : List ℕ
@@ -57,6 +60,13 @@ brokenOff =
     1 ∷ 0 ∷ 1 ∷ 0 ∷
     0 ∷ 0 ∷ 3 ∷ 1 ∷ 0 ∷ 0 ∷ 0 ∷
     0 ∷ 0 ∷ 0 ∷ 0 ∷ 0 ∷ 0 ∷ 0 ∷ 0 ∷ 0 ∷ 0 ∷ 0 ∷ 0 ∷ 0 ∷ []
+
+-- a pattern with a blank (document 02, U1): of F's sentences 0 1 and 1 1 the first is heard; the other has the number 3 among all, and 1 among those that fit
+pub record Matched : Type 0 where
+  pub premises : Premises F heard01 (matching (blank ∷ 1 ∷ []) 0)
+  pub worded : Worded F (matching (blank ∷ 1 ∷ []) 0)
+  pub left : remainingMatching F heard01 (blank ∷ 1 ∷ []) 0 ≡ given (2 ∷ 1 ∷ 1 ∷ []) []
+  pub draw : (out : List ℕ) → 2 ≤ length out → drawMatching F heard01 (blank ∷ 1 ∷ []) 0 0 out ≡ given (1 ∷ 3 ∷ []) (1 ∷ 1 ∷ drop 2 out)
 
 pub record Examples : Type 0 where
   -- "P1: F, length 1: T 0. P2: length 2: T 4. P3: length 16: T 65,536."

@@ -2,5 +2,6 @@
 pub mod Says
 pub mod Skipping
 pub mod Collect
+pub mod Patterns
 pub mod Preparing
 pub mod Drawing

@@ -4,15 +4,16 @@
 -- Assumes nothing: these are definitions.
 use mathlib.Core.Path.{_≡_}
 use mathlib.Core.Logic.{_↔_}
-use mathlib.Core.Bool.{Bool, true, cond, not}
+use mathlib.Core.Bool.{Bool, true, cond, not, _&&_}
 use mathlib.Core.List.{List, [], _∷_}
 use Prim.Native.Nat.{ℕ, suc, _-_, _≤_}
 use lib.ListN.{length, getD}
 use lib.Dec.{leb, eqb}
-use Rattle.lists.specs.Searched.{someOf, same, keep}
+use Rattle.lists.specs.Searched.{howMany, someOf, same, keep}
 use Rattle.grammar.specs.Trees.{Tree, sentence}
-use Rattle.ranking.specs.Answers.{fullList, totalOf, readingsOf, rankOf}
+use Rattle.ranking.specs.Answers.{fullList, readingsOf, rankOf}
 use Rattle.history.specs.Heard.{sentencesIn, heard}
+use Rattle.sampling.specs.Pattern.{matches}
 use Rattle.sampling.specs.Question.{Question}
 
 -- a derivation with its derivation number
@@ -29,12 +30,21 @@ entriesFrom d (t ∷ l) = record { number = d; tree = t } ∷ entriesFrom (suc d
 abbrev pub outside : (h : List ℕ) (v : ℕ) → Tree → Bool
 outside h v t = not (heard h v (sentence t))
 
+-- the derivation's sentence fits the pattern, where there is one
+abbrev pub suits : (a : Question) → Tree → Bool
+suits a t = matches (a .pattern) (sentence t)
+
 -- "The full list holds every derivation of S with length n, each once, in the order above. Its entry d, counted from 0, so has derivation
--- number d. Strike each entry whose sentence is heard. What remains, in the same order, is the unheard list."
+-- number d. Strike each entry whose sentence is heard. What remains, in the same order, is the unheard list." With a pattern it covers "only what
+-- fits" (document 02, U1).
 unfoldable pub unheard : (g h : List ℕ) (a : Question) → List Entry
-unheard g h a = keep (λ e. outside h (a .voice) (e .tree)) (entriesFrom 0 (fullList g (a .length)))
+unheard g h a = keep (λ e. suits a (e .tree) && outside h (a .voice) (e .tree)) (entriesFrom 0 (fullList g (a .length)))
 
 -- ---- what *Left* counts
+
+-- "T counts the fitting derivations": without a pattern it is T(S, n)
+unfoldable pub totalFor : (g : List ℕ) (a : Question) → ℕ
+totalFor g a = howMany (suits a) (fullList g (a .length))
 
 -- the sentences listed, each once
 abbrev pub distinct : List (List ℕ) → List (List ℕ)
@@ -45,16 +55,16 @@ distinct (s ∷ l) = cond (someOf (same s) l) (distinct l) (s ∷ distinct l)
 abbrev pub ofLength : (h : List ℕ) (a : Question) → List (List ℕ)
 ofLength h a = keep (λ s. eqb (length s) (a .length)) (sentencesIn h (a .voice))
 
--- "heard (distinct heard sentences of that length with one derivation)"
+-- "heard (distinct heard sentences of that length with one derivation)", and of "the sentences it counts without a pattern" the fitting ones
 unfoldable pub heardOf : (g h : List ℕ) (a : Question) → ℕ
-heardOf g h a = length (distinct (keep (λ s. eqb (readingsOf g s) 1) (ofLength h a)))
+heardOf g h a = length (keep (matches (a .pattern)) (distinct (keep (λ s. eqb (readingsOf g s) 1) (ofLength h a))))
 
 -- "left = T - heard"
 abbrev pub leftOf : (g h : List ℕ) (a : Question) → ℕ
-leftOf g h a = totalOf g (a .length) - heardOf g h a
+leftOf g h a = totalFor g a - heardOf g h a
 
 -- "15. A diary sentence of the named length has two or more derivations from S (*Left*, *Draw*)." It "reads only records of the given voice"
--- (document 02, U4).
+-- (document 02, U4), and "every diary sentence of that length", whatever the pattern (U1).
 unfoldable pub ambiguous : (g h : List ℕ) (a : Question) → Bool
 ambiguous g h a = someOf (λ s. leb 2 (readingsOf g s)) (ofLength h a)
 

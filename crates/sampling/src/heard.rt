@@ -1,54 +1,70 @@
-// The heard derivation numbers: those of the history's sentences, in a voice and of a length, that have one derivation.
-ghost use Rattle.sampling.specs.Question.{asked};
-ghost use Rattle.sampling.specs.Inner.Collect.{HeardSought, HeardFoundAs, Collects, CollectedAs};
+// The heard derivations: of the history's sentences, in a voice and of a length, those that have one derivation, by their places among the derivations
+// whose words stand by a measure.
+ghost use Rattle.sampling.specs.Inner.Collect.{Serves, HeardFoundAs, Collects, CollectedAs};
 use crate::question::Question;
 use charts::maps;
 use charts::plan;
 use history::reader;
 use history::records;
 use ranking::rank;
-use ranking::rank::Found;
 
-// How many numbers there are, or that a sentence has two or more derivations.
+// What a heard sentence adds: nothing, the place of its one derivation, or that it has two or more.
+pub enum Added {
+    Nothing,
+    Place(u64),
+    Many,
+}
+
+// How many places there are, or that a sentence has two or more derivations.
 pub enum Collected {
     Numbers(usize),
     Ambiguous,
 }
 
-// The derivations of a sentence of the history; one of another length has none of the plan's.
+// A sentence of another length than the plan's adds nothing; one with two derivations is told of, whether it stands or not.
 fn find_heard(
     rules: &[[u8; 256]],
     plan: &[[u32; 32]; 4],
     map: &mut [[u16; 16]; 17],
-    counts: &[[u16; 16]; 17],
+    measure: &[[u16; 16]; 17],
     s: &[u8],
     sets: &mut [u32],
     totals: &mut [[u64; 32]],
-) -> Found
-    requires { ⌜ HeardSought (now rules) (now plan) (now map) (now counts) (now sets) (now totals) ⌝ }
-    ensures { λ f. ⌜ HeardFoundAs (now (rules .entry)) (now (plan .entry)) (now (map .exit)) (now (s .entry)) (now (sets .exit)) (now (totals .exit)) f ⌝ }
+) -> Added
+    requires { ⌜ Serves (now rules) (now plan) (now map) (now measure) (now sets) (now totals) ⌝ }
+    ensures { λ f. ⌜ HeardFoundAs (now (rules .entry)) (now (plan .entry)) (now (map .exit)) (now (measure .entry)) (now (s .entry)) (now (sets .exit)) (now (totals .exit)) f ⌝ }
 {
     if s.len() != plan::length(plan) {
-        return Found::None;
+        return Added::Nothing;
     }
-    rank::find(rules, plan, map, counts, s, sets, totals)
+    let k = rank::derivations(rules, plan, map, s, sets, totals);
+    if 2 <= k {
+        return Added::Many;
+    }
+    if k == 0 {
+        return Added::Nothing;
+    }
+    if maps::fits(measure, s) {
+        return Added::Place(rank::place(rules, totals, map, measure, s.len()));
+    }
+    Added::Nothing
 }
 
-// The numbers along the chain, one record after another; a record's sentence is read only where the record makes it heard.
+// The places along the chain, one record after another; a record's sentence is read only where the record makes it heard.
 pub fn collect(
     rules: &[[u8; 256]],
     plan: &[[u32; 32]; 4],
     map: &mut [[u16; 16]; 17],
+    measure: &[[u16; 16]; 17],
     h: &[u8],
     question: Question,
     totals: &mut [[u64; 32]],
     numbers: &mut [u64],
 ) -> Collected
-    requires { ⌜ Collects (now rules) (now plan) (now map) (now h) (asked question) (now totals) (now numbers) ⌝ }
-    ensures { λ c. ⌜ CollectedAs (now (rules .entry)) (now (h .entry)) (asked question) (now (numbers .exit)) c ⌝ }
+    requires { ⌜ Collects (now rules) (now plan) (now map) (now measure) (now h) (question .length) (now totals) (now numbers) ⌝ }
+    ensures { λ c. ⌜ CollectedAs (now (rules .entry)) (now (plan .entry)) (now (measure .entry)) (now (h .entry)) (question .length) (question .voice) (now (totals .exit)) (now (numbers .exit)) c ⌝ }
 {
-    let counts = maps::EVERYWHERE;
-    let mut sets = [0u32; 154];
+    let mut sets = [0u32; 290];
     let mut at = reader::first(h);
     let mut count = 0;
     while at != 0 {
@@ -56,17 +72,12 @@ pub fn collect(
         at = reader::after(h, r);
         if records::makes_heard(h, r, question.voice) {
             let s = reader::sentence(h, r);
-            let f = find_heard(rules, plan, map, &counts, s, &mut sets, totals);
+            let f = find_heard(rules, plan, map, measure, s, &mut sets, totals);
             match f {
-                Found::None => {}
-                Found::Some {
-                    derivations: k,
-                    lowest: d,
-                } => {
-                    if 2 <= k {
-                        return Collected::Ambiguous;
-                    }
-                    numbers[count] = d.0;
+                Added::Nothing => {}
+                Added::Many => return Collected::Ambiguous,
+                Added::Place(d) => {
+                    numbers[count] = d;
                     count += 1;
                 }
             }

@@ -1,19 +1,27 @@
 // What *Left* and every *Draw* need: the tables of the grammar, then the heard derivation numbers, rising, each once.
+ghost use mathlib.Core.Path.{_≡_};
 ghost use Prim.Native.Nat.{_≤_};
 ghost use lib.ListN.{length};
 ghost use Rattle.sorting.specs.Inner.Sorted.{SortedAs};
-ghost use Rattle.sampling.specs.Question.{asked};
+ghost use Rattle.sampling.specs.Question.{plainly, asked};
 ghost use Rattle.counting.specs.Inner.Preparing as tables;
+ghost use Rattle.charts.specs.Inner.Maps.{countsMap};
 ghost use Rattle.ranking.specs.Inner.Ranking.{Roomy};
-ghost use Rattle.sampling.specs.Inner.Preparing.{AskedAs, Lent, NumbersSought, NumbersAs, RecordsSought, RecordedAs, SampledAs};
+ghost use Rattle.sampling.specs.Inner.Collect.{Collects};
+ghost use Rattle.sampling.specs.Inner.Patterns.{behindOf};
+ghost use Rattle.sampling.specs.Inner.Preparing.{AskedAs, NumbersBy, NumbersSought, NumbersAs, FittingSought, FittedAs, RecordsSought, MatchingSought, RecordedAs, Lent, LentMatching, SampledAs};
 use crate::heard;
 use crate::heard::Collected;
+use crate::pattern;
 use crate::question::Question;
 use answers::refusal::Refusal;
+use charts::maps;
+use charts::plan;
 use charts::ready;
 use counting::prepare;
 use counting::prepare::Prepared;
 use counting::tallies;
+use grammar::fields;
 use grammar::rules;
 use history::checks;
 use history::checks::HistoryAnswer;
@@ -37,7 +45,31 @@ fn order(numbers: &mut [u64]) -> usize
     sorting::sort(numbers, &mut spare)
 }
 
-// The heard numbers of a history, rising, each once, with room for the charts of its sentences.
+// The places of the heard derivations, rising, each once, with the tables for the charts of their sentences.
+fn numbers_by(
+    rules: &[[u8; 256]],
+    plan: &[[u32; 32]; 4],
+    map: &mut [[u16; 16]; 17],
+    measure: &[[u16; 16]; 17],
+    h: &[u8],
+    question: Question,
+    totals: &mut [[u64; 32]],
+    numbers: &mut [u64],
+) -> Sampled
+    requires { ⌜ Collects (now rules) (now plan) (now map) (now measure) (now h) (question .length) (now totals) (now numbers) ⌝ }
+    ensures { λ s. ⌜ NumbersBy (now (rules .entry)) (now (plan .entry)) (now (measure .entry)) (now (h .entry)) (question .length) (question .voice) (now (totals .exit)) (now (numbers .exit)) s ⌝ }
+{
+    let c = heard::collect(rules, plan, map, measure, h, question, totals, numbers);
+    match c {
+        Collected::Ambiguous => Sampled::Refused(Refusal::HeardAmbiguous),
+        Collected::Numbers(k) => {
+            let m = order(&mut numbers[0..k]);
+            Sampled::Ready(m)
+        }
+    }
+}
+
+// The heard numbers of a history, with room for the charts of its sentences: without a pattern the counts measure.
 fn heard_numbers_in(
     rules: &[[u8; 256]],
     totals: &[[u64; 32]],
@@ -46,8 +78,8 @@ fn heard_numbers_in(
     numbers: &mut [u64],
     chart: &mut [[u64; 32]],
 ) -> Sampled
-    requires { ⌜ NumbersSought (now rules) (now totals) (now h) (asked question) (now numbers) × Roomy (question .length) (now chart) ⌝ }
-    ensures { λ s. ⌜ NumbersAs (now (rules .entry)) (now (h .entry)) (asked question) (now (numbers .exit)) s ⌝ }
+    requires { ⌜ NumbersSought (now rules) (now totals) (now h) (question .length) (now numbers) × Roomy (question .length) (now chart) ⌝ }
+    ensures { λ s. ⌜ NumbersAs (now (rules .entry)) (now (h .entry)) (plainly (question .length) (question .voice)) (now (numbers .exit)) s ⌝ }
 {
     let n = question.length as usize;
     tallies::copy(totals, n, chart);
@@ -59,14 +91,17 @@ fn heard_numbers_in(
     let map_row = [0u16; 16];
     let mut map = [map_row; 17];
     ready::ready(&mut linked, chart, n, &mut plan, &mut map);
-    let c = heard::collect(&linked, &plan, &mut map, h, question, chart, numbers);
-    match c {
-        Collected::Ambiguous => Sampled::Refused(Refusal::HeardAmbiguous),
-        Collected::Numbers(k) => {
-            let m = order(&mut numbers[0..k]);
-            Sampled::Ready(m)
-        }
-    }
+    let counts = maps::EVERYWHERE;
+    numbers_by(
+        &linked,
+        &plan,
+        &mut map,
+        &counts,
+        h,
+        question,
+        chart,
+        numbers,
+    )
 }
 
 // A chart of up to five words takes 33 rows, of sixteen 154.
@@ -77,8 +112,8 @@ fn heard_numbers(
     question: Question,
     numbers: &mut [u64],
 ) -> Sampled
-    requires { ⌜ NumbersSought (now rules) (now totals) (now h) (asked question) (now numbers) ⌝ }
-    ensures { λ s. ⌜ NumbersAs (now (rules .entry)) (now (h .entry)) (asked question) (now (numbers .exit)) s ⌝ }
+    requires { ⌜ NumbersSought (now rules) (now totals) (now h) (question .length) (now numbers) ⌝ }
+    ensures { λ s. ⌜ NumbersAs (now (rules .entry)) (now (h .entry)) (plainly (question .length) (question .voice)) (now (numbers .exit)) s ⌝ }
 {
     let row = [0u64; 32];
     if question.length <= 5 {
@@ -89,7 +124,41 @@ fn heard_numbers(
     heard_numbers_in(rules, totals, h, question, numbers, &mut chart)
 }
 
-// 11 to 15. No chart is made for a history without records.
+// The first row behind a pattern's chart: one of up to five words ends at 33, of sixteen at 154.
+fn behind(n: u64) -> usize
+    requires { ⌜ n ≤ 16 ⌝ }
+    ensures { λ r. ⌜ r ≡ behindOf n ⌝ }
+{
+    if n <= 5 { 33 } else { 154 }
+}
+
+// The pattern's chart, and the places of the heard derivations that fit, of a history with so many records.
+fn fitting_numbers(
+    rules: &mut [[u8; 256]],
+    totals: &mut [[u64; 32]],
+    h: &[u8],
+    question: Question,
+    pattern: &[u8],
+    records: u64,
+    choice: &mut [[u16; 16]; 17],
+    numbers: &mut [u64],
+) -> Sampled
+    requires { ⌜ FittingSought (now rules) (now totals) (now h) (asked question (now pattern)) records (now choice) (now numbers) ⌝ }
+    ensures { λ s. ⌜ FittedAs (now (rules .entry)) (now (h .entry)) (asked question (now (pattern .entry))) (now (rules .exit)) (now (totals .exit)) (now (choice .exit)) (now (numbers .exit)) s ⌝ }
+{
+    let set_row = [0u32; 32];
+    let mut plan = [set_row; 4];
+    pattern::fill(rules, pattern, &mut plan, choice, totals);
+    if records == 0 {
+        return Sampled::Ready(0);
+    }
+    let map_row = [0u16; 16];
+    let mut map = [map_row; 17];
+    plan::rows(&plan, behind(question.length), &mut map);
+    numbers_by(rules, &plan, &mut map, choice, h, question, totals, numbers)
+}
+
+// 11 to 15. Without a pattern no chart is made for a history without records.
 fn records(
     rules: &[[u8; 256]],
     totals: &[[u64; 32]],
@@ -97,8 +166,8 @@ fn records(
     question: Question,
     numbers: &mut [u64],
 ) -> Sampled
-    requires { ⌜ RecordsSought (now rules) (now totals) (now h) (asked question) (now numbers) ⌝ }
-    ensures { λ s. ⌜ RecordedAs (now (rules .entry)) (now (h .entry)) (asked question) (now (numbers .exit)) s ⌝ }
+    requires { ⌜ RecordsSought (now rules) (now totals) (now h) (question .length) (now numbers) ⌝ }
+    ensures { λ s. ⌜ RecordedAs (now (rules .entry)) (now (h .entry)) (plainly (question .length) (question .voice)) (now (rules .entry)) (now (totals .entry)) countsMap (now (numbers .exit)) s ⌝ }
 {
     let a = checks::check(h);
     match a {
@@ -112,10 +181,45 @@ fn records(
     }
 }
 
-// 1 to 9, 22 and 10.
-fn ask(g: &[u8], question: Question, rules: &mut [[u8; 256]], totals: &mut [[u64; 32]]) -> Prepared
+// With a pattern its chart is needed in any case.
+fn records_matching(
+    rules: &mut [[u8; 256]],
+    totals: &mut [[u64; 32]],
+    h: &[u8],
+    question: Question,
+    pattern: &[u8],
+    choice: &mut [[u16; 16]; 17],
+    numbers: &mut [u64],
+) -> Sampled
+    requires { ⌜ MatchingSought (now rules) (now totals) (now h) (asked question (now pattern)) (now choice) (now numbers) ⌝ }
+    ensures { λ s. ⌜ RecordedAs (now (rules .entry)) (now (h .entry)) (asked question (now (pattern .entry))) (now (rules .exit)) (now (totals .exit)) (now (choice .exit)) (now (numbers .exit)) s ⌝ }
+{
+    let a = checks::check(h);
+    match a {
+        HistoryAnswer::Refused(r) => Sampled::Refused(r),
+        HistoryAnswer::Given(k) => fitting_numbers(
+            rules,
+            totals,
+            h,
+            question,
+            pattern,
+            k,
+            choice,
+            numbers,
+        ),
+    }
+}
+
+// 1 to 9, 22, 10 and 21.
+fn ask(
+    g: &[u8],
+    question: Question,
+    pattern: &[u8],
+    rules: &mut [[u8; 256]],
+    totals: &mut [[u64; 32]],
+) -> Prepared
     requires { ⌜ tables.Lent (now rules) (now totals) ⌝ }
-    ensures { λ r. ⌜ AskedAs (now (g .entry)) (asked question) (now (rules .exit)) (now (totals .exit)) r ⌝ }
+    ensures { λ r. ⌜ AskedAs (now (g .entry)) (asked question (now (pattern .entry))) (now (rules .entry)) (now (rules .exit)) (now (totals .entry)) (now (totals .exit)) r ⌝ }
 {
     let opened = prepare::open(g, question.length, rules);
     match opened {
@@ -125,10 +229,13 @@ fn ask(g: &[u8], question: Question, rules: &mut [[u8; 256]], totals: &mut [[u64
     if 15 < question.voice {
         return Prepared::Refused(Refusal::BadVoice);
     }
-    if tallies::fill(rules, question.length as usize, totals) {
-        return Prepared::Ready;
+    if !tallies::fill(rules, question.length as usize, totals) {
+        return Prepared::Refused(Refusal::TooManyDerivations);
     }
-    Prepared::Refused(Refusal::TooManyDerivations)
+    if pattern::bad(pattern, fields::words(g)) {
+        return Prepared::Refused(Refusal::BadPattern);
+    }
+    Prepared::Ready
 }
 
 // 1 to 9, 22 and 10, then 11 to 15.
@@ -141,11 +248,32 @@ pub fn prepare(
     numbers: &mut [u64],
 ) -> Sampled
     requires { ⌜ Lent (now h) (now rules) (now totals) (now numbers) ⌝ }
-    ensures { λ s. ⌜ SampledAs (now (g .entry)) (now (h .entry)) (asked question) (now (rules .exit)) (now (totals .exit)) (now (numbers .exit)) s ⌝ }
+    ensures { λ s. ⌜ SampledAs (now (g .entry)) (now (h .entry)) (plainly (question .length) (question .voice)) (now (rules .exit)) (now (totals .exit)) countsMap (now (numbers .exit)) s ⌝ }
 {
-    let p = ask(g, question, rules, totals);
+    let p = ask(g, question, &g[0..0], rules, totals);
     match p {
         Prepared::Refused(r) => Sampled::Refused(r),
         Prepared::Ready => records(rules, totals, h, question, numbers),
+    }
+}
+
+// 1 to 9, 22, 10 and 21, then 11 to 15. The map chooses by the pattern's chart.
+pub fn prepare_matching(
+    g: &[u8],
+    h: &[u8],
+    question: Question,
+    pattern: &[u8],
+    rules: &mut [[u8; 256]],
+    totals: &mut [[u64; 32]],
+    choice: &mut [[u16; 16]; 17],
+    numbers: &mut [u64],
+) -> Sampled
+    requires { ⌜ LentMatching (now h) (asked question (now pattern)) (now rules) (now totals) (now choice) (now numbers) ⌝ }
+    ensures { λ s. ⌜ SampledAs (now (g .entry)) (now (h .entry)) (asked question (now (pattern .entry))) (now (rules .exit)) (now (totals .exit)) (now (choice .exit)) (now (numbers .exit)) s ⌝ }
+{
+    let p = ask(g, question, pattern, rules, totals);
+    match p {
+        Prepared::Refused(r) => Sampled::Refused(r),
+        Prepared::Ready => records_matching(rules, totals, h, question, pattern, choice, numbers),
     }
 }

@@ -13,9 +13,11 @@ pub enum Call {
     Remaining,
     Draw,
     Append,
+    RemainingMatching,
+    DrawMatching,
 }
 
-pub const CALLS: [Call; 8] = [
+pub const CALLS: [Call; 10] = [
     Call::CheckGrammar,
     Call::CheckHistory,
     Call::Count,
@@ -24,6 +26,8 @@ pub const CALLS: [Call; 8] = [
     Call::Remaining,
     Call::Draw,
     Call::Append,
+    Call::RemainingMatching,
+    Call::DrawMatching,
 ];
 
 impl Call {
@@ -37,6 +41,8 @@ impl Call {
             Call::Remaining => "remaining",
             Call::Draw => "draw",
             Call::Append => "append",
+            Call::RemainingMatching => "remaining_matching",
+            Call::DrawMatching => "draw_matching",
         }
     }
 
@@ -44,13 +50,13 @@ impl Call {
     pub fn figures(self) -> usize {
         match self {
             Call::CheckHistory | Call::Count | Call::Unrank | Call::Append => 1,
-            Call::CheckGrammar | Call::Draw => 2,
-            Call::Rank | Call::Remaining => 3,
+            Call::CheckGrammar | Call::Draw | Call::DrawMatching => 2,
+            Call::Rank | Call::Remaining | Call::RemainingMatching => 3,
         }
     }
 
     /// The refusals that the documents allow it, in the order in which they are tested: a line concerns every call that
-    /// takes what the line names, and 18 none any more; 22 comes right after 9, and 23 right after 22.
+    /// takes what the line names, and 18 none any more; 22 comes right after 9, 23 right after 22, 21 right after 10.
     pub fn refusals(self) -> Vec<u8> {
         match self {
             Call::CheckGrammar => (1..=8).collect(),
@@ -61,6 +67,8 @@ impl Call {
             Call::Remaining => (1..=9).chain([22]).chain(10..=15).collect(),
             Call::Draw => (1..=9).chain([22]).chain(10..=16).chain([20]).collect(),
             Call::Append => [9, 22, 23].into_iter().chain(11..=14).chain([19]).collect(),
+            Call::RemainingMatching => (1..=9).chain([22, 10, 21]).chain(11..=15).collect(),
+            Call::DrawMatching => (1..=9).chain([22, 10, 21]).chain(11..=16).chain([20]).collect(),
         }
     }
 
@@ -69,15 +77,19 @@ impl Call {
     }
 
     pub fn takes_history(self) -> bool {
-        matches!(self, Call::CheckHistory | Call::Remaining | Call::Draw | Call::Append)
+        matches!(self, Call::CheckHistory | Call::Remaining | Call::Draw | Call::Append) || self.takes_pattern()
     }
 
     pub fn takes_length(self) -> bool {
         matches!(self, Call::Count | Call::Unrank | Call::Remaining | Call::Draw)
     }
 
+    pub fn takes_pattern(self) -> bool {
+        matches!(self, Call::RemainingMatching | Call::DrawMatching)
+    }
+
     pub fn takes_voice(self) -> bool {
-        matches!(self, Call::Remaining | Call::Draw | Call::Append)
+        matches!(self, Call::Remaining | Call::Draw | Call::Append) || self.takes_pattern()
     }
 
     pub fn takes_played(self) -> bool {
@@ -85,11 +97,15 @@ impl Call {
     }
 
     pub fn takes_number(self) -> bool {
-        matches!(self, Call::Unrank | Call::Draw)
+        self.writes_sentence()
     }
 
     pub fn takes_sentence(self) -> bool {
-        matches!(self, Call::Unrank | Call::Rank | Call::Draw | Call::Append)
+        matches!(self, Call::Rank | Call::Append) || self.writes_sentence()
+    }
+
+    pub fn writes_sentence(self) -> bool {
+        matches!(self, Call::Unrank | Call::Draw | Call::DrawMatching)
     }
 }
 
@@ -101,6 +117,7 @@ pub struct Case {
     pub grammar: Vec<u8>,
     pub history: Vec<u8>,
     pub length: u64,
+    pub pattern: Vec<u8>,
     pub voice: u64,
     pub played: u64,
     pub number: u64,
@@ -136,14 +153,24 @@ fn unhex(text: &str) -> Vec<u8> {
 
 impl Case {
     pub fn new(call: Call) -> Case {
-        Case { call, grammar: vec![], history: vec![], length: 0, voice: 0, played: 0, number: 0, sentence: vec![] }
+        Case {
+            call,
+            grammar: vec![],
+            history: vec![],
+            length: 0,
+            pattern: vec![],
+            voice: 0,
+            played: 0,
+            number: 0,
+            sentence: vec![],
+        }
     }
 
     /// What the written buffer holds before the call.
     pub fn buffer(&self) -> &[u8] {
         match self.call {
-            Call::Unrank | Call::Draw => &self.sentence,
             Call::Append => &self.history,
+            call if call.writes_sentence() => &self.sentence,
             _ => &[],
         }
     }
@@ -159,6 +186,9 @@ impl Case {
         }
         if self.call.takes_length() {
             lines.push(format!("length {}", self.length));
+        }
+        if self.call.takes_pattern() {
+            lines.push(format!("pattern {}", hex(&self.pattern)));
         }
         if self.call.takes_voice() {
             lines.push(format!("voice {}", self.voice));
@@ -201,6 +231,7 @@ pub fn parse(text: &str) -> Vec<Stored> {
             "grammar" => case.grammar = unhex(value),
             "history" => case.history = unhex(value),
             "length" => case.length = value.parse().expect("a length"),
+            "pattern" => case.pattern = unhex(value),
             "voice" => case.voice = value.parse().expect("a voice"),
             "played" => case.played = value.parse().expect("a count of words"),
             "number" => case.number = value.parse().expect("a number"),

@@ -1,6 +1,8 @@
-//! Cases from a seed: grammars of several families, histories, voices, words played, numbers, and damage of every kind.
+//! Cases from a seed: grammars of several families, histories, patterns, voices, words played, numbers, and damage of
+//! every kind.
 use super::case::{Call, Case};
-use super::reference::{Full, Grammar, next, read_grammar, totals};
+use super::reference::{Full, Grammar, fits, next, read_grammar, totals};
+use std::collections::BTreeSet;
 
 /// Numbers from a seed (splitmix64).
 pub struct Rng(u64);
@@ -729,6 +731,73 @@ fn sentences(rng: &mut Rng, grammar: &Grammar, length: usize, voice: u8, count: 
     sentences
 }
 
+/// Puts blanks into a sentence: none, one, at all places but one, at all; or at each by chance.
+fn blank(rng: &mut Rng, bytes: &mut [u8]) {
+    let (at, quarters, kind) = (rng.below(bytes.len()), 1 + rng.below(3), rng.below(8));
+    for (i, byte) in bytes.iter_mut().enumerate() {
+        let here = match kind {
+            0 | 1 => false,
+            2 => true,
+            3 => i == at,
+            4 => i != at,
+            _ => rng.below(4) < quarters,
+        };
+        if here {
+            *byte = 255;
+        }
+    }
+}
+
+/// A pattern of so many bytes, made from a derivable sentence, from one that was played, or from random words.
+/// Sometimes it has a byte about the last word, or 254; sometimes a length that 9 refuses.
+pub fn pattern(rng: &mut Rng, grammar: &Grammar, full: Option<&Full>, length: usize, played: &[Spoken]) -> Vec<u8> {
+    let same: Vec<&Spoken> = played.iter().filter(|spoken| spoken.words.len() == length).collect();
+    let total = full.map_or(0, Full::total);
+    let mut bytes = match (rng.below(8), full) {
+        (0, _) => random_sentence(rng, usize::from(grammar.words), length),
+        (1..=3, _) if !same.is_empty() => rng.pick(&same).words.clone(),
+        (_, Some(full)) if total > 0 => full.sentence(rng.below_u64(total)),
+        _ => random_sentence(rng, usize::from(grammar.words), length),
+    };
+    blank(rng, &mut bytes);
+    if rng.once_in(16) {
+        let last = grammar.words - 1;
+        bytes[rng.below(length)] = rng.pick(&[last, grammar.words, last.saturating_add(2), 254]);
+    }
+    if rng.once_in(25) {
+        let size = rng.pick(&[0, 17, 18, 32, 255, 256, 256 + length, 65536 + length]);
+        bytes.resize(size, 255);
+    }
+    bytes
+}
+
+/// Adds sentences that fit the pattern, most of them in the voice and in full: a few; or all of them or all but one,
+/// where there are few. Seldom one with several derivations.
+fn add_fitting(rng: &mut Rng, full: &Full, pattern: &[u8], voice: u8, sentences: &mut Vec<Spoken>) {
+    let many = full.fitting(pattern);
+    if many == 0 {
+        return;
+    }
+    let few = many <= 30 && rng.once_in(4);
+    let out = if rng.once_in(2) { rng.below_u64(many) } else { many };
+    let entries: Vec<u64> = match few {
+        true => (0..many).filter(|&q| q != out).collect(),
+        false => (0..1 + rng.below(6)).map(|_| rng.below_u64(many)).collect(),
+    };
+    for q in entries {
+        let (_, number) = full.unheard_fitting(pattern, &BTreeSet::new(), &BTreeSet::new(), q);
+        let words = full.sentence(number.expect("an entry below how many there are"));
+        if full.readings(&words).count > 1 && !rng.once_in(30) {
+            continue;
+        }
+        let played = if rng.once_in(8) { rng.below(words.len()) as u8 } else { 0 };
+        let voice = if rng.once_in(8) { rng.below(16) as u8 } else { voice };
+        sentences.push(Spoken { voice, played, words });
+    }
+    rng.shuffle(sentences);
+    sentences.truncate(1000);
+}
+
 fn spoil_grammar(rng: &mut Rng, bytes: &mut Vec<u8>) {
     match rng.below(12) {
         0 => {
@@ -826,7 +895,7 @@ pub fn case(rng: &mut Rng, call: Call) -> Case {
     }
     let n = length(rng, &read);
     let full = Full::new(&read, n).ok();
-    let total = full.as_ref().map_or(0, Full::total);
+    let mut total = full.as_ref().map_or(0, Full::total);
     if call.takes_length() {
         case.length = if rng.once_in(30) { rng.pick(&BAD_LENGTHS) } else { n as u64 };
     }
@@ -836,9 +905,21 @@ pub fn case(rng: &mut Rng, call: Call) -> Case {
         case.voice = voice_asked(rng, voice);
         let large = if read.chains.len() > 12 { 1500 } else { 250 };
         let count = size(rng, large);
-        let sentences = sentences(rng, &read, n, voice, count);
-        let heard_here = |spoken: &&Spoken| spoken.voice == voice && spoken.played == 0 && spoken.words.len() == n;
-        heard = sentences.iter().filter(heard_here).count() as u64;
+        let mut sentences = sentences(rng, &read, n, voice, count);
+        let mut asked = vec![255; n];
+        if call.takes_pattern() {
+            case.pattern = pattern(rng, &read, full.as_ref(), n, &sentences);
+            if let (Some(full), true) = (&full, case.pattern.len() == n) {
+                asked.clone_from(&case.pattern);
+                total = full.fitting(&asked);
+                if rng.once_in(2) {
+                    add_fitting(rng, full, &asked, voice, &mut sentences);
+                }
+            }
+        }
+        let in_voice = |spoken: &&Spoken| spoken.voice == voice && spoken.played == 0;
+        let fitting = |spoken: &&Spoken| spoken.words.len() == n && fits(&spoken.words, &asked);
+        heard = sentences.iter().filter(in_voice).filter(fitting).count() as u64;
         case.history = random_history(rng, &sentences);
         if rng.once_in(8) {
             spoil_history(rng, &mut case.history);

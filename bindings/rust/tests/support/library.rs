@@ -39,35 +39,38 @@ impl Lent {
 struct Loan {
     grammar: Lent,
     history: Lent,
+    pattern: Lent,
     sentence: Lent,
 }
 
 impl Loan {
     fn new(case: &Case, guard: u8) -> Loan {
-        let shift = usize::from(guard) % 7 + case.length as usize % 8;
+        let shift = usize::from(guard) % 7 + case.length as usize % 8 + case.pattern.len() % 8;
         Loan {
             grammar: Lent::new(&case.grammar, guard, shift),
             history: Lent::new(&case.history, guard, shift + 1),
+            pattern: Lent::new(&case.pattern, guard, shift + 2),
             sentence: Lent::new(&case.sentence, guard, shift + 3),
         }
     }
 
     /// The written buffer, where nothing else changed.
     fn back(self, case: &Case) -> Result<Vec<u8>, String> {
-        for (name, lent) in [("grammar", &self.grammar), ("history", &self.history), ("sentence", &self.sentence)] {
+        let Loan { grammar, history, pattern, sentence } = &self;
+        for (name, lent) in [("grammar", grammar), ("history", history), ("pattern", pattern), ("sentence", sentence)] {
             if !lent.guarded() {
                 return Err(format!("a byte outside the {name} was written"));
             }
         }
         let buffer = match case.call {
-            Call::Unrank | Call::Draw => self.sentence.slice().to_vec(),
-            Call::Append => self.history.slice().to_vec(),
+            Call::Append => history.slice().to_vec(),
+            call if call.writes_sentence() => sentence.slice().to_vec(),
             _ => vec![],
         };
-        let writes_sentence = matches!(case.call, Call::Unrank | Call::Draw);
-        if self.grammar.slice() != case.grammar
-            || (case.call != Call::Append && self.history.slice() != case.history)
-            || (!writes_sentence && self.sentence.slice() != case.sentence)
+        if grammar.slice() != case.grammar
+            || (case.call != Call::Append && history.slice() != case.history)
+            || pattern.slice() != case.pattern
+            || (!case.call.writes_sentence() && sentence.slice() != case.sentence)
         {
             return Err("an input was written".to_string());
         }
@@ -81,8 +84,9 @@ fn through_c(case: &Case) -> Result<Answer, String> {
     let mut figures = [JUNK; 7];
     let [_, first, _, second, _, third, _] = &mut figures;
     let Case { length, voice, played, number, .. } = *case;
-    let (g, h, s) = (loan.grammar.slice(), loan.history.slice(), loan.sentence.slice());
-    let (gp, gl, hp, hl, sp, sl) = (g.as_ptr(), g.len(), h.as_ptr(), h.len(), s.as_ptr(), s.len());
+    let (g, h, p, s) = (loan.grammar.slice(), loan.history.slice(), loan.pattern.slice(), loan.sentence.slice());
+    let (gp, gl, hp, hl, pp, pl) = (g.as_ptr(), g.len(), h.as_ptr(), h.len(), p.as_ptr(), p.len());
+    let (sp, sl) = (s.as_ptr(), s.len());
     // SAFETY: slices with their lengths, figures of this function; what is written is borrowed just before.
     let refusal = unsafe {
         match case.call {
@@ -103,6 +107,13 @@ fn through_c(case: &Case) -> Result<Answer, String> {
                 let out = loan.history.slice_mut().as_mut_ptr();
                 ffi::pumpfennel_append(out, hl, sp, sl, voice, played, first)
             }
+            Call::RemainingMatching => {
+                ffi::pumpfennel_remaining_matching(gp, gl, hp, hl, pp, pl, voice, first, second, third)
+            }
+            Call::DrawMatching => {
+                let out = loan.sentence.slice_mut().as_mut_ptr();
+                ffi::pumpfennel_draw_matching(gp, gl, hp, hl, pp, pl, voice, number, out, sl, first, second)
+            }
         }
     };
     let buffer = loan.back(case)?;
@@ -118,7 +129,7 @@ fn through_c(case: &Case) -> Result<Answer, String> {
 fn through_rust(case: &Case) -> Result<Answer, String> {
     let mut loan = Loan::new(case, 0x5a);
     let Case { length, voice, played, .. } = *case;
-    let (g, h) = (loan.grammar.slice(), loan.history.slice());
+    let (g, h, p) = (loan.grammar.slice(), loan.history.slice(), loan.pattern.slice());
     let result: Result<Vec<u64>, Refusal> = match case.call {
         Call::CheckGrammar => pumpfennel::check_grammar(g).map(|c| vec![c.nonterminals, c.words]),
         Call::CheckHistory => pumpfennel::check_history(h).map(|records| vec![records]),
@@ -136,6 +147,13 @@ fn through_rust(case: &Case) -> Result<Answer, String> {
         Call::Append => {
             let out = loan.history.slice_mut();
             pumpfennel::append(out, loan.sentence.slice(), voice, played).map(|records| vec![records])
+        }
+        Call::RemainingMatching => {
+            pumpfennel::remaining_matching(g, h, p, voice).map(|r| vec![r.total, r.heard, r.remaining])
+        }
+        Call::DrawMatching => {
+            let (out, draw) = (loan.sentence.slice_mut(), DrawNumber(case.number));
+            pumpfennel::draw_matching(g, h, p, voice, draw, out).map(|d| vec![d.remaining, d.number.0])
         }
     };
     let buffer = loan.back(case)?;

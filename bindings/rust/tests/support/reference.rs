@@ -1,6 +1,6 @@
-//! Document 01, with document 02's U2, U4, U5 and U6, once more in plain Rust, for the tests alone: slow, and written
-//! from the documents' text. Where there are few derivations they are written down one by one; else the answers come
-//! from exact counts.
+//! Document 01, with document 02's U1, U2, U4, U5 and U6, once more in plain Rust, for the tests alone: slow, and
+//! written from the documents' text. Where there are few derivations they are written down one by one; else the answers
+//! come from exact counts.
 use super::case::{Answer, Call, Case};
 use std::collections::BTreeSet;
 
@@ -124,6 +124,17 @@ pub struct Readings {
     pub lowest: u64,
 }
 
+/// Document 02, U1: "Byte 255 is a blank and any other byte is that word."
+fn word_fits(word: u8, byte: u8) -> bool {
+    byte == 255 || byte == word
+}
+
+/// Whether a sentence of the pattern's length fits it.
+pub fn fits(sentence: &[u8], pattern: &[u8]) -> bool {
+    assert_eq!(sentence.len(), pattern.len());
+    sentence.iter().zip(pattern).all(|(&word, &byte)| word_fits(word, byte))
+}
+
 /// The full list of one length.
 pub enum Full<'a> {
     Listed(Vec<Vec<u8>>),
@@ -191,6 +202,54 @@ impl<'a> Full<'a> {
         let left = self.total() - struck.len() as u64;
         (left, if q < left { Some(from + ahead) } else { None })
     }
+
+    /// How many derivations of the list have a sentence that fits the pattern.
+    pub fn fitting(&self, pattern: &[u8]) -> u64 {
+        match self {
+            Full::Listed(list) => list.iter().filter(|entry| fits(entry, pattern)).count() as u64,
+            Full::Counted(counted) => counted.fitting_runs(pattern)[pattern.len()][0][counted.grammar.start],
+        }
+    }
+
+    /// The unheard list where only what fits the pattern is on it: its length, and entry q, if there is one, as its
+    /// derivation number among all. `struck` are the derivation numbers of the heard sentences that fit.
+    pub fn unheard_fitting(
+        &self,
+        pattern: &[u8],
+        heard: &BTreeSet<&[u8]>,
+        struck: &BTreeSet<u64>,
+        q: u64,
+    ) -> (u64, Option<u64>) {
+        match self {
+            Full::Listed(list) => {
+                let unheard = |entry: &[u8]| fits(entry, pattern) && !heard.contains(entry);
+                let left: Vec<u64> = (0..).zip(list).filter(|(_, entry)| unheard(entry)).map(|(d, _)| d).collect();
+                (left.len() as u64, if q < left.len() as u64 { Some(left[q as usize]) } else { None })
+            }
+            Full::Counted(counted) => {
+                let (n, start, runs) = (counted.length, counted.grammar.start, counted.fitting_runs(pattern));
+                let left = runs[n][0][start] - struck.len() as u64;
+                if q >= left {
+                    return (left, None);
+                }
+                // Entry q is the last derivation that has no more than q unheard ones that fit before it.
+                let before = |d: u64| {
+                    let (fitting, _) = counted.fitting_before(&runs, pattern, start, 0, n, d);
+                    fitting - struck.range(..d).count() as u64
+                };
+                let (mut low, mut high) = (0, self.total() - 1);
+                while low < high {
+                    let middle = high - (high - low) / 2;
+                    if before(middle) <= q {
+                        low = middle;
+                    } else {
+                        high = middle - 1;
+                    }
+                }
+                (left, Some(low))
+            }
+        }
+    }
 }
 
 /// Every derivation of the start and that length, as its sentence, in order.
@@ -257,18 +316,19 @@ impl Counted<'_> {
         unreachable!("the number is below the total");
     }
 
-    /// How many derivations of each run of the words, at `[m][p][A]`; 2^64 - 1 where that isn't needed and there are more.
-    fn runs(&self, sentence: &[u8]) -> Vec<Vec<Vec<u64>>> {
+    /// How many derivations each run of places has with words that are allowed there, at `[m][p][A]`; 2^64 - 1 where
+    /// that isn't needed and there are more.
+    fn runs(&self, allowed: impl Fn(usize, u8) -> bool) -> Vec<Vec<Vec<u64>>> {
         let chains = &self.grammar.chains;
         let mut runs: Vec<Vec<Vec<u64>>> = vec![vec![]];
-        for m in 1..=sentence.len() {
+        for m in 1..=self.length {
             let mut row = vec![];
-            for p in 0..=sentence.len() - m {
+            for p in 0..=self.length - m {
                 let mut cell = vec![0u64; chains.len()];
                 for (a, chain) in chains.iter().enumerate() {
                     for rule in chain {
                         match *rule {
-                            Rule::Word(word) => cell[a] += u64::from(m == 1 && word == sentence[p]),
+                            Rule::Word(word) => cell[a] += u64::from(m == 1 && allowed(p, word)),
                             Rule::Pair(b, c) => {
                                 for k in 1..m {
                                     let both = runs[k][p][b].saturating_mul(runs[m - k][p + k][c]);
@@ -285,8 +345,55 @@ impl Counted<'_> {
         runs
     }
 
+    fn fitting_runs(&self, pattern: &[u8]) -> Vec<Vec<Vec<u64>>> {
+        self.runs(|p, word| word_fits(word, pattern[p]))
+    }
+
+    /// How many derivations of A over m places from p on fit the pattern and have a number below d; and whether the one
+    /// with number d fits.
+    fn fitting_before(
+        &self,
+        runs: &[Vec<Vec<u64>>],
+        pattern: &[u8],
+        a: usize,
+        p: usize,
+        m: usize,
+        mut d: u64,
+    ) -> (u64, bool) {
+        let mut before = 0;
+        for rule in &self.grammar.chains[a] {
+            match *rule {
+                Rule::Word(word) if m == 1 => {
+                    let fits = word_fits(word, pattern[p]);
+                    if d == 0 {
+                        return (before, fits);
+                    }
+                    before += u64::from(fits);
+                    d -= 1;
+                }
+                Rule::Word(_) => {}
+                Rule::Pair(b, c) => {
+                    for k in 1..m {
+                        let (left, right) = (self.t[k][b], self.t[m - k][c]);
+                        let fitting_right = runs[m - k][p + k][c];
+                        if u128::from(d) < u128::from(left) * u128::from(right) {
+                            let (lefts, left_fits) = self.fitting_before(runs, pattern, b, p, k, d / right);
+                            let (rights, right_fits) = self.fitting_before(runs, pattern, c, p + k, m - k, d % right);
+                            let here = lefts * fitting_right + if left_fits { rights } else { 0 };
+                            return (before + here, left_fits && right_fits);
+                        }
+                        before += runs[k][p][b] * fitting_right;
+                        d -= left * right;
+                    }
+                }
+            }
+        }
+        unreachable!("the number is below the total");
+    }
+
     fn readings(&self, sentence: &[u8]) -> Readings {
-        let runs = self.runs(sentence);
+        assert_eq!(sentence.len(), self.length);
+        let runs = self.runs(|p, word| word == sentence[p]);
         let count = runs[sentence.len()][0][self.grammar.start];
         let lowest = if count == 0 { 0 } else { self.place(&runs, sentence, self.grammar.start, 0, sentence.len()) };
         Readings { count, lowest }
@@ -377,6 +484,11 @@ fn fitting_voice(voice: u64) -> Result<u8, u8> {
     if voice <= 15 { Ok(voice as u8) } else { Err(22) }
 }
 
+/// 21: "a pattern byte other than 255 is W or more".
+fn known_words(pattern: &[u8], grammar: &Grammar) -> Result<(), u8> {
+    if pattern.iter().any(|&byte| byte != 255 && byte >= grammar.words) { Err(21) } else { Ok(()) }
+}
+
 /// 23: the figure of *Log* "is the sentence's length or more".
 fn fitting_played(played: u64, length: usize) -> Result<u8, u8> {
     if played < length as u64 { Ok(played as u8) } else { Err(23) }
@@ -400,6 +512,19 @@ fn heard<'a>(
             _ => return Err(15),
         }
     }
+    Ok((heard, struck))
+}
+
+/// For a pattern: the sentences heard as above, and of the derivation numbers those whose sentence fits; or 15, which
+/// "still reads every diary sentence of that length".
+fn heard_fitting<'a>(
+    records: &[Record<'a>],
+    pattern: &[u8],
+    voice: u8,
+    full: &Full,
+) -> Result<(BTreeSet<&'a [u8]>, BTreeSet<u64>), u8> {
+    let (heard, mut struck) = heard(records, pattern.len(), voice, full)?;
+    struck.retain(|&number| fits(&full.sentence(number), pattern));
     Ok((heard, struck))
 }
 
@@ -480,6 +605,27 @@ fn attempt(case: &Case) -> Result<(Vec<u64>, Vec<u8>), u8> {
             record[4..4 + length].copy_from_slice(&case.sentence);
             Ok((vec![k as u64 + 1], after))
         }
+        Call::RemainingMatching | Call::DrawMatching => {
+            let grammar = read_grammar(&case.grammar)?;
+            let length = fitting(case.pattern.len() as u64)?; // "The named length is the pattern's."
+            let voice = fitting_voice(case.voice)?;
+            let full = Full::new(&grammar, length)?;
+            known_words(&case.pattern, &grammar)?;
+            let records = read_history(&case.history)?;
+            let (heard, struck) = heard_fitting(&records, &case.pattern, voice, &full)?;
+            if case.call == Call::RemainingMatching {
+                let (left, _) = full.unheard_fitting(&case.pattern, &heard, &struck, u64::MAX);
+                let total = full.fitting(&case.pattern);
+                assert_eq!(left, total - struck.len() as u64);
+                return Ok((vec![total, struck.len() as u64, left], vec![]));
+            }
+            let (left, entry) = full.unheard_fitting(&case.pattern, &heard, &struck, case.number);
+            let number = entry.ok_or(16)?;
+            if case.sentence.len() < length {
+                return Err(20);
+            }
+            Ok((vec![left, number], written(&full.sentence(number))))
+        }
     }
 }
 
@@ -490,8 +636,9 @@ pub fn answer(case: &Case) -> Answer {
     }
 }
 
-/// Whether the two ways say the same: every sentence and its readings, written down and by counts.
-pub fn ways_agree(grammar: &Grammar, length: usize, tried: &[Vec<u8>]) -> bool {
+/// Whether the two ways say the same: every sentence and its readings, and what fits each of the patterns, written down
+/// and by counts.
+pub fn ways_agree(grammar: &Grammar, length: usize, tried: &[Vec<u8>], patterns: &[Vec<u8>]) -> bool {
     let t = totals(grammar, length).expect("counts that fit");
     let list = Full::Listed(listed(grammar, length));
     let counted = Full::Counted(Counted { grammar, length, t });
@@ -501,4 +648,14 @@ pub fn ways_agree(grammar: &Grammar, length: usize, tried: &[Vec<u8>]) -> bool {
             sentence == counted.sentence(d) && list.readings(&sentence) == counted.readings(&sentence)
         })
         && tried.iter().all(|sentence| list.readings(sentence) == counted.readings(sentence))
+        && patterns.iter().all(|pattern| {
+            // With every third of the sentences heard that have one derivation.
+            let single = (0..list.total()).map(|d| (d, list.sentence(d))).filter(|(_, s)| list.readings(s).count == 1);
+            let third: Vec<(u64, Vec<u8>)> = single.step_by(3).collect();
+            let heard: BTreeSet<&[u8]> = third.iter().map(|(_, sentence)| &sentence[..]).collect();
+            let struck = third.iter().filter(|(_, sentence)| fits(sentence, pattern)).map(|&(d, _)| d).collect();
+            let entry = |full: &Full, q| full.unheard_fitting(pattern, &heard, &struck, q);
+            let many = list.fitting(pattern);
+            many == counted.fitting(pattern) && (0..=many).all(|q| entry(&list, q) == entry(&counted, q))
+        })
 }

@@ -2,7 +2,7 @@
 -- Assumes nothing: these are definitions.
 use Prim.Native.Nat.{ℕ}
 use Rattle.answers.specs.declared.refusal.Refusal.{Refusal}
-use Rattle.answers.specs.declared.refusal.Refusal.the-variants.{GrammarTooShort, GrammarOutOfRange, GrammarWrongSize, GrammarBadRule, GrammarBadLink, GrammarRuleMetTwice, GrammarRuleOnNoChain, GrammarEqualRules, BadLength, TooManyDerivations, HistoryWrongSize, HistoryBadRecord, HistoryBadLink, HistoryBadChain, HeardAmbiguous, NumberBeyond, SentenceUnderivable, HistoryFull, BufferTooShort, BadVoice, BadPlayed}
+use Rattle.answers.specs.declared.refusal.Refusal.the-variants.{GrammarTooShort, GrammarOutOfRange, GrammarWrongSize, GrammarBadRule, GrammarBadLink, GrammarRuleMetTwice, GrammarRuleOnNoChain, GrammarEqualRules, BadLength, TooManyDerivations, HistoryWrongSize, HistoryBadRecord, HistoryBadLink, HistoryBadChain, HeardAmbiguous, NumberBeyond, SentenceUnderivable, HistoryFull, BufferTooShort, BadPattern, BadVoice, BadPlayed}
 
 abbrev pub refusalNumber : Refusal → ℕ
 -- the grammar has fewer than 4 bytes
@@ -43,6 +43,8 @@ refusalNumber SentenceUnderivable = 17
 refusalNumber HistoryFull = 19
 -- the sentence's buffer is shorter than the length
 refusalNumber BufferTooShort = 20
+-- a byte of the pattern is neither 255 nor a word of the grammar
+refusalNumber BadPattern = 21
 -- the voice is above 15
 refusalNumber BadVoice = 22
 -- the count of words played is the sentence's length or more

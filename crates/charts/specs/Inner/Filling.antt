@@ -18,8 +18,8 @@ use Rattle.counting.specs.Refusals.{most}
 use Rattle.counting.specs.Inner.Counted.{Asked}
 use Rattle.charts.specs.Inner.Letters.{any, letterAt, weightBy}
 use Rattle.charts.specs.Inner.Maps.{rowAt, totalAt, Span}
-use Rattle.charts.specs.Inner.Plan.{cuts, spots, wanted, partners, needed, chartRow}
-use Rattle.charts.specs.Inner.Chart.{Fills}
+use Rattle.charts.specs.Inner.Plan.{cuts, spots, wanted, partners, needed}
+use Rattle.charts.specs.Inner.Chart.{Beside, Fills}
 
 -- ---- a row that is cleared
 
@@ -197,21 +197,21 @@ abbrev pub Done : (rules map : List (List ℕ)) (n p m : ℕ) (totals : List (Li
 Done rules map n p m totals = (A : ℕ) → Asked rules n A m → totalAt totals map p A m ≡ total (ruled rules) (weightBy rules map) p A m
 
 -- so have those of all needed spans shorter than m, and of those of the length m at a position that isn't in `left`
-pub record FilledTo (rules plan map : List (List ℕ)) (n m left : ℕ) (sets : List ℕ) (totals : List (List ℕ)) : Type 0 where
-  pub fills : Fills rules plan map n sets totals
+pub record FilledTo (rules plan map : List (List ℕ)) (first n m left : ℕ) (sets : List ℕ) (totals : List (List ℕ)) : Type 0 where
+  pub fills : Fills rules plan map first n sets totals
   pub shorter : (p k : ℕ) → Span n p k → k < m → needed plan p k ≡ true → Done rules map n p k totals
   pub here : (p : ℕ) → Span n p m → needed plan p m ≡ true → member left p ≡ false → Done rules map n p m totals
 
 -- what filling the spans of the length m asks
-pub record Lengthens (rules plan map : List (List ℕ)) (n m : ℕ) (sets : List ℕ) (totals : List (List ℕ)) : Type 0 where
+pub record Lengthens (rules plan map : List (List ℕ)) (first n m : ℕ) (sets : List ℕ) (totals : List (List ℕ)) : Type 0 where
   pub some : 1 ≤ m
   pub short : m ≤ n
-  pub filled : FilledTo rules plan map n m (spots plan m) sets totals
+  pub filled : FilledTo rules plan map first n m (spots plan m) sets totals
 
--- they are filled but for those at the positions in `left`; the rows below the chart are as they were
-pub record LengthenedAs (rules plan map : List (List ℕ)) (n m left : ℕ) (sets : List ℕ) (totals : List (List ℕ)) (sets′ : List ℕ) (totals′ : List (List ℕ))
+-- they are filled but for those at the positions in `left`; the rows outside the chart are as they were
+pub record LengthenedAs (rules plan map : List (List ℕ)) (first n m left : ℕ) (sets : List ℕ) (totals : List (List ℕ)) (sets′ : List ℕ) (totals′ : List (List ℕ))
     : Type 0 where
-  pub filled : FilledTo rules plan map n m left sets′ totals′
+  pub filled : FilledTo rules plan map first n m left sets′ totals′
   pub sets-long : length sets′ ≡ length sets
   pub long : length totals′ ≡ length totals
-  pub kept : (r : ℕ) → r < chartRow → getD totals′ r [] ≡ getD totals r []
+  pub kept : (r : ℕ) → Beside first n r → getD totals′ r [] ≡ getD totals r []

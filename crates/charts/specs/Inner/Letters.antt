@@ -1,8 +1,8 @@
 -- Letters: what a map asks of the word at each position. Below 256 that word alone; 256 any word; 257 any word, by its weight.
 -- Assumes nothing: these are definitions.
-use mathlib.Core.Bool.{cond, _||_}
-use mathlib.Core.List.{List}
-use Prim.Native.Nat.{ℕ}
+use mathlib.Core.Bool.{Bool, true, cond, _&&_, _||_}
+use mathlib.Core.List.{List, [], _∷_}
+use Prim.Native.Nat.{ℕ, suc}
 use lib.Dec.{eqb}
 use Rattle.lists.specs.Searched.{bit}
 use Rattle.lists.specs.Inner.Tables.{entry}
@@ -24,3 +24,12 @@ letterWeight weights x w = cond (eqb x weighed) (weights w) (bit (eqb x any || e
 -- the weight of a map: by its letters; the words' weights stand in the table of rules
 abbrev pub weightBy : (rules map : List (List ℕ)) → ℕ → ℕ → ℕ
 weightBy rules map p w = letterWeight (entry rules 13) (letterAt map p) w
+
+-- the letter of a byte, where the byte `blank` lets any word stand
+abbrev pub letterOf : (blank x : ℕ) → ℕ
+letterOf blank x = cond (eqb x blank) any x
+
+-- each word from the position p on is one that its letter asks for
+abbrev pub stands : (map : List (List ℕ)) (p : ℕ) → List ℕ → Bool
+stands map p [] = true
+stands map p (w ∷ u) = (eqb (letterAt map p) any || eqb (letterAt map p) w) && stands map (suc p) u

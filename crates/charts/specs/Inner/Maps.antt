@@ -13,7 +13,7 @@ use Rattle.grammar.specs.Inner.Rules.{pairsIn, ruled}
 use Rattle.counting.specs.Totals.{total, T}
 use Rattle.counting.specs.Refusals.{most}
 use Rattle.counting.specs.Inner.Counted.{Asked}
-use Rattle.charts.specs.Inner.Letters.{any, letterAt, weightBy}
+use Rattle.charts.specs.Inner.Letters.{any, letterAt, weightBy, letterOf, stands}
 
 -- the row of a span
 abbrev pub rowAt : List (List ℕ) → (p m : ℕ) → ℕ
@@ -58,10 +58,15 @@ rowsFrom k (suc n) = sixteen k ∷ rowsFrom (suc k) n
 abbrev pub countsMap : List (List ℕ)
 countsMap = sixteen any ∷ rowsFrom 1 16
 
--- the map with a sentence's words as letters, below 256 each; the rows of spans are as they were
-pub record LetteredAs (sentence : List ℕ) (before after : List (List ℕ)) : Type 0 where
+-- the map with the letters of bytes, one of which may be a blank; the rows of spans are as they were
+pub record LetteredAs (blank : ℕ) (words : List ℕ) (before after : List (List ℕ)) : Type 0 where
   pub long : length after ≡ 17
   pub wide : Wide after 16
-  pub letters : (p : ℕ) → p < length sentence → letterAt after p ≡ getD sentence p 0
-  pub small : (p : ℕ) → p < length sentence → letterAt after p < 256
+  pub letters : (p : ℕ) → p < length words → letterAt after p ≡ letterOf blank (getD words p 0)
+  pub bytes : (p : ℕ) → p < length words → getD words p 0 < 256
   pub kept : (r : ℕ) → 1 ≤ r → getD after r [] ≡ getD before r []
+
+-- a sentence that may be held against a map's letters: where the map is that of the counts, it stands
+pub record Fitted (map : List (List ℕ)) (sentence : List ℕ) : Type 0 where
+  pub short : length sentence ≤ 16
+  pub plain : rowAt map 0 1 < 17 → stands map 0 sentence ≡ true

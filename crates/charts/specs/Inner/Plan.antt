@@ -42,13 +42,16 @@ noneRow = 17
 abbrev pub chartRow : ℕ
 chartRow = 18
 
--- how many spans n positions have, and how many rows a table with their chart
+-- how many spans n positions have, and where their rows end, which begin at `first`; with a chart right behind the row of zeros
 abbrev pub spansOf : ℕ → ℕ
 spansOf zero = 0
 spansOf (suc n) = suc n + spansOf n
 
+abbrev pub endOf : (first n : ℕ) → ℕ
+endOf first n = first + spansOf n
+
 abbrev pub room : ℕ → ℕ
-room n = chartRow + spansOf n
+room n = endOf chartRow n
 
 -- the sets of a plan
 pub record Cut (rules plan : List (List ℕ)) (n : ℕ) : Type 0 where
@@ -66,13 +69,14 @@ pub record Cut (rules plan : List (List ℕ)) (n : ℕ) : Type 0 where
   pub halves : (p m k : ℕ) → p < 32 → k < 32 → 1 ≤ m → m ≤ n → needed plan p m ≡ true → member (cuts plan m) k ≡ true → (needed plan p k ≡ true) × (needed plan (p + k) (m - k) ≡ true)
   pub inside : (p m : ℕ) → p < 32 → 1 ≤ m → m ≤ n → needed plan p m ≡ true → p + m ≤ n
 
--- the rows of spans: a needed span has one of its own among those of the chart, any other the row of zeros
-pub record Rowed (plan map : List (List ℕ)) (n : ℕ) : Type 0 where
+-- the rows of spans: a needed span has one of its own from the row `first` on, any other the row of zeros
+pub record Rowed (plan map : List (List ℕ)) (first n : ℕ) : Type 0 where
   pub none : (p m : ℕ) → Span n p m → needed plan p m ≡ false → rowAt map p m ≡ noneRow
-  pub some : (p m : ℕ) → Span n p m → needed plan p m ≡ true → (chartRow ≤ rowAt map p m) × (rowAt map p m < room n)
+  pub some : (p m : ℕ) → Span n p m → needed plan p m ≡ true → (first ≤ rowAt map p m) × (rowAt map p m < endOf first n)
   pub own : (p m q k : ℕ) → Span n p m → Span n q k → needed plan p m ≡ true → needed plan q k ≡ true → rowAt map p m ≡ rowAt map q k → (p ≡ q) × (m ≡ k)
 
-pub record Planned (rules plan map : List (List ℕ)) (n : ℕ) : Type 0 where
+pub record Planned (rules plan map : List (List ℕ)) (first n : ℕ) : Type 0 where
+  pub behind : chartRow ≤ first
   pub length : lengthIn plan ≡ n
   pub cut : Cut rules plan n
-  pub rows : Rowed plan map n
+  pub rows : Rowed plan map first n

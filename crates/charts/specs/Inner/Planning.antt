@@ -99,9 +99,9 @@ pub record SpottedAs (cuts : List ℕ) (n least : ℕ) (row : List ℕ) : Type 0
 abbrev pub rowFrom : (spots base p : ℕ) → ℕ
 rowFrom spots base p = cond (member spots p) (base + p) noneRow
 
--- where the rows of the spans of m positions begin: the spans of m positions or more come after it
-abbrev pub baseOf : (n m : ℕ) → ℕ
-baseOf n m = chartRow + (spansOf n - spansOf (n + 1 - m))
+-- where the rows of the spans of m positions begin, those of all at `first`: the spans of m positions or more come after it
+abbrev pub baseOf : (first n m : ℕ) → ℕ
+baseOf first n m = first + (spansOf n - spansOf (n + 1 - m))
 
 -- the rows of the first `end` spans of a length
 pub record RowAs (spots base end : ℕ) (row : List ℕ) : Type 0 where
@@ -109,11 +109,11 @@ pub record RowAs (spots base end : ℕ) (row : List ℕ) : Type 0 where
   pub each : (p : ℕ) → p < end → getD row p 0 ≡ rowFrom spots base p
 
 -- the rows of the spans of fewer than m positions; the letters are as they were
-pub record PlacedAs (spots : List ℕ) (n m : ℕ) (before after : List (List ℕ)) : Type 0 where
+pub record PlacedAs (spots : List ℕ) (first n m : ℕ) (before after : List (List ℕ)) : Type 0 where
   pub long : length after ≡ 17
   pub wide : Wide after 16
   pub letters : getD after 0 [] ≡ getD before 0 []
-  pub each : (p j : ℕ) → 1 ≤ j → j < m → p + j ≤ n → entry after j p ≡ rowFrom (at spots j) (baseOf n j) p
+  pub each : (p j : ℕ) → 1 ≤ j → j < m → p + j ≤ n → entry after j p ≡ rowFrom (at spots j) (baseOf first n j) p
 
 -- ---- the plan
 
@@ -126,7 +126,7 @@ pub record Plans (rules totals : List (List ℕ)) (n : ℕ) (plan map : List (Li
 
 -- what it promises: the plan, the map's rows, and its letters as they were
 pub record BuiltAs (rules : List (List ℕ)) (n : ℕ) (before plan map : List (List ℕ)) : Type 0 where
-  pub planned : Planned rules plan map n
+  pub planned : Planned rules plan map chartRow n
   pub letters : getD map 0 [] ≡ getD before 0 []
   pub map-long : length map ≡ 17
   pub map-wide : Wide map 16

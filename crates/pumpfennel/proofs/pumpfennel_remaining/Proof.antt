@@ -1,29 +1,12 @@
--- `pumpfennel_remaining` meets its contract, case by case of the answer.
+-- `pumpfennel_remaining` meets its contract: what is answered is handed over.
 -- Assumes nothing.
-use mathlib.Core.Path.{refl}
-use Rattle.sampling.specs.Inner.Says.{remainingSays}
-use Rattle.pumpfennel.proofs.Cases.{answered}
+use mathlib.Core.Path.{_∙_}
 use borrow.Author.Needs.{needs}
 use Rattle.pumpfennel.proofs.pumpfennel_remaining.Statement.{statement}
 use Rattle.pumpfennel.proofs.pumpfennel_remaining.Tie as tie
 
 returns : tie.Need-returns
-returns c =
-    let u = c .before .before .before in
-    answered remainingSays _ _ (u .remaining .ensures) (c .before .a .given .1) refl refl
-
-returns-2 : tie.Need-returns-2
-returns-2 c =
-    let u = c .before .before .before .before in
-    answered remainingSays _ _ (u .remaining .ensures) (c .before .before .a2 .given .1) refl (c .number .ensures)
+returns c = c .hand-remaining .ensures ∙ c .before .before .before .before .remaining .ensures
 
 pub pumpfennel-remaining-spec : {M : Type 1} → statement M
-pumpfennel-remaining-spec =
-    tie.close
-    (tie.spec
-    (λ c κs. search needs)
-    (λ c. search needs)
-    (λ c. search needs)
-    (λ c κs. search needs)
-    returns
-    returns-2)
+pumpfennel-remaining-spec = tie.close (tie.spec (λ c κs. search needs) (λ c κs. search needs) returns)

@@ -1,16 +1,22 @@
 -- *Give* and *Number* by the table of rules alone, once the refusals 1 to 10 are passed: what the walk and the chart answer. Of the table of an
 -- accepted grammar these are document 01's answers (proofs/Inside.antt).
 -- Assumes nothing: these are definitions.
+use mathlib.Core.Path.{_≡_}
+use mathlib.Core.Bool.{Bool}
 use mathlib.Core.List.{List, [], _∷_, _++_}
 use Prim.Native.Nat.{ℕ, _≤_, _<_}
 use lib.ListN.{length, getD, drop}
 use lib.Dec.{ltb, leb, eqb}
-use Rattle.lists.specs.Searched.{howMany, firstPlace, same}
+use Rattle.lists.specs.Searched.{howMany, firstPlace, same, keep}
+use Rattle.lists.specs.Inner.Struck.{numbered}
 use Rattle.answers.specs.Answer.{Answer, answer}
 use Rattle.grammar.specs.Inner.Rules.{startIn, ruled}
+use Rattle.grammar.specs.Inner.Links.{Linked}
 use Rattle.counting.specs.Totals.{T}
 use Rattle.counting.specs.Inner.Sentences.{sentences}
 use Rattle.counting.specs.Inner.Counted.{Counted}
+use Rattle.charts.specs.Inner.Letters.{any, letterAt, stands}
+use Rattle.charts.specs.Inner.Maps.{Closed, Mapped, Everywhere}
 
 -- the sentences of the full list, and how many there are
 abbrev pub fullIn : List (List ℕ) → ℕ → List (List ℕ)
@@ -39,8 +45,36 @@ unfoldable pub rankIn : (rules : List (List ℕ)) (s : List ℕ) → Answer
 rankIn rules s =
     answer ((eqb (readingsIn rules s) 0, 17) ∷ []) (numberIn rules s ∷ totalIn rules (length s) ∷ readingsIn rules s ∷ []) [] []
 
--- the counts, a derivation with the number d, and room for its sentence
-pub record WriteSought (rules totals : List (List ℕ)) (n d : ℕ) (out : List ℕ) : Type 0 where
+-- ---- by a map
+
+-- the sentences of the full list whose words stand where a map's letters ask for them, and these with their derivation numbers
+abbrev pub standing : (rules map : List (List ℕ)) (n : ℕ) → List (List ℕ)
+standing rules map n = keep (stands map 0) (fullIn rules n)
+
+abbrev pub standingAt : (rules map : List (List ℕ)) (n : ℕ) → List (ℕ × List ℕ)
+standingAt rules map n = keep (λ e. stands map 0 (e .1)) (numbered 0 (fullIn rules n))
+
+-- how many of them stand before the first with the sentence s
+abbrev pub placeIn : (rules map : List (List ℕ)) (s : List ℕ) → ℕ
+placeIn rules map s = firstPlace (λ u. same u s) (standing rules map (length s))
+
+-- the counts, and the totals of a map that asks for words or for any word
+pub record Chooses (rules totals map : List (List ℕ)) (n : ℕ) : Type 0 where
   pub counted : Counted rules totals n
-  pub inside : d < totalIn rules n
+  pub known : ℕ → ℕ → Bool
+  pub closed : Closed rules n known
+  pub mapped : Mapped rules totals map n known
+  pub letters : (p : ℕ) → p < n → letterAt map p ≤ any
+  pub linked : (p : ℕ) → p < n → letterAt map p < any → Linked rules
+
+-- with one that has d of these before it, the map of the counts, and room for its sentence
+pub record WriteSought (rules totals choice counts : List (List ℕ)) (n d : ℕ) (out : List ℕ) : Type 0 where
+  pub everywhere : Everywhere counts
+  pub chooses : Chooses rules totals choice n
+  pub inside : d < length (standing rules choice n)
   pub room : n ≤ length out
+
+-- it is written, and what follows it is kept
+pub record WrittenAs (rules choice : List (List ℕ)) (n d : ℕ) (before after : List ℕ) (number : ℕ) : Type 0 where
+  pub words : after ≡ getD (standingAt rules choice n) d (0, []) .1 ++ drop n before
+  pub number-is : number ≡ getD (standingAt rules choice n) d (0, []) .0

@@ -1,4 +1,5 @@
--- What collecting the heard derivation numbers asks and gives back, by the table of rules alone.
+-- What collecting the heard derivations asks and gives back, by the table of rules alone. They are told by their places among the derivations whose
+-- sentence passes a test: that it stands by a measure's letters, or that it fits a pattern.
 -- Assumes nothing: these are definitions.
 use mathlib.Core.Path.{_≡_}
 use mathlib.Core.Bool.{Bool, true, false, cond, _&&_}
@@ -7,78 +8,101 @@ use Prim.Native.Nat.{ℕ, _≤_, _<_}
 use lib.ListN.{length, take}
 use lib.Dec.{leb, eqb}
 use Rattle.lists.specs.Joined.{concatMap}
-use Rattle.lists.specs.Searched.{someOf}
-use Rattle.lists.specs.Inner.Struck.{struck}
+use Rattle.lists.specs.Searched.{someOf, firstPlace, same, keep}
+use Rattle.lists.specs.Inner.Struck.{struck, numbered}
 use Rattle.lists.specs.Inner.Tables.{entry}
-use Rattle.charts.specs.Inner.Plan.{lengthIn, chartRow}
+use Rattle.grammar.specs.Trees.{Tree}
+use Rattle.counting.specs.Inner.Counted.{Counted}
+use Rattle.charts.specs.Inner.Letters.{any, letterAt, stands}
+use Rattle.charts.specs.Inner.Maps.{rowAt, Span, Mapped}
+use Rattle.charts.specs.Inner.Plan.{lengthIn, needed, endOf}
 use Rattle.charts.specs.Inner.Chart.{Clean}
-use Rattle.charts.specs.Inner.Maps.{Everywhere}
 use Rattle.charts.specs.Inner.Ready.{Ready}
 use Rattle.ranking.specs.Answers.{fullList}
-use Rattle.ranking.specs.Inner.Inside.{readingsIn, numberIn}
+use Rattle.ranking.specs.Inner.Inside.{fullIn, readingsIn}
 use Rattle.history.specs.Layout.{recordsOf}
 use Rattle.history.specs.Refusals.{Accepted}
 use Rattle.history.specs.Heard.{sentencesIn}
-use Rattle.sampling.specs.Question.{Question}
-use Rattle.sampling.specs.Unheard.{outside, ofLength}
-use Rattle.ranking.specs.declared.rank.Found.{Found}
-use Rattle.ranking.specs.declared.rank.Found.the-variants.{None, Some}
+use Rattle.sampling.specs.Question.{Question, plainly}
+use Rattle.sampling.specs.Unheard.{outside, suits, ofLength}
+use Rattle.sampling.specs.declared.heard.Added.{Added}
+use Rattle.sampling.specs.declared.heard.Added.the-variants.{Nothing, Place, Many}
 use Rattle.sampling.specs.declared.heard.Collected.{Collected}
 use Rattle.sampling.specs.declared.heard.Collected.the-variants.{Numbers, Ambiguous}
 
--- the places of the full list that are struck, rising: the heard derivation numbers
-abbrev pub barred : (g h : List ℕ) (a : Question) → List ℕ
-barred g h a = struck (outside h (a .voice)) (fullList g (a .length))
+-- the derivations that fit, each with its number, and of these the places that are struck, rising
+abbrev pub fittingAt : (g : List ℕ) (a : Question) → List (ℕ × Tree)
+fittingAt g a = keep (λ e. suits a (e .1)) (numbered 0 (fullList g (a .length)))
 
--- the number of a sentence with n words and one derivation; of any other none
-abbrev pub numbersIn : (rules : List (List ℕ)) (n : ℕ) (s : List ℕ) → List ℕ
-numbersIn rules n s = cond (eqb (length s) n && eqb (readingsIn rules s) 1) (numberIn rules s ∷ []) []
+abbrev pub barred : (g h : List ℕ) (a : Question) → List ℕ
+barred g h a = struck (λ e. outside h (a .voice) (e .1)) (fittingAt g a)
+
+-- the place of a sentence with n words and one derivation that passes the test; of any other none
+abbrev pub numbersIn : (rules : List (List ℕ)) (P : List ℕ → Bool) (n : ℕ) (s : List ℕ) → List ℕ
+numbersIn rules P n s =
+    cond (eqb (length s) n && (eqb (readingsIn rules s) 1 && P s)) (firstPlace (λ u. same u s) (keep P (fullIn rules n)) ∷ []) []
 
 -- the sentence has n words and two or more derivations
 abbrev pub manyIn : (rules : List (List ℕ)) (n : ℕ) (s : List ℕ) → Bool
 manyIn rules n s = eqb (length s) n && leb 2 (readingsIn rules s)
 
--- some sentence of a history, in the voice and of the length asked for, has two or more derivations
-abbrev pub ambiguousIn : (rules : List (List ℕ)) (h : List ℕ) (a : Question) → Bool
-ambiguousIn rules h a = someOf (λ s. leb 2 (readingsIn rules s)) (ofLength h a)
+-- some sentence of a history, in the voice and of the length, has two or more derivations
+abbrev pub ambiguousIn : (rules : List (List ℕ)) (h : List ℕ) (n v : ℕ) → Bool
+ambiguousIn rules h n v = someOf (λ s. leb 2 (readingsIn rules s)) (ofLength h (plainly n v))
 
--- the numbers of the sentences of a history, in the voice and of the length asked for, along the chain
-abbrev pub allNumbersIn : (rules : List (List ℕ)) (h : List ℕ) (a : Question) → List ℕ
-allNumbersIn rules h a = concatMap (numbersIn rules (a .length)) (sentencesIn h (a .voice))
+-- the places of the sentences of a history, in the voice and of the length, along the chain
+abbrev pub allNumbersIn : (rules : List (List ℕ)) (P : List ℕ → Bool) (h : List ℕ) (n v : ℕ) → List ℕ
+allNumbersIn rules P h n v = concatMap (numbersIn rules P n) (sentencesIn h v)
 
 -- ---- one sentence
 
--- the tables for sentences of the plan's length
-pub record HeardSought (rules plan map counts : List (List ℕ)) (sets : List ℕ) (totals : List (List ℕ)) : Type 0 where
-  pub ready : Ready rules plan map totals (lengthIn plan)
-  pub everywhere : Everywhere counts
-  pub clean : Clean (lengthIn plan) sets totals
+-- the totals of a measure over the spans of a plan, in rows that no sentence's chart has; where they are the counts every sentence stands
+pub record Measures (rules plan measure totals : List (List ℕ)) (first n : ℕ) : Type 0 where
+  pub mapped : Mapped rules totals measure n (needed plan)
+  pub rows : (p m : ℕ) → Span n p m → rowAt measure p m < first
+  pub letters : (p : ℕ) → p < n → letterAt measure p ≤ any
+  pub plain : rowAt measure 0 1 < 17 → (s : List ℕ) → length s ≡ n → stands measure 0 s ≡ true
 
--- the numbers that the sentence s adds, or, by how many derivations it has, that these are two or more
-abbrev pub Adds : (rules : List (List ℕ)) (n : ℕ) (s : List ℕ) → Found → Type 0
-Adds rules n s None = (manyIn rules n s ≡ false) × (numbersIn rules n s ≡ [])
-Adds rules n s (Some derivations lowest) =
-    (2 ≤ derivations → manyIn rules n s ≡ true) × (derivations < 2 → (manyIn rules n s ≡ false) × (numbersIn rules n s ≡ lowest .0 ∷ []))
+-- the tables for sentences of the plan's length, their charts from the row `first` on
+pub record Serves (rules plan map measure : List (List ℕ)) (sets : List ℕ) (totals : List (List ℕ)) : Type 0 where
+  pub first : ℕ
+  pub ready : Ready rules plan map totals first (lengthIn plan)
+  pub clean : Clean first (lengthIn plan) sets totals
+  pub measures : Measures rules plan measure totals first (lengthIn plan)
 
-pub record HeardFoundAs (rules plan map : List (List ℕ)) (s sets : List ℕ) (totals : List (List ℕ)) (f : Found) : Type 0 where
-  pub adds : Adds rules (lengthIn plan) s f
-  pub ready : Ready rules plan map totals (lengthIn plan)
-  pub clean : Clean (lengthIn plan) sets totals
+-- what the sentence s adds: by how many derivations it has, and whether it stands
+abbrev pub Adds : (rules : List (List ℕ)) (P : List ℕ → Bool) (n : ℕ) (s : List ℕ) → Added → Type 0
+Adds rules P n s Nothing = (manyIn rules n s ≡ false) × (numbersIn rules P n s ≡ [])
+Adds rules P n s (Place d) = (manyIn rules n s ≡ false) × (numbersIn rules P n s ≡ d ∷ [])
+Adds rules P n s Many = manyIn rules n s ≡ true
+
+pub record HeardFoundAs (rules plan map measure : List (List ℕ)) (s sets : List ℕ) (totals : List (List ℕ)) (f : Added) : Type 0 where
+  pub adds : Adds rules (stands measure 0) (lengthIn plan) s f
+  pub serves : Serves rules plan map measure sets totals
 
 -- ---- all sentences
 
--- the tables for the length asked for, an accepted history, and room for its numbers
-pub record Collects (rules plan map : List (List ℕ)) (h : List ℕ) (a : Question) (totals : List (List ℕ)) (numbers : List ℕ) : Type 0 where
-  pub planned : lengthIn plan ≡ a .length
-  pub ready : Ready rules plan map totals (lengthIn plan)
-  pub zeros : (r A : ℕ) → chartRow ≤ r → entry totals r A ≡ 0
+-- the tables for the length n, an accepted history, and room for its places
+pub record Collects (rules plan map measure : List (List ℕ)) (h : List ℕ) (n : ℕ) (totals : List (List ℕ)) (numbers : List ℕ) : Type 0 where
+  pub planned : lengthIn plan ≡ n
+  pub first : ℕ
+  pub low : endOf first n ≤ 290
+  pub ready : Ready rules plan map totals first n
+  pub zeros : (r A : ℕ) → first ≤ r → entry totals r A ≡ 0
+  pub measures : Measures rules plan measure totals first n
   pub diary : Accepted h
   pub room : recordsOf h ≤ length numbers
 
--- the numbers along the chain, or that a sentence has two or more derivations
-abbrev pub CollectedIs : (rules : List (List ℕ)) (h : List ℕ) (a : Question) (numbers : List ℕ) → Collected → Type 0
-CollectedIs rules h a numbers (Numbers k) = (ambiguousIn rules h a ≡ false) × (k ≤ recordsOf h) × (take k numbers ≡ allNumbersIn rules h a)
-CollectedIs rules h a numbers Ambiguous = ambiguousIn rules h a ≡ true
+-- the places along the chain, or that a sentence has two or more derivations
+abbrev pub CollectedIs : (rules : List (List ℕ)) (P : List ℕ → Bool) (h : List ℕ) (n v : ℕ) (numbers : List ℕ) → Collected → Type 0
+CollectedIs rules P h n v numbers (Numbers k) = (ambiguousIn rules h n v ≡ false) × (k ≤ recordsOf h) × (take k numbers ≡ allNumbersIn rules P h n v)
+CollectedIs rules P h n v numbers Ambiguous = ambiguousIn rules h n v ≡ true
 
-pub record CollectedAs (rules : List (List ℕ)) (h : List ℕ) (a : Question) (numbers : List ℕ) (c : Collected) : Type 0 where
-  pub holds : CollectedIs rules h a numbers c
+-- the counts and the measure's totals are as they were
+pub record Still (rules plan measure totals : List (List ℕ)) (n : ℕ) : Type 0 where
+  pub counted : Counted rules totals n
+  pub mapped : Mapped rules totals measure n (needed plan)
+
+pub record CollectedAs (rules plan measure : List (List ℕ)) (h : List ℕ) (n v : ℕ) (totals : List (List ℕ)) (numbers : List ℕ) (c : Collected) : Type 0 where
+  pub holds : CollectedIs rules (stands measure 0) h n v numbers c
+  pub still : Still rules plan measure totals n

@@ -1,97 +1,151 @@
--- What *Left* and every *Draw* have at hand once the refusals 1 to 15 and 22 are passed: first the tables, by 1 to 9, 22 and 10, then the heard
--- numbers, by 11 to 15, which know the grammar through its tables alone.
+-- What *Left* and every *Draw* have at hand once the refusals 1 to 15, 21 and 22 are passed: first the tables, by 1 to 9, 22, 10 and 21, then the
+-- places of the heard derivations among those that fit, by 11 to 15, which know the grammar through its tables alone.
 -- Assumes nothing: these are definitions.
 use mathlib.Core.Path.{_≡_}
 use mathlib.Core.Logic.{_↔_}
-use mathlib.Core.Bool.{true, false}
-use mathlib.Core.List.{List, [], _∷_, _++_}
+use mathlib.Core.Bool.{Bool, true, false}
+use mathlib.Core.List.{List, [], _∷_, _++_, map}
 use Prim.Native.Nat.{ℕ, _≤_, _<_}
 use lib.ListN.{length, take}
 use Rattle.lists.specs.Joined.{_∈_}
 use Rattle.lists.specs.Ordered.{Pairwise}
+use Rattle.lists.specs.Inner.Tables.{Wide, Kept}
 use Rattle.answers.specs.Answer.{firstThatApplies}
 use Rattle.answers.specs.Inner.Refusals.{refusalNumber}
+use Rattle.grammar.specs.Trees.{sentence}
 use Rattle.counting.specs.Inner.Counted.{Counted}
 use Rattle.counting.specs.Inner.Preparing as tables
 use Rattle.counting.specs.Inner.Preparing.{preparedNumber, Tabled}
 use Rattle.counting.specs.declared.prepare.Prepared.{Prepared}
-use Rattle.counting.specs.declared.prepare.Prepared.the-variants.{Ready as Tables}
+use Rattle.counting.specs.declared.prepare.Prepared.the-variants.{Ready as Ready-tables}
+use Rattle.charts.specs.Inner.Letters.{stands}
+use Rattle.ranking.specs.Answers.{fullList}
+use Rattle.ranking.specs.Inner.Inside.{fullIn, Chooses}
 use Rattle.history.specs.Layout.{recordsOf}
 use Rattle.history.specs.Refusals.{historyRows, Accepted}
+use Rattle.sampling.specs.Pattern.{matches}
 use Rattle.sampling.specs.Question.{Question}
-use Rattle.sampling.specs.Inner.Collect.{barred, ambiguousIn, allNumbersIn}
+use Rattle.sampling.specs.Inner.Collect.{barred, ambiguousIn, allNumbersIn, Still}
+use Rattle.sampling.specs.Inner.Patterns.{Patterned, Choice}
 use Rattle.sampling.specs.Unheard.{ambiguous}
 use Rattle.sampling.specs.Answers.{askedRows, remainingRows}
 use Rattle.sampling.specs.declared.prepare.Sampled.{Sampled}
 use Rattle.sampling.specs.declared.prepare.Sampled.the-variants.{Ready, Refused}
 
--- ---- 1 to 9, 22 and 10
+-- ---- 1 to 9, 22, 10 and 21
 
--- what the grammar and the question are answered: the refusal, or the tables
-pub record AskedAs (g : List ℕ) (a : Question) (rules totals : List (List ℕ)) (r : Prepared) : Type 0 where
+-- what the grammar and the question are answered: the refusal, or the tables; the rows that are not theirs stay
+pub record AskedAs (g : List ℕ) (a : Question) (rules₀ rules totals₀ totals : List (List ℕ)) (r : Prepared) : Type 0 where
   pub refusal : preparedNumber r ≡ firstThatApplies (askedRows g a)
-  pub ready : r ≡ Tables → Tabled g (a .length) rules totals
+  pub ready : r ≡ Ready-tables → Tabled g (a .length) rules totals
+  pub rules-kept : Kept 4 256 rules₀ rules
+  pub totals-kept : Kept 17 32 totals₀ totals
 
 -- ---- 11 to 15, by the tables
 
--- room for a number of each record
+-- room for a place of each record
 abbrev pub Room : (h numbers : List ℕ) → Type 0
 Room h numbers = Accepted h → recordsOf h ≤ length numbers
 
--- the counts of the length asked for, and room for the numbers of a history
-pub record RecordsSought (rules totals : List (List ℕ)) (h : List ℕ) (a : Question) (numbers : List ℕ) : Type 0 where
-  pub counted : Counted rules totals (a .length)
-  pub room : Room h numbers
+-- the places of a history's sentences that pass a test, rising, each once
+pub record Heard (rules : List (List ℕ)) (P : List ℕ → Bool) (h : List ℕ) (n v : ℕ) (heard : List ℕ) : Type 0 where
+  pub clear : ambiguousIn rules h n v ≡ false
+  pub rising : Pairwise _<_ heard
+  pub just : (d : ℕ) → (d ∈ heard) ↔ (d ∈ allNumbersIn rules P h n v)
 
--- and an accepted history
-pub record NumbersSought (rules totals : List (List ℕ)) (h : List ℕ) (a : Question) (numbers : List ℕ) : Type 0 where
-  pub counted : Counted rules totals (a .length)
+-- these; or that line 15 applies
+abbrev pub Hold : (rules : List (List ℕ)) (P : List ℕ → Bool) (h : List ℕ) (n v : ℕ) (numbers : List ℕ) → Sampled → Type 0
+Hold rules P h n v numbers (Ready k) = (k ≤ recordsOf h) × Heard rules P h n v (take k numbers)
+Hold rules P h n v numbers (Refused r) = (ambiguousIn rules h n v ≡ true) × (refusalNumber r ≡ 15)
+
+-- by a measure; the counts and the measure's totals are as they were
+pub record NumbersBy (rules plan measure : List (List ℕ)) (h : List ℕ) (n v : ℕ) (totals : List (List ℕ)) (numbers : List ℕ) (s : Sampled) : Type 0 where
+  pub hold : Hold rules (stands measure 0) h n v numbers s
+  pub still : Still rules plan measure totals n
+
+-- the counts of the length, an accepted history, and room for its places
+pub record NumbersSought (rules totals : List (List ℕ)) (h : List ℕ) (n : ℕ) (numbers : List ℕ) : Type 0 where
+  pub counted : Counted rules totals n
   pub diary : Accepted h
   pub room : recordsOf h ≤ length numbers
 
--- the numbers of a history's sentences, rising, each once
-pub record Heard (rules : List (List ℕ)) (h : List ℕ) (a : Question) (heard : List ℕ) : Type 0 where
-  pub clear : ambiguousIn rules h a ≡ false
-  pub rising : Pairwise _<_ heard
-  pub just : (d : ℕ) → (d ∈ heard) ↔ (d ∈ allNumbersIn rules h a)
-
--- these; or that line 15 applies
-abbrev pub Hold : (rules : List (List ℕ)) (h : List ℕ) (a : Question) (numbers : List ℕ) → Sampled → Type 0
-Hold rules h a numbers (Ready k) = (k ≤ recordsOf h) × Heard rules h a (take k numbers)
-Hold rules h a numbers (Refused r) = (ambiguousIn rules h a ≡ true) × (refusalNumber r ≡ 15)
-
+-- by the question's pattern
 pub record NumbersAs (rules : List (List ℕ)) (h : List ℕ) (a : Question) (numbers : List ℕ) (s : Sampled) : Type 0 where
-  pub hold : Hold rules h a numbers s
+  pub hold : Hold rules (matches (a .pattern)) h (a .length) (a .voice) numbers s
 
--- these of an accepted history; or the first of 11 to 15 that applies
-abbrev pub Recorded : (rules : List (List ℕ)) (h : List ℕ) (a : Question) (numbers : List ℕ) → Sampled → Type 0
-Recorded rules h a numbers (Ready k) = Accepted h × (k ≤ recordsOf h) × Heard rules h a (take k numbers)
-Recorded rules h a numbers (Refused r) = refusalNumber r ≡ firstThatApplies (historyRows h ++ ((ambiguousIn rules h a, 15) ∷ []))
+-- with a pattern, and a history of so many records
+pub record FittingSought (rules totals : List (List ℕ)) (h : List ℕ) (a : Question) (records : ℕ) (choice : List (List ℕ)) (numbers : List ℕ) : Type 0 where
+  pub sought : NumbersSought rules totals h (a .length) numbers
+  pub patterned : Patterned a rules totals
+  pub records-are : records ≡ recordsOf h
+  pub choice-long : length choice ≡ 17
+  pub choice-wide : Wide choice 16
 
-pub record RecordedAs (rules : List (List ℕ)) (h : List ℕ) (a : Question) (numbers : List ℕ) (s : Sampled) : Type 0 where
-  pub recorded : Recorded rules h a numbers s
+pub record FittedAs (rules₀ : List (List ℕ)) (h : List ℕ) (a : Question) (rules totals choice : List (List ℕ)) (numbers : List ℕ) (s : Sampled) : Type 0 where
+  pub hold : Hold rules₀ (matches (a .pattern)) h (a .length) (a .voice) numbers s
+  pub chosen : Choice rules₀ a rules totals choice
+
+-- the counts of the length asked for
+pub record RecordsSought (rules totals : List (List ℕ)) (h : List ℕ) (n : ℕ) (numbers : List ℕ) : Type 0 where
+  pub counted : Counted rules totals n
+  pub room : Room h numbers
+
+-- and with a pattern room for its chart and its map
+pub record MatchingSought (rules totals : List (List ℕ)) (h : List ℕ) (a : Question) (choice : List (List ℕ)) (numbers : List ℕ) : Type 0 where
+  pub records : RecordsSought rules totals h (a .length) numbers
+  pub patterned : Patterned a rules totals
+  pub choice-long : length choice ≡ 17
+  pub choice-wide : Wide choice 16
+
+-- the places, of an accepted history, and the totals of what fits; or the first of 11 to 15 that applies
+abbrev pub Recorded : (rules₀ : List (List ℕ)) (h : List ℕ) (a : Question) (rules totals choice : List (List ℕ)) (numbers : List ℕ) → Sampled → Type 0
+Recorded rules₀ h a rules totals choice numbers (Ready k) =
+    Accepted h × (k ≤ recordsOf h) × Heard rules₀ (matches (a .pattern)) h (a .length) (a .voice) (take k numbers) × Choice rules₀ a rules totals choice
+Recorded rules₀ h a rules totals choice numbers (Refused r) =
+    refusalNumber r ≡ firstThatApplies (historyRows h ++ ((ambiguousIn rules₀ h (a .length) (a .voice), 15) ∷ []))
+
+pub record RecordedAs (rules₀ : List (List ℕ)) (h : List ℕ) (a : Question) (rules totals choice : List (List ℕ)) (numbers : List ℕ) (s : Sampled) : Type 0 where
+  pub recorded : Recorded rules₀ h a rules totals choice numbers s
 
 -- ---- all, for the grammar
 
--- what is lent for the tables and the numbers
+-- what a call lends for the tables and the places
 pub record Lent (h : List ℕ) (rules totals : List (List ℕ)) (numbers : List ℕ) : Type 0 where
   pub tables : tables.Lent rules totals
   pub room : Room h numbers
 
--- the tables and the k heard numbers are there
-pub record Drawable (g h : List ℕ) (a : Question) (rules totals : List (List ℕ)) (numbers : List ℕ) (k : ℕ) : Type 0 where
-  pub tabled : Tabled g (a .length) rules totals
+-- with a pattern for the tables
+pub record Tables (a : Question) (rules totals : List (List ℕ)) : Type 0 where
+  pub tables : tables.Lent rules totals
+  pub patterned : Patterned a rules totals
+
+-- and for the places
+pub record Called (h : List ℕ) (a : Question) (rules totals : List (List ℕ)) (numbers : List ℕ) : Type 0 where
+  pub lent : Tables a rules totals
+  pub room : Room h numbers
+
+-- and for the map
+pub record LentMatching (h : List ℕ) (a : Question) (rules totals choice : List (List ℕ)) (numbers : List ℕ) : Type 0 where
+  pub called : Called h a rules totals numbers
+  pub choice-long : length choice ≡ 17
+  pub choice-wide : Wide choice 16
+
+-- the tables and the k places of heard derivations are there
+pub record Drawable (g h : List ℕ) (a : Question) (rules totals choice : List (List ℕ)) (numbers : List ℕ) (k : ℕ) : Type 0 where
   pub passed : firstThatApplies (remainingRows g h a) ≡ 0
   pub diary : Accepted h
   pub clear : ambiguous g h a ≡ false
   pub few : k ≤ recordsOf h
   pub heard : take k numbers ≡ barred g h a
+  pub full : fullIn rules (a .length) ≡ map sentence (fullList g (a .length))
+  pub chooses : Chooses rules totals choice (a .length)
+  pub stand : (s : List ℕ) → length s ≡ a .length → stands choice 0 s ≡ matches (a .pattern) s
 
 -- what preparing answers: the refusal, or these
-abbrev pub SampledIs : (g h : List ℕ) (a : Question) (rules totals : List (List ℕ)) (numbers : List ℕ) → Sampled → Type 0
-SampledIs g h a rules totals numbers (Ready k) = Drawable g h a rules totals numbers k
-SampledIs g h a rules totals numbers (Refused r) = refusalNumber r ≡ firstThatApplies (remainingRows g h a)
+abbrev pub SampledIs : (g h : List ℕ) (a : Question) (rules totals choice : List (List ℕ)) (numbers : List ℕ) → Sampled → Type 0
+SampledIs g h a rules totals choice numbers (Ready k) = Drawable g h a rules totals choice numbers k
+SampledIs g h a rules totals choice numbers (Refused r) = refusalNumber r ≡ firstThatApplies (remainingRows g h a)
 
-pub record SampledAs (g h : List ℕ) (a : Question) (rules totals : List (List ℕ)) (numbers : List ℕ) (s : Sampled) : Type 0 where
-  pub prepared : SampledIs g h a rules totals numbers s
+pub record SampledAs (g h : List ℕ) (a : Question) (rules totals choice : List (List ℕ)) (numbers : List ℕ) (s : Sampled) : Type 0 where
+  pub prepared : SampledIs g h a rules totals choice numbers s
   pub room : Room h numbers

@@ -29,16 +29,19 @@ within : (c : tie.In-loop Inv-loop μ-loop) → c .before .loop .m ≤ lengthIn 
 within c = omega (arith, c .loop-test .taken, sized (c .before) .length .ensures)
 
 loop-holds : tie.Need-loop-holds Inv-loop μ-loop
-loop-holds c = fill-start (c .before .before .pre)
+loop-holds c = fill-start
 
 fill-length-requires : tie.Need-fill-length-requires Inv-loop μ-loop
-fill-length-requires c κs = let t = c .before .before in (_, fill-asks (t .before .loop .inv) (within t))
+fill-length-requires c κs =
+    let t = c .before .before in
+    let p = start (t .before) .pre in
+    (p .0, _, fill-asks (t .before .loop .inv) (p .0) (p .1) (within t))
 
 loop-again : tie.Need-loop-again Inv-loop μ-loop
 loop-again c =
     let t = turn c in
     let w = t .before .loop .inv in
-    fill-step w (within t) (c .before .before .before .fill-length .ensures _ (fill-asks w (within t)))
+    fill-step w (within t) (λ first q. c .before .before .before .fill-length .ensures first _ q)
 
 returns : tie.Need-returns Inv-loop μ-loop
 returns c = let l = c .before in fill-end (l .loop .inv) (omega (arith, c .loop-test .left, sized l .length .ensures))
@@ -52,9 +55,9 @@ fill-spec =
     (λ c κs. search needs)
     loop-holds
     fill-length-requires
-    (λ c. let t = turn c in omega (arith, within t, start (t .before) .pre .blank .counted .short))
+    (λ c. let t = turn c in omega (arith, within t, start (t .before) .pre .1 .blank .counted .short))
     (λ c. omega (arith, turn c .loop-test .taken))
     loop-again
-    (λ c. c .before .loop .inv .done .sets-long)
-    (λ c. c .before .loop .inv .done .long)
+    (λ c. let p = start (c .before) .pre in c .before .loop .inv .done (p .0) (p .1) .sets-long)
+    (λ c. let p = start (c .before) .pre in c .before .loop .inv .done (p .0) (p .1) .long)
     returns)

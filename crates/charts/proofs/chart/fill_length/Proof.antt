@@ -19,7 +19,7 @@ abbrev start : tie.At-loop Inv-loop μ-loop → tie.Start Inv-loop μ-loop
 start c = c .before .before .before
 
 low : (c : tie.Start Inv-loop μ-loop) → c .args .m ≤ 16
-low c = let q = c .pre .1 in omega (arith, q .short, q .filled .fills .blank .counted .short)
+low c = let q = c .pre .2 in omega (arith, q .short, q .filled .fills .blank .counted .short)
 
 loop-holds : tie.Need-loop-holds Inv-loop μ-loop
 loop-holds c = length-start
@@ -28,7 +28,7 @@ fill-span-requires : tie.Need-fill-span-requires Inv-loop μ-loop
 fill-span-requires c κs =
     let f = c .before .before in
     let l = f .before .before in
-    length-asks (l .loop .inv) (f .lowest .result) (f .lowest .ensures) (start l .pre .0) (start l .pre .1)
+    length-asks (l .loop .inv) (f .lowest .result) (f .lowest .ensures) (start l .pre .0) (start l .pre .1) (start l .pre .2)
 
 loop-less : tie.Need-loop-less Inv-loop μ-loop
 loop-less c =
@@ -60,6 +60,6 @@ fill-length-spec =
     (λ c κs. omega (arith, c .before .before .before .before .before .before .before .loop-test .taken))
     loop-less
     loop-again
-    (λ c. let s = start (c .before) in c .before .loop .inv .done (s .pre .0) (s .pre .1) .sets-long)
-    (λ c. let s = start (c .before) in c .before .loop .inv .done (s .pre .0) (s .pre .1) .long)
+    (λ c. let s = start (c .before) in c .before .loop .inv .done (s .pre .0) (s .pre .1) (s .pre .2) .sets-long)
+    (λ c. let s = start (c .before) in c .before .loop .inv .done (s .pre .0) (s .pre .1) (s .pre .2) .long)
     returns)

@@ -3,6 +3,7 @@
 use borrow.Author.Needs.{needs}
 use denote.Ref.{now}
 use Rattle.charts.specs.Inner.Chart.{Blank}
+use Rattle.charts.specs.Inner.Plan.{chartRow}
 use Rattle.charts.proofs.Mapping.{linked-blank}
 use Rattle.charts.proofs.ready.ready.Statement.{statement}
 use Rattle.charts.proofs.ready.ready.Tie as tie
@@ -11,7 +12,7 @@ abbrev start : tie.After-link → tie.Start
 start c = c .before .before
 
 -- the counts of the linked table
-blank : (c : tie.After-link) → let a = start c .args in Blank (c .link .last .0) (now (a .totals)) (a .n)
+blank : (c : tie.After-link) → let a = start c .args in Blank (c .link .last .0) (now (a .totals)) chartRow (a .n)
 blank c = linked-blank (c .link .ensures) (start c .pre .blank)
 
 build-requires : tie.Need-build-requires

@@ -4,7 +4,8 @@ use mathlib.Core.Path.{_∙_}
 use native.Mathlib.Omega.{arith}
 use borrow.Author.Needs.{needs}
 use denote.Ref.{now}
-use Rattle.sampling.specs.Question.{asked}
+use Rattle.charts.specs.Inner.Maps.{countsMap}
+use Rattle.sampling.specs.Question.{plainly}
 use Rattle.sampling.specs.Inner.Preparing.{Drawable}
 use Rattle.sampling.proofs.Answering.{draw-refused, draw-skipping, draw-sought, lent-made, prepared-case}
 use Rattle.answers.proofs.Numbers.{number-some}
@@ -20,7 +21,7 @@ called c = c .before .before .before .before .before .before
 drawable : (c : tie.After-p2)
     → let s = start (called c) .args in
     let last = called c .prepare .last in
-    Drawable (now (s .g)) (now (s .h)) (asked (s .question)) (last .1 .1 .1 .0) (last .1 .1 .1 .1 .0) (last .1 .1 .1 .1 .1 .0) (c .p2 .given .0 .0)
+    Drawable (now (s .g)) (now (s .h)) (plainly (s .question .length) (s .question .voice)) (last .1 .1 .1 .0) (last .1 .1 .1 .1 .0) countsMap (last .1 .1 .1 .1 .1 .0) (c .p2 .given .0 .0)
 drawable c = prepared-case (called c .prepare .ensures) (c .p2 .given .1)
 
 prepare-requires : tie.Need-prepare-requires

@@ -1,52 +1,12 @@
--- `draw_prepared` meets its contract: past its two tests the derivation that the skip finds is written.
+-- `draw_prepared` meets its contract: the counts choose and measure.
 -- Assumes nothing.
-use native.Mathlib.Omega.{arith}
 use borrow.Author.Needs.{needs}
-use Rattle.sampling.proofs.Answering.{struck-few, skips, skip-sought, skipping-beyond, skipping-short, skipping-written}
+use Rattle.charts.proofs.Mapping.{counts-map}
 use Rattle.sampling.proofs.draw.draw_prepared.Statement.{statement}
 use Rattle.sampling.proofs.draw.draw_prepared.Tie as tie
 
-abbrev start : tie.After-total → tie.Start
-start c = c .before .before .before
-
-sub-left : tie.Need-sub-left
-sub-left c = omega (arith, c .total .ensures, struck-few (start c .pre))
-
-returns : tie.Need-returns
-returns c = let t = c .before .before in skipping-beyond _ _ _ _ _ (omega (arith, t .total .ensures, c .if1 .taken))
-
-returns-2 : tie.Need-returns-2
-returns-2 c =
-    let t = c .before .before .before in
-    skipping-short _ _ _ _ _ (omega (arith, t .total .ensures, c .before .if1 .left)) (c .if2 .taken)
-
-skip-requires : tie.Need-skip-requires
-skip-requires c κs = let t = c .before .before .before in skips (start t .pre) (omega (arith, t .total .ensures, c .before .if1 .left))
-
-write-requires : tie.Need-write-requires
-write-requires c κs =
-    let k = c .before in
-    let e = k .before in
-    let t = e .before .before .before in
-    skip-sought (start t .pre) _ _ _ (omega (arith, t .total .ensures, e .before .if1 .left)) (k .skip .ensures) (e .if2 .left)
-
-returns-3 : tie.Need-returns-3
-returns-3 c =
-    let w = c .before .before in
-    let k = w .before .before in
-    let e = k .before in
-    let t = e .before .before .before in
-    skipping-written _ _ _ _ _ _ _ _ (omega (arith, t .total .ensures, e .before .if1 .left)) (e .if2 .left) (omega (arith, t .total .ensures)) (k .skip .ensures) (w .write .ensures)
+draw-from-requires : tie.Need-draw-from-requires
+draw-from-requires c κs = (c .before .before .before .before .before .pre, counts-map)
 
 pub draw-prepared-spec : {M : Type 1} → statement M
-draw-prepared-spec =
-    tie.close
-    (tie.spec
-    (λ c κs. search needs)
-    sub-left
-    returns
-    returns-2
-    skip-requires
-    write-requires
-    (λ c. search needs)
-    returns-3)
+draw-prepared-spec = tie.close (tie.spec draw-from-requires (λ c. search needs) (λ c. search needs))

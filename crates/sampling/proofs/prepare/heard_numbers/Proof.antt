@@ -1,4 +1,4 @@
--- `hear` meets its contract: either table has room for the charts.
+-- `heard_numbers` meets its contract: either table has room for the charts.
 -- Assumes nothing.
 use borrow.Author.Needs.{needs}
 use Rattle.ranking.proofs.Finding.{roomy-short, roomy-long}

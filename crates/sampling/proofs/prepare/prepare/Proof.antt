@@ -8,13 +8,13 @@ use Rattle.sampling.proofs.prepare.prepare.Statement.{statement}
 use Rattle.sampling.proofs.prepare.prepare.Tie as tie
 
 abbrev start : tie.After-ask → tie.Start
-start c = c .before .before .before .before .before .before
+start c = c .before .before .before .before .before .before .before
 
 abbrev prepared : tie.After-enum-told → tie.After-ask
 prepared c = c .before .before .before .before
 
 ask-requires : tie.Need-ask-requires
-ask-requires c κs = c .before .before .before .before .before .pre .tables
+ask-requires c κs = c .before .before .before .before .before .before .pre .tables
 
 records-requires : tie.Need-records-requires
 records-requires c κs =
@@ -41,6 +41,9 @@ pub prepare-spec : {M : Type 1} → statement M
 prepare-spec =
     tie.close
     (tie.spec
+    (λ c. search needs)
+    (λ c. search needs)
+    (λ c. search needs)
     ask-requires
     (λ c. search needs)
     (λ c. search needs)

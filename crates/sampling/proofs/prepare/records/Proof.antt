@@ -6,7 +6,7 @@ use denote.Ref.{now}
 use Rattle.history.specs.Layout.{recordsOf}
 use Rattle.history.specs.Refusals.{Accepted}
 use Rattle.history.proofs.Outcome.{check-accepted, check-refused}
-use Rattle.sampling.proofs.Answering.{none-heard, unaccepted, heard-recorded}
+use Rattle.sampling.proofs.Answering.{unaccepted, plain-recorded, plain-none}
 use Rattle.sampling.proofs.prepare.records.Statement.{statement}
 use Rattle.sampling.proofs.prepare.records.Tie as tie
 
@@ -18,7 +18,10 @@ diary : (c : tie.After-a2) → let h = now (start (c .before .before) .args .h) 
 diary c = check-accepted _ (c .before .before .check .ensures) (c .a2 .given .1)
 
 returns : tie.Need-returns
-returns c = let a = c .before .before in let d = diary a in record { recorded = none-heard _ _ _ (now (start (a .before .before) .args .numbers)) (d .0) (sym (d .1) ∙ c .if1 .taken) }
+returns c =
+    let a = c .before .before in
+    let d = diary a in
+    plain-none (start (a .before .before) .pre) _ (d .0) (sym (d .1) ∙ c .if1 .taken)
 
 heard-numbers-requires : tie.Need-heard-numbers-requires
 heard-numbers-requires c κs =
@@ -29,13 +32,13 @@ heard-numbers-requires c κs =
 returns-2 : tie.Need-returns-2
 returns-2 c =
     let a = c .before in
-    unaccepted _ _ _ _ _ (check-refused _ (a .before .before .check .ensures) (a .a .given .1))
+    unaccepted _ _ _ _ (check-refused _ (a .before .before .check .ensures) (a .a .given .1))
 
 returns-3 : tie.Need-returns-3
 returns-3 c =
     let k = c .before .before in
     let a = k .before .before .before .before in
-    heard-recorded _ _ _ _ (diary a .0) (k .heard-numbers .ensures)
+    plain-recorded (start (a .before .before) .pre) _ (diary a .0) (k .heard-numbers .ensures)
 
 pub records-spec : {M : Type 1} → statement M
 records-spec =

@@ -1,8 +1,15 @@
 -- `remaining_in` meets its contract: where preparing is refused so is the call; else the figures are T, how many are heard, and the difference.
 -- Assumes nothing.
+use mathlib.Core.Path.{_≡_, sym, _∙_}
+use Prim.Native.Nat.{ℕ}
 use borrow.Author.Needs.{needs}
+use lib.ListN.{length}
 use denote.Ref.{now}
-use Rattle.sampling.specs.Question.{asked}
+use Rattle.charts.specs.Inner.Maps.{countsMap}
+use Rattle.charts.proofs.Mapping.{counts-map}
+use Rattle.ranking.specs.Inner.Inside.{totalIn, standing}
+use Rattle.ranking.proofs.Finding.{counts-total}
+use Rattle.sampling.specs.Question.{plainly}
 use Rattle.sampling.specs.Inner.Preparing.{Drawable}
 use Rattle.sampling.proofs.Answering.{heard-few, left-counted, left-refused, lent-made, prepared-case}
 use Rattle.answers.proofs.Numbers.{number-some}
@@ -18,19 +25,26 @@ called c = c .before .before .before .before .before .before
 drawable : (c : tie.After-p2)
     → let s = start (called c) .args in
     let last = called c .prepare .last in
-    Drawable (now (s .g)) (now (s .h)) (asked (s .question)) (last .1 .1 .1 .0) (last .1 .1 .1 .1 .0) (last .1 .1 .1 .1 .1 .0) (c .p2 .given .0 .0)
+    Drawable (now (s .g)) (now (s .h)) (plainly (s .question .length) (s .question .voice)) (last .1 .1 .1 .0) (last .1 .1 .1 .1 .0) countsMap (last .1 .1 .1 .1 .1 .0) (c .p2 .given .0 .0)
 drawable c = prepared-case (called c .prepare .ensures) (c .p2 .given .1)
+
+-- without a pattern all derivations stand
+standing-all : (c : tie.After-p2) {t : ℕ}
+    → let n = start (called c) .args .question .length in
+    let rules = called c .prepare .last .1 .1 .1 .0 in
+    t ≡ totalIn rules n → t ≡ length (standing rules countsMap n)
+standing-all c e = e ∙ sym (counts-total _ counts-map _ (drawable c .chooses .counted .short))
 
 prepare-requires : tie.Need-prepare-requires
 prepare-requires c κs = lent-made _ _ (c .before .before .before .before .before .before .pre)
 
-total-requires : tie.Need-total-requires
-total-requires c κs = drawable (c .before .before .before) .tabled .counted
+count-requires : tie.Need-count-requires
+count-requires c κs = drawable (c .before .before .before) .chooses .counted
 
-sub-left : tie.Need-sub-left
-sub-left c =
+figures-requires : tie.Need-figures-requires
+figures-requires c κs =
     let p = c .before .before .before .before in
-    heard-few _ _ _ (drawable p) (called p .prepare .ensures .room) _ (c .total .ensures)
+    heard-few (drawable p) (called p .prepare .ensures .room) _ (standing-all p (c .count .ensures))
 
 returns : tie.Need-returns
 returns c =
@@ -39,8 +53,9 @@ returns c =
 
 returns-2 : tie.Need-returns-2
 returns-2 c =
-    let p = c .before .before .before .before in
-    left-counted _ _ _ (drawable p) (called p .prepare .ensures .room) _ (c .total .ensures)
+    let t = c .before in
+    let p = t .before .before .before .before in
+    c .figures .ensures ∙ left-counted _ _ _ (drawable p) (called p .prepare .ensures .room) _ (standing-all p (t .count .ensures))
 
 pub remaining-in-spec : {M : Type 1} → statement M
 remaining-in-spec =
@@ -53,8 +68,8 @@ remaining-in-spec =
     (λ c. search needs)
     (λ c. search needs)
     (λ c. search needs)
-    total-requires
-    sub-left
+    count-requires
+    figures-requires
     (λ c. search needs)
     returns
     (λ c. search needs)
