@@ -258,6 +258,10 @@ uint8_t pumpfennel_draw_matching(const uint8_t *grammar, size_t grammar_len, con
  * PUMPFENNEL_HISTORY_SIZE bytes for the records and this one, and gives how many records there are now. Any bytes are
  * words here. `played` is how many of the words were played: 0 means all, and the sentence is heard then; where playback
  * was broken off it is fewer than the sentence has, and the sentence may be drawn again. Refusals 9, 22, 23, 11 to 14, 19.
+ *
+ * After the log of what draw q gave, in the same voice and played in full, where the sentence has one derivation:
+ * `remaining` is one less, the draws below q give what they gave, and each from q on gives what the next one gave, or is
+ * refused as that one was. Of the refusals only 19 can come for such a log.
  */
 uint8_t pumpfennel_append(uint8_t *history, size_t history_len, const uint8_t *sentence, size_t sentence_len,
                           uint64_t voice, uint64_t played, uint64_t *records);

@@ -1,5 +1,5 @@
 /*
- * Makes the calls that standard input names, a line each, and prints their answers.
+ * Makes the calls that standard input names, a line each, and prints each answer before it reads on.
  *
  *   check_grammar GRAMMAR             check_history HISTORY
  *   count GRAMMAR LENGTH              unrank GRAMMAR LENGTH NUMBER BUFFER
@@ -129,6 +129,7 @@ int main(void) {
         if (buffer != NULL) printf(" x");
         for (size_t i = 0; buffer != NULL && i < buffer->size; i++) printf("%02x", buffer->at[i]);
         printf("\n");
+        fflush(stdout);
     }
     for (int i = 0; i < CALLS; i++) printf(i == 0 ? "%zu" : " %zu", most[i]);
     printf("\n");

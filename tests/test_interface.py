@@ -1,9 +1,11 @@
-"""Tests of what C sees: the header, every call of the archive against the brute-force program, and the two example programs.
+"""Tests of what C sees: the header, every call of the archive against the brute-force program, also one after another on what the
+library wrote, and the two example programs.
 
 They need target/staticlib/libpumpfennel.a, which rt staticlib pumpfennel writes, and compilers for C and C++: cc and c++,
 or what CC and CXX name.
 """
 import collections
+import functools
 import os
 import pathlib
 import re
@@ -11,11 +13,13 @@ import shlex
 import subprocess
 import tempfile
 import unittest
+import unittest.mock
 
 import listings
 import oracle
 import vectors
 from generate import Rng, ambiguous, brimful, damaged, grammar, history, pair, random_damage, reaching, word
+from one_more_log import Asked, check_alone, check_unmoved, large_questions, play, questions
 from oracle import F, G
 
 ROOT = pathlib.Path(__file__).resolve().parent.parent
@@ -151,6 +155,10 @@ class Header(unittest.TestCase):
 
 def word_of(value):
     return 'x' + value.hex() if isinstance(value, bytes) else str(value)
+
+
+def value_of(word):
+    return bytes.fromhex(word[1:]) if word.startswith('x') else int(word)
 
 
 def call_line(call, *args):
@@ -454,6 +462,108 @@ class Calls(unittest.TestCase):
         for most, taken in [(limit('MATCHING_STACK'), matching), (limit('LARGE_STACK'), large), (limit('SMALL_STACK'), used)]:
             self.assertLess(max(taken.values()), most, taken)
             self.assertGreater(max(taken.values()), most // 2, taken)
+
+
+# ---- One log after another
+
+@functools.lru_cache
+def counted(bank, length):
+    """The full list by counts: written down anew for each of many diaries, a long one would fill the memory."""
+    return oracle.Counted(oracle.read(bank), length)
+
+
+class OneMoreLog(unittest.TestCase):
+    """Document 02, U14: what is drawn is logged in the bytes that the library wrote, and drawn from again. Each log moves the library's
+    own answers as the request says, and each answer is the brute-force program's."""
+
+    @classmethod
+    def setUpClass(cls):
+        cls.program = linked(cls, ROOT / 'tests' / 'calls.c', 'c11', '-pthread')
+
+    def setUp(self):
+        self.running = subprocess.Popen([self.program], stdin=subprocess.PIPE, stdout=subprocess.PIPE, text=True)
+        self.refusals = collections.Counter()
+
+    def tearDown(self):
+        self.running.communicate()
+        self.assertEqual(self.running.returncode, 0)
+
+    def call(self, *case):
+        print(call_line(*case), file=self.running.stdin, flush=True)
+        expected = answer_line(*case)
+        line = self.running.stdout.readline().rstrip('\n')
+        self.assertEqual(line, expected, case)
+        refusal, *figures = map(value_of, line.split())
+        self.refusals[refusal] += 1
+        return refusal, *figures
+
+    def asked(self, *question):
+        return Asked(self.call, *question)
+
+    def test_small_banks(self):
+        """Draw 0 again and again, or random draws, until nothing is left or there is no room."""
+        rng, rounds, ends = Rng(45), collections.Counter(), collections.Counter()
+        for asked in (self.asked(*question) for question in questions(rng, 60)):
+            mixed = rng.below(2) == 1
+            logged, end, _ = play(self, asked, rng=rng if mixed else None)
+            self.assertEqual(end, 16 if len(logged) == len([*asked.all_once()]) else 19)
+            rounds[asked.suffix, asked.voice, mixed] += len(logged)
+            ends[end] += 1
+        self.assertEqual(len(rounds), 8)
+        self.assertGreater(min(rounds.values()), 30, rounds)
+        self.assertGreater(min(ends[16], ends[19]), 50, ends)
+        self.assertGreater(min(self.refusals[refusal] for refusal in (16, 19, 20)), 50, self.refusals)
+
+    def test_sentences_with_two_derivations_are_passed_over(self):
+        """At the end only such are left; once one of them is logged, Left is refused."""
+        for name, length, once, several in [('by the chain', 2, 1, 2), ('beside nothing', 2, 3, 2), ('from the second rule on', 2, 6, 2),
+                                            ('both halves', 4, 9, 27), ('every tree', 3, 0, 16)]:
+            asked = self.asked(history([], slack=bytes(20 * (once + 1))), ambiguous()[name][0], length, 3)
+            logged, end, last = play(self, asked, rng=Rng(49))
+            self.assertEqual((len(logged), end, last.left()), (once, 16, (0, once + several, once, several)))
+            refusal, after = last.log(several - 1)
+            self.assertEqual((refusal, after.left()), (0, (15, 0, 0, 0)))
+
+    def test_several_voices_in_one_diary(self):
+        """Each has its own list, first that of a pattern and then the rest; the other voices' logs moved nothing. Then the diary is full."""
+        nothing, diary, pattern = history([]), history([], slack=bytes(24 * 20)), bytes([BLANK, 1, BLANK])
+        for voice in (0, 5, 15):
+            asked = self.asked(diary, F, 3, voice)
+            check_unmoved(self, self.asked(nothing, F, 3, voice), asked)
+            fitting, end, last = play(self, self.asked(diary, F, pattern, voice))
+            others, other_end, last = play(self, self.asked(last.diary, F, 3, voice))
+            self.assertEqual((end, other_end, [number for number, _ in fitting + others]), (16, 16, [2, 3, 6, 7, 0, 1, 4, 5]))
+            diary = last.diary
+        self.assertEqual(play(self, self.asked(diary, F, 3, 1))[:2], ([], 19))
+
+    def test_house_bank(self):
+        """From a diary of twenty records: sixty random draws in voice 0, then a carrier phrase in voice 9 until there is no room."""
+        rng, bank, carrier = Rng(46), oracle.matrix(), bytes([3, BLANK, 24, 31, BLANK])
+        said = [bytes([3, 10 + rng.below(10), 24 + rng.below(2), 31, 40 + rng.below(10)]) for _ in range(20)]
+        voices, played = [rng.choice([0, 9]) for _ in said], [rng.choice([0, 0, 4]) for _ in said]
+        first = self.asked(history(said, rng.shuffled(range(1, 21)), b'\7' * 2019, voices, played), bank, 5, 0)
+        with unittest.mock.patch.object(oracle, 'full_list', counted):
+            logged, end, last = play(self, first, 60, rng)
+            self.assertEqual((len(logged), end), (60, 0))
+            asked = self.asked(last.diary, bank, carrier, 9)
+            check_unmoved(self, self.asked(first.diary, bank, carrier, 9), asked)
+            logged, end, last = play(self, asked)
+            self.assertEqual((len(logged), end), (40, 19))
+        self.assertEqual(oracle.check_history(last.diary), (0, 120))
+
+    def test_a_thousand_records(self):
+        """All of 1,024 sentences but 25 are heard; there is room for more records, but only one more is logged."""
+        rng = Rng(47)
+        heard = [oracle.unrank(F, 10, number, bytes(10))[2] for number in rng.shuffled(range(1024))[:999]]
+        logged, end, last = play(self, self.asked(history(heard, slack=bytes(60)), F, 10, 0), rng=rng)
+        self.assertEqual((len(logged), end, last.left()), (1, 19, (0, 1024, 1000, 24)))
+
+    def test_large_counts(self):
+        """Of up to 2^64 - 1 draws the first, the last and random ones."""
+        for asked in (self.asked(*question) for question in large_questions()):
+            check_alone(self, asked, [0, asked.left()[3] - 1])
+            logged, end, _ = play(self, asked, rng=Rng(48))
+            self.assertEqual((len(logged), end), (4, 19))
 
 
 # ---- The readings

@@ -1,12 +1,14 @@
 """Tests of the brute-force program: document 01's examples, and small random grammars on which its
 enumeration, its counts and an order of trees written apart from it must agree."""
 import collections
+import itertools
 import unittest
 import unittest.mock
 
 import generate
 import oracle
 from generate import Rng, history, pair, random_grammar, word
+from one_more_log import Asked, check_alone, check_moved, check_unmoved, large_questions, play, questions
 from oracle import F, G
 
 HEARD_01 = history([bytes([0, 1])])  # P7: diary of 0 1
@@ -504,6 +506,86 @@ class Patterns(unittest.TestCase):
         _, _, sentence = oracle.unrank(full, 16, PAST - 1, bytes(16))
         self.assertEqual(oracle.draw_matching(full, EMPTY, sentence, 0, 0, bytes(16)), (0, 1, PAST - 1, sentence))
         self.assertEqual(oracle.draw_matching(full, EMPTY, b'\377' * 16, 0, PAST - 1, bytes(16)), (0, PAST, PAST - 1, sentence))
+
+
+class OneMoreLog(unittest.TestCase):
+    """Document 02, U14: "Suppose draw q gives a sentence with just one derivation, and that sentence is logged in the same voice,
+    played in full"."""
+
+    def asked(self, *question):
+        return Asked(lambda name, *args: getattr(oracle, name)(*args), *question)
+
+    def small(self):
+        return (self.asked(*question) for question in questions(Rng(8), 250))
+
+    def test_worked_out_by_hand(self):
+        """0 0, 1 0 and 1 1 are left of F, and the second is logged; it is the first of what begins with 1."""
+        refusal, _, after = oracle.append(HEARD_01 + bytes(20), b'\1\0', 0, 0)
+        self.assertEqual((refusal, oracle.remaining(F, after, 2, 0)), (0, (0, 4, 2, 2)))
+        draws = [oracle.draw(F, after, 2, 0, q, b'\7\7') for q in (0, 1, 2, PAST)]
+        self.assertEqual(draws, [(0, 2, 0, b'\0\0'), (0, 2, 3, b'\1\1'), (16, 0, 0, b'\7\7'), (16, 0, 0, b'\7\7')])
+        self.assertEqual(oracle.remaining_matching(F, after, b'\1\377', 0), (0, 2, 1, 1))
+        draws = [oracle.draw_matching(F, after, b'\1\377', 0, q, b'\7\7') for q in (0, 1, PAST)]
+        self.assertEqual(draws, [(0, 1, 3, b'\1\1'), (16, 0, 0, b'\7\7'), (16, 0, 0, b'\7\7')])
+
+    def test_every_draw(self):
+        """Each that gives a sentence with just one derivation; where there is no room, 19 leaves the history as it was."""
+        kinds = collections.Counter()
+        for asked in self.small():
+            _, _, heard, left = asked.left()
+            for q in asked.all_once():
+                refusal, after = asked.log(q)
+                if refusal:
+                    self.assertEqual((refusal, after.diary), (19, asked.diary))
+                    kinds['no room'] += 1
+                else:
+                    check_moved(self, asked, after, q)
+                    kinds.update({'logged': 1, 'some heard': heard > 0, 'draws on both sides': 0 < q < left - 1, 'pattern': asked.suffix != ''})
+        self.assertGreater(min(kinds[kind] for kind in ('logged', 'no room', 'some heard', 'draws on both sides', 'pattern')), 300, kinds)
+
+    def test_a_sentence_with_two_derivations_is_not_covered(self):
+        tried = 0
+        for asked in self.small():
+            for q in itertools.filterfalse(asked.once, range(asked.left()[3])):
+                refusal, after = asked.log(q)
+                if refusal == 0:
+                    self.assertEqual((after.left(), after.draw(PAST, 0)), ((15, 0, 0, 0), (15, 0, 0, b'')))
+                    tried += 1
+        self.assertGreater(tried, 400)
+
+    def test_a_log_in_another_voice_or_broken_off_moves_nothing(self):
+        """Whatever was drawn."""
+        rng, kinds = Rng(10), collections.Counter()
+        for asked in self.small():
+            for q in range(asked.left()[3]):
+                voice, played = rng.choice([(9 - asked.voice, 0), (15, 0), (asked.voice, 1), (asked.voice, asked.length - 1)])
+                refusal, after = asked.log(q, voice, played)
+                if refusal == 0 and (voice, played) != (asked.voice, 0):
+                    check_unmoved(self, asked, after)
+                    kinds['broken off' if played else 'voice'] += 1
+        self.assertGreater(min(kinds['voice'], kinds['broken off']), 1000, kinds)
+
+    def test_draw_0_again_and_again(self):
+        """The unheard list in order, each entry once, as far as there is room; a sentence with two derivations is passed over."""
+        ends = collections.Counter()
+        for asked in self.small():
+            _, total, heard, left = asked.left()
+            logged, end, last = play(self, asked)
+            many = len(logged)
+            self.assertEqual((end, last.left()), (16 if many == len([*asked.all_once()]) else 19, (0, total, heard + many, left - many)))
+            ends.update({end: many > 0, 'nothing left': many == left > 2, 'passed over': 0 < many < left and end == 16})
+        self.assertGreater(min(ends[end] for end in (16, 19, 'nothing left', 'passed over')), 25, ends)
+
+    def test_large_counts(self):
+        """Logged by itself: the first draws, the middle one and the last; and one after another until there is no room."""
+        lefts = []
+        for asked in (self.asked(*question) for question in large_questions()):
+            left = asked.left()[3]
+            check_alone(self, asked, [0, 1, left // 2, left - 2, left - 1])
+            logged, end, _ = play(self, asked, rng=Rng(9))
+            self.assertEqual((len(logged), end), (4, 19))
+            lefts.append(left)
+        self.assertEqual(lefts, [15**16 - 3, 15**15 - 2, 15**15 - 2, PAST, 16**8 + 1])
 
 
 class Listings(unittest.TestCase):

@@ -501,6 +501,27 @@ pub fn draw_matching(
 /// assert_eq!(pumpfennel::append(&mut history, &[0, 1], 3, 0), Err(Refusal::HistoryFull));
 /// ```
 ///
+/// After the log of what draw q gave, in the same voice and played in full, where the sentence has one derivation: one
+/// fewer remains, the draws below q give what they gave, and each from q on gives what the next one gave.
+///
+/// ```
+/// use pumpfennel::{DerivationNumber, DrawNumber, Refusal};
+///
+/// let grammar = [2, 2, 4, 0, 1, 3, 1, 1, 1, 2, 1, 0, 1, 0, 0, 0, 0, 4, 0, 1, 0, 0];
+/// let mut history = [0; 24];
+/// let mut sentence = [0; 2];
+/// let numbers = |history: &[u8], draws: [u64; 3]| {
+///     draws.map(|q| pumpfennel::draw(&grammar, history, 2, 0, DrawNumber(q), &mut [0; 2]).map(|drawn| drawn.number))
+/// };
+/// let [first, third, fourth] = numbers(&history, [0, 2, 3]);
+/// pumpfennel::draw(&grammar, &history, 2, 0, DrawNumber(1), &mut sentence)?;
+/// pumpfennel::append(&mut history, &sentence, 0, 0)?;
+/// assert_eq!(numbers(&history, [0, 1, 2]), [first, third, fourth]);
+/// assert_eq!(third, Ok(DerivationNumber(2)));
+/// assert_eq!(pumpfennel::remaining(&grammar, &history, 2, 0)?.remaining, 3);
+/// # Ok::<(), Refusal>(())
+/// ```
+///
 /// # Errors
 ///
 /// Refusals 9, 11 to 14, 19, 22 and 23. 23 comes right after 22.

@@ -822,16 +822,26 @@ fn every_figure_logged() {
 /// What *Left* gives, and every draw, as derivation numbers and sentences; or the refusal of both.
 type Lists = Result<(Remaining, Vec<(u64, Vec<u8>)>), Refusal>;
 
-fn lists(grammar: &[u8], history: &[u8], length: u64, voice: u64) -> Lists {
+/// Of a length, or of a pattern with that length.
+fn lists(grammar: &[u8], history: &[u8], length: u64, pattern: Option<&[u8]>, voice: u64) -> Lists {
     let mut words = vec![0; length as usize];
     let mut draw = |q: u64| {
-        let drawn = pumpfennel::draw(grammar, history, length, voice, DrawNumber(q), &mut words)?;
+        let drawn = match pattern {
+            None => pumpfennel::draw(grammar, history, length, voice, DrawNumber(q), &mut words)?,
+            Some(pattern) => pumpfennel::draw_matching(grammar, history, pattern, voice, DrawNumber(q), &mut words)?,
+        };
         Ok((drawn.number.0, words.clone()))
     };
-    match pumpfennel::remaining(grammar, history, length, voice) {
+    let found = match pattern {
+        None => pumpfennel::remaining(grammar, history, length, voice),
+        Some(pattern) => pumpfennel::remaining_matching(grammar, history, pattern, voice),
+    };
+    match found {
         Ok(found) => {
             let drawn: Result<_, Refusal> = (0..found.remaining).map(&mut draw).collect();
-            assert_eq!(draw(found.remaining), Err(Refusal::NumberBeyond));
+            for q in [found.remaining, found.remaining + 1, u64::MAX] {
+                assert_eq!(draw(q), Err(Refusal::NumberBeyond));
+            }
             Ok((found, drawn.expect("draws below what is left")))
         }
         Err(refusal) => {
@@ -884,7 +894,7 @@ fn logs_on_generated_cases() {
         let other = (voice + 1 + rng.below_u64(15)) % 16;
         history.truncate(4 + 20 * k as usize);
         history.extend(rng.bytes(40));
-        let all = |history: &[u8]| [voice, other].map(|voice| lists(&grammar, history, length, voice));
+        let all = |history: &[u8]| [voice, other].map(|voice| lists(&grammar, history, length, None, voice));
         let before = all(&history);
         let shown = format!("case {i}: {} {}", case::hex(&grammar), case::hex(&history));
 
@@ -907,6 +917,67 @@ fn logs_on_generated_cases() {
     }
     println!("{logs} times two logs: {altered} times the one in full altered an answer, {refused} times to 15");
     assert!(altered > 2_000 && refused > 500);
+}
+
+// ---- What one more log does
+
+/// Draws and logs in turn, as long as something is left and there is room: after the log of draw q, a sentence with one
+/// derivation, one fewer is left, the draws below q give what they gave, and each from q on gives what the next one
+/// gave. With draw 0 each time the sentences come in the order of the list. With a pattern and without one.
+#[test]
+fn rounds_on_generated_cases() {
+    println!("seed {SEED}");
+    let (mut rounds, mut to_the_end, mut no_room, mut several, mut i) = ([0; 4], 0, 0, 0, 0);
+    while rounds.iter().sum::<u64>() < 10_000 {
+        let mut rng = Rng::of_case(SEED + 14, i);
+        i += 1;
+        let matching = rng.once_in(2);
+        let call = if matching { Call::RemainingMatching } else { Call::Remaining };
+        let Case { grammar, mut history, pattern, length, voice, .. } = generate::case(&mut rng, call);
+        let pattern = matching.then_some(&pattern[..]);
+        let length = pattern.map_or(length, |pattern| pattern.len() as u64);
+        let Ok(read) = reference::read_grammar(&grammar) else { continue };
+        let Ok(k) = pumpfennel::check_history(&history) else { continue };
+        if !(1..=16).contains(&length) || short_lists(&read) < length as usize {
+            continue;
+        }
+        let full = Full::new(&read, length as usize).expect("short lists");
+        history.truncate(4 + 20 * k as usize);
+        let room = 20 * rng.below(12);
+        history.extend(rng.bytes(room));
+        let shown = format!("case {i}: {} {} {pattern:?}", case::hex(&grammar), case::hex(&history));
+        let Ok((mut found, mut drawn)) = lists(&grammar, &history, length, pattern, voice) else { continue };
+        let any = rng.once_in(2);
+        let planned = drawn.clone();
+        for r in 0.. {
+            if drawn.is_empty() {
+                to_the_end += u64::from(r > 0);
+                break;
+            }
+            let q = if any { rng.below(drawn.len()) } else { 0 };
+            if full.readings(&drawn[q].1).count > 1 {
+                several += 1;
+                break;
+            }
+            match pumpfennel::append(&mut history, &drawn[q].1, voice, 0) {
+                Ok(records) => assert_eq!(records, k + r + 1, "{shown}"),
+                Err(refusal) => {
+                    assert_eq!(refusal, Refusal::HistoryFull, "{shown}");
+                    no_room += 1;
+                    break;
+                }
+            }
+            let logged = drawn.remove(q);
+            assert!(any || logged == planned[r as usize], "{shown}");
+            found.heard += 1;
+            found.remaining -= 1;
+            assert_eq!(lists(&grammar, &history, length, pattern, voice), Ok((found, drawn.clone())), "{shown}");
+            rounds[usize::from(matching) * 2 + usize::from(any)] += 1;
+        }
+    }
+    println!("{rounds:?} rounds by draw 0 and any draw, and the same with a pattern; {to_the_end} lists to their end,");
+    println!("{no_room} until there was no room, {several} until a sentence with several derivations");
+    assert!(rounds.iter().chain([&to_the_end, &no_room, &several]).all(|&many| many > 1_000));
 }
 
 // ---- The draws as one list

@@ -88,7 +88,7 @@ module _ (h : List ℕ) (p : Playback) (log : Logs h p) where
   second-long : length second ≡ length h
   second-long = put-length first 0 (twoBytes new) (omega (arith, first-long, log .room)) ∙ first-long
 
-  long : length (appended h p) ≡ length h
+  pub long : length (appended h p) ≡ length h
   unfolding appended
   long = put-length second 2 (twoBytes new) (omega (arith, second-long, log .room)) ∙ second-long
 

@@ -1,12 +1,12 @@
--- The entry at an index of `++`, replicate, set, map and a run of numbers; and where equal lists part.
+-- The entry at an index of `++`, replicate, set, map, a run of numbers and a list without one of its entries; and where equal lists part.
 -- Assumes nothing.
 use mathlib.Core.Path.{_≡_, refl, sym, ap, _∙_}
 use mathlib.Core.List.{List, [], _∷_, _++_, map}
 use Prim.Native.Nat.{ℕ, zero, suc, _+_, _-_, _≤_, _<_}
 use native.Mathlib.Omega.{arith}
 use native.Mathlib.Numerals.{add-one}
-use lib.Seq.{getD-append-add, take-at, drop-at}
-use lib.ListN.{length, getD, set, take, drop, replicate, length-map, List·getD-append}
+use lib.Seq.{getD-append-add, getD-take, getD-drop, length-take-le, take-at, drop-at}
+use lib.ListN.{length, getD, set, take, drop, replicate, length-map, length-append, length-drop, List·getD-append}
 use Rattle.lists.specs.Joined.{upFrom}
 use Rattle.lists.proofs.Sums.{length-upFrom}
 
@@ -86,3 +86,21 @@ set-le (x ∷ l) (suc i) v b h k (suc q) = set-le l i v b h (λ j. k (suc j)) q
 pub parted : {X : Type 0} (n : ℕ) (a b c d : List X) → length a ≡ n → length c ≡ n → a ++ b ≡ c ++ d → (a ≡ c) × (b ≡ d)
 parted n a b c d h k e =
     (sym (take-at a b n h) ∙ ap (take n) e ∙ take-at c d n k, sym (drop-at a b n h) ∙ ap (drop n) e ∙ drop-at c d n k)
+
+-- the list without its entry q
+module _ {X : Type 0} (l : List X) (q : ℕ) (inside : q < length l) where
+  front-length : length (take q l) ≡ q
+  front-length = length-take-le q l (omega arith)
+
+  pub without-length : length l ≡ suc (length (take q l ++ drop (suc q) l))
+  without-length = omega (arith, length-append (take q l) (drop (suc q) l), front-length, length-drop (suc q) l)
+
+  pub without-below : (j : ℕ) (z : X) → j < q → getD (take q l ++ drop (suc q) l) j z ≡ getD l j z
+  without-below j z h = getD-left (take q l) (drop (suc q) l) j z (omega (arith, front-length)) ∙ getD-take q l j z h
+
+  pub without-from : (j : ℕ) (z : X) → q ≤ j → getD (take q l ++ drop (suc q) l) j z ≡ getD l (suc j) z
+  without-from j z h =
+      let e : suc q + (j - length (take q l)) ≡ suc j = omega (arith, front-length) in
+      getD-right (take q l) (drop (suc q) l) j z (omega (arith, front-length))
+      ∙ getD-drop (suc q) l (j - length (take q l)) z
+      ∙ ap (λ (k : ℕ). getD l k z) e

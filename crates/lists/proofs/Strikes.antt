@@ -15,7 +15,7 @@ use Rattle.lists.specs.Searched.{bit, howMany, keep}
 use Rattle.lists.specs.Inner.Tickets.{Owns, place, struckFrom, skipOver}
 use Rattle.lists.specs.Inner.Struck.{struck, numbered, skip}
 use Rattle.lists.proofs.Sums.{sum-ext, sum-one, sum-map, map-ext}
-use Rattle.lists.proofs.Members.{upFrom-∈}
+use Rattle.lists.proofs.Members.{∈-place, At-getD, upFrom-∈}
 use Rattle.lists.proofs.Orders.{pairwise-map, order-unique}
 use Rattle.lists.proofs.Owners.{owns-∈, before-∈, owner-at, place-plain, tickets-plain, tickets-length}
 use Rattle.lists.proofs.Struck.{unstruck-sum, skip-over-lt, tickets-keep, tickets-keep-at, struck-alike, numbered-sum, drawn, drawn-at, Apart, Below, struck-∈, struck-below, gone, apart-gap, skip-over-at}
@@ -93,6 +93,18 @@ module _ {X : Type 0} where
   pub keep-none : (P : X → Bool) (l : List X) → ((x : X) → x ∈ l → P x ≡ false) → keep P l ≡ []
   keep-none P [] h = refl
   keep-none P (x ∷ l) h = rw (h x (List·Memᴰ·head refl)) (keep-none P l (λ y m. h y (List·Memᴰ·tail m)))
+
+  -- all pass but the element at q
+  pub keep-but : (P : X → Bool) (l : List X) (q : ℕ) (z : X) → q < length l → P (getD l q z) ≡ false
+      → ((i : ℕ) → i < length l → i ≢ q → P (getD l i z) ≡ true) → keep P l ≡ take q l ++ drop (suc q) l
+  keep-but P [] q z h f t = absurd (omega arith)
+  keep-but P (x ∷ l) zero z h f t =
+      rw f
+      (keep-all P l
+      (λ y m. let p = ∈-place l m in ap P (sym (At-getD l (p .0) y z (p .2))) ∙ t (suc (p .0)) (omega (arith, p .1)) (λ e. omega arith)))
+  keep-but P (x ∷ l) (suc q) z h f t =
+      rw (t 0 (omega arith) (λ e. omega arith))
+      (ap (λ (r : List X). x ∷ r) (keep-but P l q z (omega arith) f (λ i k n. t (suc i) (omega arith) (λ e. n (omega arith)))))
 
   -- a sum of what is 0 where the test fails
   pub sum-keep : (P : X → Bool) (f : X → ℕ) (l : List X) → ((x : X) → x ∈ l → P x ≡ false → f x ≡ 0) → sumOver f (keep P l) ≡ sumOver f l

@@ -3,7 +3,7 @@
 -- Assumes nothing.
 use mathlib.Core.Path.{_≡_, refl, sym, ap, _∙_}
 use mathlib.Core.Bool.{Bool, true, false, cond, not, _&&_, _||_, or-false, false≢true}
-use mathlib.Core.Logic.{_⊎_, inl, inr}
+use mathlib.Core.Logic.{_⊎_, inl, inr, _≢_}
 use mathlib.Core.List.{List, [], _∷_, map, List·Memᴰ·head, List·Memᴰ·tail, Memᴰ·map}
 use Prim.Native.Nat.{ℕ, zero, suc, _-_, _*_, _≤_, _<_}
 use native.Mathlib.Omega.{arith}
@@ -232,6 +232,13 @@ same-eq [] [] e = refl
 same-eq [] (y ∷ b) e = absurd (false≢true e)
 same-eq (x ∷ a) [] e = absurd (false≢true e)
 same-eq (x ∷ a) (y ∷ b) e = rw (eqb-true x y (and-left (eqb x y) (same a b) e), same-eq a b (and-right (eqb x y) (same a b) e))
+
+pub same-ne : (a b : List ℕ) → a ≢ b → same a b ≡ false
+same-ne a b n = go (same a b) (same-eq a b)
+  where
+    go : (t : Bool) → (t ≡ true → a ≡ b) → t ≡ false
+    go true e = absurd (n (e refl))
+    go false e = refl
 
 pub same-refl : (a : List ℕ) → same a a ≡ true
 same-refl [] = refl

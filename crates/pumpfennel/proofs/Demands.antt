@@ -44,6 +44,7 @@ use Rattle.matrix.proofs.Counts.{sentences-of-five, no-others}
 use Rattle.matrix.proofs.Single.{no-two, counts-fit}
 use Rattle.pumpfennel.specs.Demands.{Refuses, Demand1, Demands}
 use Rattle.pumpfennel.proofs.Earlier.{former-voices, former-playbacks}
+use Rattle.pumpfennel.proofs.OneMore.{one-more, only-19, in-order, goes-on, met}
 use Rattle.pumpfennel.proofs.Former.{former-numbers, former-answers}
 
 -- an answer by its list of refusals
@@ -115,6 +116,10 @@ demands = record {
   no-blank = no-blank;
   logged = logged;
   broken-off = broken-off;
+  one-more = one-more;
+  only-19 = only-19;
+  in-order = in-order;
+  goes-on = goes-on;
   voices = former-voices;
   playbacks = former-playbacks;
   ten = ten;
@@ -125,6 +130,7 @@ demands = record {
   voiced = example-voiced;
   broken = example-broken;
   matched = example-matched;
+  met = met;
   logged-twice = logged-twice;
   house = record { accepted = is-accepted; five = sentences-of-five; others = no-others; single = house-single };
   house-once = λ h v diary voiced. once table h (plainly 5 v) (house-premises h v diary voiced) (house-worded v) (λ s l. house-single s);

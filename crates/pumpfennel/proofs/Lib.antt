@@ -2,4 +2,5 @@
 pub mod Cases
 pub mod Earlier
 pub mod Former
+pub mod OneMore
 pub mod Demands

@@ -3,19 +3,20 @@
 -- Assumes nothing: these are definitions.
 use mathlib.Core.Path.{_≡_}
 use mathlib.Core.Logic.{_↔_, _≢_}
-use mathlib.Core.Bool.{true, false}
-use mathlib.Core.List.{List, [], _∷_}
-use Prim.Native.Nat.{ℕ, _≤_, _<_}
-use lib.ListN.{length, replicate}
+use mathlib.Core.Bool.{true, false, cond}
+use mathlib.Core.List.{List, [], _∷_, map}
+use Prim.Native.Nat.{ℕ, _+_, _*_, _≤_, _<_}
+use lib.ListN.{length, take, replicate}
 use Rattle.answers.specs.Answer.{Row, Answer, firstThatApplies}
 use Rattle.grammar.specs.Refusals as grammar
 use Rattle.grammar.specs.Refusals.{grammarRows}
 use Rattle.grammar.specs.Answers.{checkGrammar}
 use Rattle.counting.specs.Refusals.{Ten, preparedRows}
 use Rattle.counting.specs.Answers.{countOf}
+use Rattle.history.specs.Layout.{recordsOf}
 use Rattle.history.specs.Refusals as history
 use Rattle.history.specs.Refusals.{historyRows}
-use Rattle.history.specs.Answers.{checkHistory, appendRows, appendOf}
+use Rattle.history.specs.Answers.{checkHistory, noRoom, appendRows, appendOf}
 use Rattle.history.specs.Heard.{heard}
 use Rattle.history.specs.Playback.{Playback}
 use Rattle.history.specs.Writing.{appended}
@@ -23,13 +24,14 @@ use Rattle.history.specs.Logged.{Logged}
 use Rattle.ranking.specs.Answers.{totalOf, unrankRows, unrankOf, rankRows, rankOf}
 use Rattle.ranking.specs.Demand2.{Demand2}
 use Rattle.sampling.specs.Question.{Question, plainly}
-use Rattle.sampling.specs.Unheard.{Fifteen}
+use Rattle.sampling.specs.Unheard.{unheard, Fifteen}
 use Rattle.sampling.specs.Answers.{remainingRows, remainingTo, remainingMatching, drawRows, drawTo}
 use Rattle.sampling.specs.Blanks.{AllBlank, NoBlank, Full, Unpatterned}
-use Rattle.sampling.specs.Demand3.{Single, Premises, Worded, Demand3, Once, SameBarred, Alike}
+use Rattle.sampling.specs.Demand3.{Single, Premises, Worded, Shown, shown, asShown, Demand3, Once, SameBarred, Alike}
 use Rattle.sampling.specs.Examples.{Examples, Matched, F, G, heard01, heardTwice, heardInFive, brokenOff}
 use Rattle.matrix.specs.Table.{table}
 use Rattle.pumpfennel.specs.Former.{FormerVoices, FormerPlaybacks, FormerNumbers, FormerAnswers}
+use Rattle.pumpfennel.specs.OneMore.{logOf, Round, OneMore, Rounds, InOrder, Met}
 
 -- ---- demand 1: "The first fitting refusal of its list is returned, every figure zero, every lent buffer unchanged."
 
@@ -81,6 +83,16 @@ pub record Demands : Type 0 where
   -- voice still is. One that was broken off leaves every answer of *Left* and *Draw* as it was (document 02, U5).
   pub logged : (h : List ℕ) (p : Playback) → appendOf h p .refusal ≡ 0 → Logged h p
   pub broken-off : (h : List ℕ) (p : Playback) → appendOf h p .refusal ≡ 0 → p .played ≢ 0 → (g : List ℕ) (a : Question) → Alike g (appended h p) h a
+  -- "Suppose draw q gives a sentence with just one derivation, and that sentence is logged in the same voice, played in full. If the log is accepted, left
+  -- falls by one", and every draw is as before or as the next one was (document 02, U14). Only 19 can refuse that log.
+  pub one-more : (g h : List ℕ) (a : Question) (q : ℕ) (x : Shown) → Round g h a q x → OneMore g h (logOf h a (x .words) .buffer) a q
+  pub only-19 : (g h : List ℕ) (a : Question) (q : ℕ) (out : List ℕ) → drawTo g h a q out .refusal ≡ 0
+      → logOf h a (shown (a .length) (drawTo g h a q out) .words) .refusal ≡ cond (noRoom h) 19 0
+  -- so draw 0, logged and drawn again, gives the unheard list in order, each sentence once; where no sentence of the length has two derivations this goes
+  -- on as long as something is left and there is room
+  pub in-order : (g h : List ℕ) (a : Question) (l : List Shown) → remainingTo g h a .refusal ≡ 0 → Rounds g a h l → InOrder g h a l
+  pub goes-on : (g h : List ℕ) (a : Question) (k : ℕ) → remainingTo g h a .refusal ≡ 0 → ((s : List ℕ) → length s ≡ a .length → Single g s)
+      → k ≤ length (unheard g h a) → recordsOf h + k ≤ 1000 → 4 + 20 * (recordsOf h + k) ≤ length h → Rounds g a h (map asShown (take k (unheard g h a)))
   -- "Old diaries read as voice 0" (document 02, U4)
   pub voices : FormerVoices
   -- a history without a record that was broken off has its former answers (document 02, U5)
@@ -92,12 +104,13 @@ pub record Demands : Type 0 where
   pub numbers : FormerNumbers
   pub fifteen : (g h : List ℕ) (a : Question) → countOf g (a .length) .refusal ≡ 0 → history.Accepted h → Fifteen g h a
   -- there is such a grammar, history and length, one with a record in another voice, one with a sentence of two derivations broken off, which isn't
-  -- heard, and one with a pattern; there are two histories that bar the same; and the house bank is as document 01 says, so that with every accepted history and in every voice
-  -- each of its unheard sentences comes exactly once
+  -- heard, and one with a pattern; there are draws that U14 speaks of; there are two histories that bar the same; and the house bank is as document 01
+  -- says, so that with every accepted history and in every voice each of its unheard sentences comes exactly once
   pub instance : Premises F heard01 (plainly 2 0)
   pub voiced : Premises F heardInFive (plainly 2 5) × (heard heardInFive 5 (0 ∷ 1 ∷ []) ≡ true)
   pub broken : Premises G brokenOff (plainly 3 0) × (heard brokenOff 0 (0 ∷ 0 ∷ 0 ∷ []) ≡ false)
   pub matched : Matched
+  pub met : Met
   pub logged-twice : history.Accepted heard01 × history.Accepted heardTwice × SameBarred F heard01 heardTwice (plainly 2 0)
   pub house : House
   pub house-once : (h : List ℕ) (v : ℕ) → history.Accepted h → v ≤ 15 → (out : ℕ → List ℕ) → ((q : ℕ) → 5 ≤ length (out q)) → Once table h (plainly 5 v) out

@@ -1,3 +1,4 @@
 pub mod Calls
 pub mod Former
+pub mod OneMore
 pub mod Demands

@@ -46,24 +46,24 @@ use Rattle.sampling.proofs.Premises.{heard-single, premises-pass, pass-
 -- ---- what *Draw* reads off the unheard list
 
 -- entry q of a list of entries
-abbrev entryAt : List Entry → ℕ → Entry
+abbrev pub entryAt : List Entry → ℕ → Entry
 entryAt l q = getD l q (entry no-entry)
 
 -- the lines 16 and 20
-abbrev lastRows : (n q : ℕ) (out : List ℕ) (l : List Entry) → List Row
+abbrev pub lastRows : (n q : ℕ) (out : List ℕ) (l : List Entry) → List Row
 lastRows n q out l = (leb (length l) q, 16) ∷ (ltb (length out) n, 20) ∷ []
 
 -- where l is the unheard list and none of the lines 1 to 15 applies
-abbrev drawFrom : (n q : ℕ) (out : List ℕ) (l : List Entry) → Answer
+abbrev pub drawFrom : (n q : ℕ) (out : List ℕ) (l : List Entry) → Answer
 drawFrom n q out l = answer (lastRows n q out l) (length l ∷ entryAt l q .number ∷ []) out (sentence (entryAt l q .tree) ++ drop n out)
 
 module _ (n q : ℕ) (out : List ℕ) (l : List Entry) where
-  from-beyond : length l ≤ q → drawFrom n q out l ≡ refused 16 2 out
+  pub from-beyond : length l ≤ q → drawFrom n q out l ≡ refused 16 2 out
   from-beyond h =
       let e : firstThatApplies (lastRows n q out l) ≡ 16 = row-applies 16 ((ltb (length out) n, 20) ∷ []) (le-leb (length l) q h) in
       rw e (answer-refused 16 (length l ∷ entryAt l q .number ∷ []) out (sentence (entryAt l q .tree) ++ drop n out) (omega arith))
 
-  from-accepted : firstThatApplies (lastRows n q out l) ≡ 0
+  pub from-accepted : firstThatApplies (lastRows n q out l) ≡ 0
       → drawFrom n q out l ≡ given (length l ∷ entryAt l q .number ∷ []) (sentence (entryAt l q .tree) ++ drop n out)
   from-accepted e = answer-accepted (length l ∷ entryAt l q .number ∷ []) out (sentence (entryAt l q .tree) ++ drop n out) e
 
@@ -71,12 +71,12 @@ module _ (n q : ℕ) (out : List ℕ) (l : List Entry) where
   from-refusal =
       answer-number (firstThatApplies (lastRows n q out l)) (length l ∷ entryAt l q .number ∷ []) out (sentence (entryAt l q .tree) ++ drop n out)
 
-  from-passed : q < length l → n ≤ length out → firstThatApplies (lastRows n q out l) ≡ 0
+  pub from-passed : q < length l → n ≤ length out → firstThatApplies (lastRows n q out l) ≡ 0
   unfolding firstThatApplies
   from-passed h k =
       row-passed 16 ((ltb (length out) n, 20) ∷ []) (lt-leb (length l) q h) ∙ row-passed 20 [] (le-ltb (length out) n k)
 
-  from-short : q < length l → length out < n → drawFrom n q out l ≡ refused 20 2 out
+  pub from-short : q < length l → length out < n → drawFrom n q out l ≡ refused 20 2 out
   from-short h k =
       let e : firstThatApplies (lastRows n q out l) ≡ 20
       = row-passed 16 ((ltb (length out) n, 20) ∷ []) (lt-leb (length l) q h) ∙ row-applies 20 [] (lt-ltb (length out) n k) in
@@ -130,7 +130,7 @@ module _ (g h : List ℕ) (a : Question) where
       rw (entry-tree q)
       (m .0, and-left (suits a t) (outside h (a .voice) t) (m .1), not-true (heard h (a .voice) (sentence t)) (and-right (suits a t) (outside h (a .voice) t) (m .1)))
 
-  entry-long : (q : ℕ) → q < length (unheard g h a) → length (sentence (drawn g h a q .tree)) ≡ a .length
+  pub entry-long : (q : ℕ) → q < length (unheard g h a) → length (sentence (drawn g h a q .tree)) ≡ a .length
   entry-long q k = listed-length g (a .length) (drawn g h a q .tree) (entry-left q k .0)
 
   -- an entry is a derivation with its number
@@ -211,7 +211,7 @@ module _ (g h : List ℕ) (a : Question) (p : Premises g h a) (fitted : Worded g
       answer-accepted (totalFor g a ∷ heardOf g h a ∷ leftOf g h a ∷ []) [] [] passed
       ∙ ap (λ (m : ℕ). given (totalFor g a ∷ heardOf g h a ∷ m ∷ []) []) left-is
 
-  draw-is : (q : ℕ) (out : List ℕ) → drawTo g h a q out ≡ drawFrom (a .length) q out (unheard g h a)
+  pub draw-is : (q : ℕ) (out : List ℕ) → drawTo g h a q out ≡ drawFrom (a .length) q out (unheard g h a)
   unfolding drawTo
   draw-is q out =
       ap (λ (r : ℕ). answerOf r (leftOf g h a ∷ drawn g h a q .number ∷ []) out (sentence (drawn g h a q .tree) ++ drop (a .length) out))
@@ -234,7 +234,7 @@ module _ (g h : List ℕ) (a : Question) (p : Premises g h a) (fitted : Worded g
       ap (λ (x : Answer). take (a .length) (x .buffer)) (draw-accepted q out k l)
       ∙ take-at (sentence (drawn g h a q .tree)) (drop (a .length) out) (a .length) (entry-long g h a q k)
 
-  draw-shown : (q : ℕ) (out : List ℕ) → q < length (unheard g h a) → a .length ≤ length out → shown (a .length) (drawTo g h a q out) ≡ asShown (drawn g h a q)
+  pub draw-shown : (q : ℕ) (out : List ℕ) → q < length (unheard g h a) → a .length ≤ length out → shown (a .length) (drawTo g h a q out) ≡ asShown (drawn g h a q)
   draw-shown q out k l = rw (draw-words q out k l, draw-accepted q out k l)
 
   draw-kept : (q : ℕ) (out : List ℕ) → drop (a .length) (drawTo g h a q out .buffer) ≡ drop (a .length) out

@@ -77,7 +77,7 @@ T-doubled : (m : ℕ) → T (chain F) 0 (suc (suc m)) ≡ power 2 m
 unfolding metFrom rest
 T-doubled m = doubled (chain F) refl refl words-two m
 
-F-accepted : Accepted F
+pub F-accepted : Accepted F
 unfolding firstThatApplies tooShort outOfRange wrongSize fits badRule badLink metTwice onNoChain someAlike repeated metFrom someBelow
 F-accepted = refl
 
@@ -85,7 +85,7 @@ F-counts : (A m : ℕ) → A < 2 → 1 ≤ m → m ≤ 16 → T (chain F) A m �
 unfolding metFrom rest
 F-counts = doubled-fits (chain F) refl refl words-two
 
-F-fits : (n : ℕ) → 1 ≤ n → n ≤ 16 → AllFit (chain F) (λ p w. 1) 0 n
+pub F-fits : (n : ℕ) → 1 ≤ n → n ≤ 16 → AllFit (chain F) (λ p w. 1) 0 n
 F-fits n l u A m a = let w = needed-within F n F-accepted l a in F-counts A m (w .0) (w .1) (omega (arith, w .2))
 
 F-prepared : (n : ℕ) → 1 ≤ n → n ≤ 16 → firstThatApplies (preparedRows F n) ≡ 0
@@ -139,7 +139,7 @@ unfolding ambiguous makesHeard twoAt recordWords numbersFrom trees treesTo metFr
 heard01-clear = refl
 
 -- the premises of demand 3, of a history that has no ambiguous sentence
-premised : (g h : List ℕ) (a : Question) → Accepted g → 1 ≤ a .length → a .length ≤ 16 → a .voice ≤ 15 → AllFit (chain g) (λ p w. 1) (start g) (a .length)
+pub premised : (g h : List ℕ) (a : Question) → Accepted g → 1 ≤ a .length → a .length ≤ 16 → a .voice ≤ 15 → AllFit (chain g) (λ p w. 1) (start g) (a .length)
     → history.Accepted h → ambiguous g h a ≡ false → Premises g h a
 premised g h a bank l u v fit ok clear = record {
   bank = bank;
