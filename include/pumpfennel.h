@@ -3,17 +3,18 @@
  *
  * A grammar (document 01: bank) and a history (document 01: diary) are runs of bytes in document 01's layout; a
  * sentence is one byte a word, a voice a number from 0 to 15. A pattern is one byte a place: PUMPFENNEL_BLANK, where any
- * word fits, or the word that stands there. Each call returns 0 where it is accepted, or else the number of the first
- * refusal that applies; they are looked at in the order that is named with the call. Then every figure is 0 and every
- * buffer is as it was. Refusals have document 01's letters: a grammar has N nonterminals, W words, R rules and the
- * start S, a history K records.
+ * word fits, or the word that stands there. Weights are one byte for each word of the grammar, from word 0 up: how much
+ * that word weighs, 1 to 255. Each call returns 0 where it is accepted, or else the number of the first refusal that
+ * applies; they are looked at in the order that is named with the call. Then every figure is 0 and every buffer is as it
+ * was. Refusals have document 01's letters: a grammar has N nonterminals, W words, R rules and the start S, a history K
+ * records.
  *
  * Every answer is proved, for any bytes and any numbers. What C can't check is left to the caller:
  * - A pointer is valid for the length given with it. Where that is 0 nothing is read or written through it, and it may
  *   be NULL.
  * - A figure's pointer points to a uint64_t. A call writes all its figures, whatever they held.
- * - What a call writes (figures, and the buffer of unrank, draw, draw_matching and append) overlaps nothing else that
- *   it is given. What it only reads may overlap.
+ * - What a call writes (figures, and the buffer of unrank, draw, draw_matching, draw_weighted and append) overlaps
+ *   nothing else that it is given. What it only reads may overlap.
  * - No other thread writes to what a call is given, or reads what it writes, until it returns.
  *
  * The library keeps nothing between calls, and neither allocates nor reads or writes any file: calls on different
@@ -28,8 +29,8 @@
 
 /* version: from VERSION, by tools/generate */
 /* The version, as text and as one number: major * 10,000 + minor * 100 + patch. */
-#define PUMPFENNEL_VERSION "0.5.1"
-#define PUMPFENNEL_VERSION_NUMBER 501
+#define PUMPFENNEL_VERSION "0.5.2"
+#define PUMPFENNEL_VERSION_NUMBER 502
 /* A name that the archive has for this interface alone: it changes with major and minor. */
 #define PUMPFENNEL_INTERFACE pumpfennel_interface_0_5
 /* end of version */
@@ -47,7 +48,7 @@
 #define PUMPFENNEL_LARGEST_HISTORY 20004
 
 /*
- * The most bytes of stack that a call takes: remaining and draw with a pattern the first, rank and the plain remaining
+ * The most bytes of stack that a call takes: one with a pattern or with weights the first, rank and the plain remaining
  * and draw the large one, the others the small one.
  */
 #define PUMPFENNEL_MATCHING_STACK 163840
@@ -107,7 +108,11 @@ enum pumpfennel_refusal {
     /* The voice is above 15. */
     PUMPFENNEL_BAD_VOICE = 22,
     /* The count of words played is the sentence's length or more. */
-    PUMPFENNEL_BAD_PLAYED = 23
+    PUMPFENNEL_BAD_PLAYED = 23,
+    /* The weights are not W bytes, or one of them is 0. */
+    PUMPFENNEL_BAD_WEIGHTS = 24,
+    /* A total weight that the length needs is above 2^64 - 1. */
+    PUMPFENNEL_TOO_MANY_TICKETS = 25
 };
 
 /* What a call returned, in words: a sentence without its first capital and its full stop. */
@@ -161,6 +166,10 @@ static inline const char *pumpfennel_refusal_text(uint8_t refusal) {
         return "the voice is above 15";
     case PUMPFENNEL_BAD_PLAYED:
         return "the count of words played is the sentence's length or more";
+    case PUMPFENNEL_BAD_WEIGHTS:
+        return "the weights are not W bytes, or one of them is 0";
+    case PUMPFENNEL_TOO_MANY_TICKETS:
+        return "a total weight that the length needs is above 2^64 - 1";
     default:
         return "no such refusal";
     }
@@ -252,6 +261,27 @@ uint8_t pumpfennel_draw(const uint8_t *grammar, size_t grammar_len, const uint8_
 uint8_t pumpfennel_draw_matching(const uint8_t *grammar, size_t grammar_len, const uint8_t *history, size_t history_len,
                                  const uint8_t *pattern, size_t pattern_len, uint64_t voice, uint64_t draw,
                                  uint8_t *sentence, size_t sentence_len, uint64_t *remaining, uint64_t *number);
+
+/*
+ * Draw, with weights, as a lottery draws: a derivation weighs the product of its words' weights, and each derivation
+ * with a sentence unheard in that voice owns as many tickets as it weighs; heard ones own none. Tickets are numbered
+ * from 0 to tickets - 1: those of one derivation stand together, and the derivations follow each other by rising
+ * derivation number. Takes the derivation that owns `ticket` and writes its sentence into the buffer's first bytes; the
+ * others keep their content. Gives how many tickets there are, its own counted, and its derivation number. It logs
+ * nothing. `weights` are W bytes, from word 0 up; where each is 1 the answer is that of pumpfennel_draw, and `tickets`
+ * is what remains. Refusals 1 to 9, 22, 10, 24, 25, 11 to 16, 20.
+ *
+ * Whoever takes a ticket from 0 to tickets - 1 at random, each equally likely, draws each unheard derivation in
+ * proportion to its weight. The call with ticket 0 tells how many tickets there are; where that is refused by 16,
+ * nothing is left. A log may change it, so ask anew before the next draw.
+ *
+ * 25 looks at total weights where 10 looks at counts: of the same nonterminals at the same lengths, and of all their
+ * derivations, heard or not. A word that no rule has needs a weight too, and adds to no total.
+ */
+uint8_t pumpfennel_draw_weighted(const uint8_t *grammar, size_t grammar_len, const uint8_t *history, size_t history_len,
+                                 uint64_t length, uint64_t voice, const uint8_t *weights, size_t weights_len,
+                                 uint64_t ticket, uint8_t *sentence, size_t sentence_len, uint64_t *tickets,
+                                 uint64_t *number);
 
 /*
  * Log: writes the sentence, played in that voice, as the history's newest record into the buffer, which has

@@ -7,6 +7,7 @@
  *   remaining_matching GRAMMAR HISTORY PATTERN VOICE
  *   draw GRAMMAR HISTORY LENGTH VOICE DRAW BUFFER
  *   draw_matching GRAMMAR HISTORY PATTERN VOICE DRAW BUFFER
+ *   draw_weighted GRAMMAR HISTORY LENGTH VOICE WEIGHTS TICKET BUFFER
  *   append BUFFER SENTENCE VOICE PLAYED
  *
  * Bytes are in hex after an x, which stands alone where there are none; null is NULL with length 0. An answer is the
@@ -30,7 +31,7 @@
 #define AREA (16 * PAGE)
 #define STACK (256 * 1024)
 #define PAINT 0xa5
-#define CALLS 10
+#define CALLS 11
 #define RUNS 4 /* the most runs of bytes that a call takes */
 
 struct bytes {
@@ -39,8 +40,10 @@ struct bytes {
 };
 
 static const char *const names[CALLS] = {"check_grammar", "check_history",      "count", "unrank",        "rank",
-                                         "remaining",     "remaining_matching", "draw",  "draw_matching", "append"};
-static const char *const kinds[CALLS] = {"r", "r", "rn", "rnnw", "rr", "rrnn", "rrrn", "rrnnnw", "rrrnnw", "wrnn"};
+                                         "remaining",     "remaining_matching", "draw",  "draw_matching", "draw_weighted",
+                                         "append"};
+static const char *const kinds[CALLS] = {"r",    "r",      "rn",     "rnnw",    "rr",  "rrnn",
+                                         "rrrn", "rrnnnw", "rrrnnw", "rrnnrnw", "wrnn"};
 static struct bytes data[RUNS];
 static uint64_t numbers[3], figures[3];
 static uint8_t answer;
@@ -64,7 +67,11 @@ static void *make_call(void *unused) {
         figure_count = 2;
         answer = pumpfennel_draw_matching(a.at, a.size, b.at, b.size, c.at, c.size, m, n, d.at, d.size, f, g);
         break;
-    case 9: figure_count = 1, answer = pumpfennel_append(a.at, a.size, b.at, b.size, m, n, f); break;
+    case 9:
+        figure_count = 2;
+        answer = pumpfennel_draw_weighted(a.at, a.size, b.at, b.size, m, n, c.at, c.size, q, d.at, d.size, f, g);
+        break;
+    case 10: figure_count = 1, answer = pumpfennel_append(a.at, a.size, b.at, b.size, m, n, f); break;
     }
     return unused;
 }

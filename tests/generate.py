@@ -106,17 +106,18 @@ def random_damage(rng, data):
     return (at, value) if value != data[at] else (at, (value + 1) % 256)
 
 
-def brimful(extra=0):
+def brimful(extra=0, w=17, fifteen=range(15), seventeen=range(17), sixteen=range(16), one=(16,)):
     """An unambiguous grammar with T(S, 16) = 2^64 - 1, or that and one more with extra 1.
 
-    2^64 - 1 = 15 * 17 * (16^2 + 1) * (16^4 + 1) * (16^8 + 1), with lengths 1 + 1 + 2 + 4 + 8."""
+    2^64 - 1 = 15 * 17 * (16^2 + 1) * (16^4 + 1) * (16^8 + 1), with lengths 1 + 1 + 2 + 4 + 8. With other words of w in the
+    four groups the same holds of the total weight, where the words of the groups weigh 15, 17, 16 and 1 together."""
     s, a15, a17, a16, a1, b2, b4, c2, c4, c8, x2, x4, x8, y2, y4, y8 = range(16)
     chains = {
         s: [pair(y8, x8), pair(c8, c8)][:1 + extra],
-        a15: [word(i) for i in range(15)],
-        a17: [word(i) for i in range(17)],
-        a16: [word(i) for i in range(16)],
-        a1: [word(16)],
+        a15: [word(i) for i in fifteen],
+        a17: [word(i) for i in seventeen],
+        a16: [word(i) for i in sixteen],
+        a1: [word(i) for i in one],
         b2: [pair(a16, a16)],
         b4: [pair(b2, b2)],
         c2: [pair(a1, a1)],
@@ -129,38 +130,78 @@ def brimful(extra=0):
         y4: [pair(y2, x2)],
         y8: [pair(y4, x4)],
     }
-    return grammar(17, s, [chains[a] for a in range(16)])
+    return grammar(w, s, [chains[a] for a in range(16)])
 
 
-def heavy(first):
+LADEN = bytes([15, 17, 16, 1])  # the weights with which laden() has as many tickets as there can be
+
+
+def laden(extra=0):
+    """Eight derivations of 16 words, which weigh 2^64 - 1 together by LADEN, or nine, which weigh one more, with extra 1."""
+    return brimful(extra, 4, [0], [1], [2], [3])
+
+
+def beside_nothing(extra=0):
+    """Nonterminal 1 has derivations of eight words that weigh 2^64 - 1 together by BESIDE, or one more with extra 1, and
+    none of another length. The start puts it before a nonterminal that derives nothing, so nine words need it; they have
+    one derivation, and it weighs 1. Eight words don't need it.
+
+    2^64 - 1 = 255 * (255 + 2) * (256^2 + 1) * (256^4 + 1), with lengths 1 + 1 + 2 + 4, and 256 is 128 + 128."""
+    s, all8, none, a255, a257, a256, a1, b2, c2, c4, c8, x2, x4, y2, y4 = range(15)
+    chains = {
+        s: [pair(all8, none), pair(a1, c8), word(5)],
+        all8: [pair(y4, x4), pair(c4, c4)][:1 + extra],
+        none: [],
+        a255: [word(0)],
+        a257: [word(1), word(2)],
+        a256: [word(3), word(4)],
+        a1: [word(5)],
+        b2: [pair(a256, a256)],
+        c2: [pair(a1, a1)],
+        c4: [pair(c2, c2)],
+        c8: [pair(c4, c4)],
+        x2: [pair(a256, a256), pair(a1, a1)],
+        x4: [pair(b2, b2), pair(c2, c2)],
+        y2: [pair(a255, a257)],
+        y4: [pair(y2, x2)],
+    }
+    return grammar(6, s, [chains[a] for a in range(15)])
+
+
+BESIDE = bytes([255, 255, 2, 128, 128, 1])
+
+
+def heavy(first, words=range(240)):
     """The chains of five nonterminals from the number first on. That one has 2 * 240^8 derivations of length 8, which is
-    above 2^64 - 1, and none of another length."""
+    above 2^64 - 1, and none of another length. With other words it has two for each eight of them."""
     four, also_four, two, one = range(first + 1, first + 5)
-    return [[pair(four, four), pair(also_four, four)], [pair(two, two)], [pair(two, two)], [pair(one, one)], [word(i) for i in range(240)]]
+    return [[pair(four, four), pair(also_four, four)], [pair(two, two)], [pair(two, two)], [pair(one, one)], [word(i) for i in words]]
 
 
-def reaching():
-    """Grammars with a count above 2^64 - 1, by name, each with the lengths from 1 to 16 that need it (document 02, U2)."""
+def reaching(words=range(240)):
+    """Grammars with a count above 2^64 - 1, by name, each with the lengths from 1 to 16 that need it (document 02, U2). With
+    other words in place of 240 the same holds of a total weight, where these weigh 240 or more together."""
     start, other, further = range(3)
+    heaviest, *parts = heavy(start, words)
     single = [[pair(other, other)], [word(0)]]  # one derivation, of two words
     eight = [[pair(i + 1, i + 1)] for i in range(7, 10)] + [[word(0)]]  # 7: one derivation, of eight words
     return {
         # the start never uses it
-        'out of reach': (grammar(240, start, [[word(0), pair(start, other)], [word(1)], *heavy(2)]), range(0)),
+        'out of reach': (grammar(240, start, [[word(0), pair(start, other)], [word(1)], *heavy(2, words)]), range(0)),
         # needed one length below the whole, beside a partner with no derivation at all
-        'left of nothing': (grammar(240, start, [[word(0), pair(further, other)], [], *heavy(2)]), range(9, 17)),
-        'right of nothing': (grammar(240, start, [[word(0), pair(other, further)], [], *heavy(2)]), range(9, 17)),
+        'left of nothing': (grammar(240, start, [[word(0), pair(further, other)], [], *heavy(2, words)]), range(9, 17)),
+        'right of nothing': (grammar(240, start, [[word(0), pair(other, further)], [], *heavy(2, words)]), range(9, 17)),
         # beside a partner of two words
-        'left of two words': (grammar(240, start, [[pair(3, other)], [pair(further, further)], [word(0)], *heavy(3)]), range(9, 17)),
+        'left of two words': (grammar(240, start, [[pair(3, other)], [pair(further, further)], [word(0)], *heavy(3, words)]), range(9, 17)),
         # two lengths below the whole
-        'two steps': (grammar(240, start, [[word(0), pair(further, other)], [], [pair(other, 3)], *heavy(3)]), range(10, 17)),
+        'two steps': (grammar(240, start, [[word(0), pair(further, other)], [], [pair(other, 3)], *heavy(3, words)]), range(10, 17)),
         # the start itself: at the whole length, and from two lengths below the whole on, which leaves out the one between
-        'the start': (grammar(240, start, [heavy(0)[0] + [pair(5, 6), pair(10, 7)], *heavy(0)[1:], [pair(start, 6)], [], *eight]), [8, *range(10, 17)]),
+        'the start': (grammar(240, start, [heaviest + [pair(5, 6), pair(10, 7)], *parts, [pair(start, 6)], [], *eight]), [8, *range(10, 17)]),
         # a half that only the other half of a rule reaches
-        'a half of a half': (grammar(240, start, [[pair(other, other)], [word(0), pair(further, other)], [pair(3, further)], *heavy(3)]), range(11, 17)),
+        'a half of a half': (grammar(240, start, [[pair(other, other)], [word(0), pair(further, other)], [pair(3, further)], *heavy(3, words)]), range(11, 17)),
         # no derivation of the start, and none of what it uses
-        'nothing derived': (grammar(240, start, [[pair(start, start)], [pair(other, further)], *heavy(2)]), range(0)),
-        'single': (grammar(240, further, [*single, [pair(start, other)], *heavy(3)]), range(0)),
+        'nothing derived': (grammar(240, start, [[pair(start, start)], [pair(other, further)], *heavy(2, words)]), range(0)),
+        'single': (grammar(240, further, [*single, [pair(start, other)], *heavy(3, words)]), range(0)),
     }
 
 

@@ -1,6 +1,6 @@
 #!/usr/bin/env python3
 """Brute-force answers to every call of document 01, with the requests of document 02 that have landed (U1, U2, U4,
-U5, U6), for the tests.
+U5, U6, U7), for the tests.
 
 Written from the documents alone: the headings below are sections of document 01, and each definition cites its
 sentence. Derivations are enumerated one by one as trees, in the document's order. Where that list
@@ -8,8 +8,8 @@ would be long (LISTED), the same answers come from exact counts; the tests hold 
 each other.
 
 Grammar is document 01's bank, history its diary, unrank Give, rank Number, remaining Left and append
-Log; remaining_matching and draw_matching are Left and Draw with a pattern. Every call returns (refusal,
-figures.., buffer after), where refusal 0 means accepted.
+Log; remaining_matching and draw_matching are Left and Draw with a pattern, and draw_weighted is Draw with
+weights. Every call returns (refusal, figures.., buffer after), where refusal 0 means accepted.
 
   oracle.py check_grammar GRAMMAR             N W
   oracle.py check_history HISTORY             K
@@ -20,6 +20,7 @@ figures.., buffer after), where refusal 0 means accepted.
   oracle.py draw GRAMMAR HISTORY LENGTH VOICE Q      left number, then the buffer
   oracle.py remaining_matching GRAMMAR HISTORY VOICE BYTE..   the same, of the pattern's bytes
   oracle.py draw_matching GRAMMAR HISTORY VOICE Q BYTE..      the same, of the pattern's bytes
+  oracle.py draw_weighted GRAMMAR HISTORY LENGTH VOICE TICKET WEIGHT..   tickets number, then the buffer
   oracle.py append HISTORY VOICE PLAYED WORD..       K, then the buffer
   oracle.py listing INPUT                     what the listing program prints
 
@@ -27,12 +28,16 @@ GRAMMAR, HISTORY and INPUT are files, - is standard input, numbers are decimal. 
 is 16 zeros before the call.
 """
 import sys
+from bisect import bisect_right
 from functools import lru_cache
+from itertools import accumulate
 from itertools import chain as concat
+from math import prod
 from typing import NamedTuple
 
 MOST = 2**64 - 1  # opening paragraph: "counts and numbers have 64 bits"
 LISTED = 200_000  # the most derivations, over all needed pairs, that are listed as trees
+HANDED_OUT = 5_000  # the most tickets that are listed one by one
 WORD, PAIR = 0, 1  # Bank bytes: "The kind is 0 for a word rule, 1 for a pair rule"
 BLANK = 255  # document 02, U1: "Byte 255 is a blank"
 
@@ -211,6 +216,17 @@ class Grammar:
         """T(A, m) of every needed pair."""
         return [self.total(a, m) for a, m in self.needed(length)]
 
+    @memo
+    def weight(self, a, m, weights):
+        """Document 02, U7: a pair's "total weight", that of all its derivations."""
+        if m == 1:
+            return sum(weights[word] for _, word in self.words(a))
+        return sum(self.weight(b, k, weights) * self.weight(c, m - k, weights) for _, b, c, k in self.splits(a, m))
+
+    def total_weights(self, length, weights):
+        """The total weight of every needed pair."""
+        return [self.weight(a, m, weights) for a, m in self.needed(length)]
+
 
 @lru_cache(maxsize=4)
 def read(grammar):
@@ -222,6 +238,11 @@ def read(grammar):
 def fits(sentence, pattern):
     """Document 02, U1: "Byte 255 is a blank and any other byte is that word"."""
     return len(sentence) == len(pattern) and all(byte in (BLANK, word) for word, byte in zip(sentence, pattern))
+
+
+def weight_of(sentence, weights):
+    """Document 02, U7: "A derivation weighs the product of its words' weights"."""
+    return prod(weights[word] for word in sentence)
 
 
 class Listed:
@@ -278,6 +299,26 @@ class Listed:
 
     def draw_fitting(self, heard, pattern, q):
         return self.unheard_fitting(heard, pattern)[q]
+
+    @memo
+    def tickets_before(self, heard, weights):
+        """How many tickets there are before those of each unheard derivation; at the end, how many in all."""
+        return [*accumulate((weight_of(sentence, weights) for _, sentence in self.unheard(heard)), initial=0)]
+
+    def tickets(self, heard, weights):
+        return self.tickets_before(heard, weights)[-1]
+
+    @memo
+    def owners(self, heard, weights):
+        """Who owns each ticket, as one list: "Derivations take that many consecutive tickets each, in the old order,
+        heard ones none"."""
+        return [entry for entry in self.unheard(heard) for _ in range(weight_of(entry[1], weights))]
+
+    def owner(self, heard, weights, ticket):
+        """The derivation that owns the ticket."""
+        if self.tickets(heard, weights) <= HANDED_OUT:
+            return self.owners(heard, weights)[ticket]
+        return self.unheard(heard)[bisect_right(self.tickets_before(heard, weights), ticket) - 1]
 
 
 class Counted:
@@ -389,6 +430,43 @@ class Counted:
                 drawn = self.unrank_fitting(self.grammar.start, pattern, i)
         return drawn
 
+    def tickets(self, heard, weights):
+        struck = [self.sentence(number) for number in self.struck(heard)]
+        return self.grammar.weight(self.grammar.start, self.length, weights) - sum(weight_of(s, weights) for s in struck)
+
+    def share(self, a, m, weights, ticket):
+        """The derivation of a that owns the ticket where none is heard: its number, its sentence, and how many tickets
+        there are before its own. For each of its own a left half has the total weight of the right ones here; among
+        these a right half has, for each of its own, as many as the left one weighs."""
+        before = 0
+        if m == 1:
+            for d, (_, word) in enumerate(self.grammar.words(a)):
+                if ticket < before + weights[word]:
+                    return d, bytes([word]), before
+                before += weights[word]
+            raise IndexError(ticket)
+        number = 0
+        for _, b, c, k in self.grammar.splits(a, m):
+            rights, all_rights = self.grammar.weight(c, m - k, weights), self.grammar.total(c, m - k)
+            both = self.grammar.weight(b, k, weights) * rights
+            if ticket < before + both:
+                left, first, lefts_before = self.share(b, k, weights, (ticket - before) // rights)
+                before += lefts_before * rights
+                right, rest, rights_before = self.share(c, m - k, weights, (ticket - before) // weight_of(first, weights))
+                return number + left * all_rights + right, first + rest, before + weight_of(first, weights) * rights_before
+            before += both
+            number += self.grammar.total(b, k) * all_rights
+        raise IndexError(ticket)
+
+    def owner(self, heard, weights, ticket):
+        """A struck number that isn't above the number reached moves the ticket on by what its derivation weighs."""
+        drawn = self.share(self.grammar.start, self.length, weights, ticket)
+        for number in self.struck(heard):
+            if number <= drawn[0]:
+                ticket += weight_of(self.sentence(number), weights)
+                drawn = self.share(self.grammar.start, self.length, weights, ticket)
+        return drawn[:2]
+
 
 @lru_cache(maxsize=4)
 def full_list(grammar, length):
@@ -494,6 +572,13 @@ def pattern_lines(grammar, pattern):
     yield 21, any(byte != BLANK and byte >= grammar[1] for byte in pattern)
 
 
+def weights_lines(grammar, length, weights):
+    """Document 02, U7: "24, the weights are not W bytes or one is 0, after 10; 25, a needed pair's total weight is above
+    2^64 - 1, after 24"."""
+    yield 24, len(weights) != grammar[1] or 0 in weights
+    yield 25, any(weight > MOST for weight in read(grammar).total_weights(length, weights))
+
+
 def ambiguous_lines(grammar, history, length, voice):
     """Document 02, U4: "15 reads only records of the given voice", and U5: "15 reads only records played in full". With
     a pattern, U1: "15 still reads every diary sentence of that length"."""
@@ -517,6 +602,12 @@ def matching_lines(grammar, history, pattern, voice):
                   pattern_lines(grammar, pattern), history_lines(history), ambiguous_lines(grammar, history, length, voice))
 
 
+def weighted_lines(grammar, history, length, voice, weights):
+    return concat(grammar_lines(grammar), length_lines(length), voice_lines(voice), total_lines(grammar, length),
+                  weights_lines(grammar, length, weights), history_lines(history),
+                  ambiguous_lines(grammar, history, length, voice))
+
+
 def unrank_lines(grammar, length, number, buffer):
     yield 16, number >= full_list(grammar, length).total
     yield 20, len(buffer) < length
@@ -535,6 +626,12 @@ def draw_lines(grammar, history, length, voice, q, buffer):
 def draw_matching_lines(grammar, history, pattern, voice, q, buffer):
     length = len(pattern)
     yield 16, q >= full_list(grammar, length).left_fitting(heard_of(history, length, voice), pattern)
+    yield 20, len(buffer) < length
+
+
+def draw_weighted_lines(grammar, history, length, voice, weights, ticket, buffer):
+    """Document 02, U7: "A ticket at the total or above is 16; 15 and 20 hold as for the draw"."""
+    yield 16, ticket >= full_list(grammar, length).tickets(heard_of(history, length, voice), weights)
     yield 20, len(buffer) < length
 
 
@@ -635,6 +732,18 @@ def draw_matching(grammar, history, pattern, voice, q, buffer):
     return 0, full.left_fitting(barred, pattern), number, written(buffer, sentence)
 
 
+def draw_weighted(grammar, history, length, voice, weights, ticket, buffer):
+    """Document 02, U7: "It gives the sentence, derivation number and total of tickets"; here the total of tickets, the
+    derivation number, and the buffer, which begins with the sentence."""
+    refusal = first_that_applies(weighted_lines(grammar, history, length, voice, weights),
+                                 draw_weighted_lines(grammar, history, length, voice, weights, ticket, buffer))
+    if refusal:
+        return refusal, 0, 0, buffer
+    full, barred = full_list(grammar, length), heard_of(history, length, voice)
+    number, sentence = full.owner(barred, weights, ticket)
+    return 0, full.tickets(barred, weights), number, written(buffer, sentence)
+
+
 def append(buffer, sentence, voice, played):
     """Log: the new K and the buffer: "writes record K + 1 in full with next = old head, sets head and K
     to K + 1". "No other byte changes". Document 02, U4: "The high four bits of a record's fourth byte hold it", and U5:
@@ -679,7 +788,7 @@ def listing(data):
 
 # ---- Command line
 
-COMMANDS = {  # each call, how many files it takes, and how many numbers (None: some, and then a sentence or a pattern)
+COMMANDS = {  # each call, how many files it takes, and how many numbers (None: some, and then bytes)
     'check_grammar': (check_grammar, 1, 0),
     'check_history': (check_history, 1, 0),
     'count': (count, 1, 1),
@@ -689,6 +798,7 @@ COMMANDS = {  # each call, how many files it takes, and how many numbers (None: 
     'draw': (draw, 2, 3),
     'remaining_matching': (remaining_matching, 2, None),
     'draw_matching': (draw_matching, 2, None),
+    'draw_weighted': (draw_weighted, 2, None),
     'append': (append, 1, None),
     'listing': (listing, 1, 0),
 }
@@ -717,11 +827,12 @@ def main(name='', *args):
         sys.exit(__doc__)
     values = numbers
     if expected is None:
-        before = {rank: 0, remaining_matching: 1, draw_matching: 2, append: 2}[call]
+        before = {rank: 0, remaining_matching: 1, draw_matching: 2, draw_weighted: 3, append: 2}[call]
         if len(numbers) < before:
             sys.exit(__doc__)
-        values = [bytes(numbers[before:]), *numbers[:before]]
-    if call in (unrank, draw, draw_matching):
+        values = numbers[:before]
+        values.insert(2 if call is draw_weighted else 0, bytes(numbers[before:]))
+    if call in (unrank, draw, draw_matching, draw_weighted):
         values.append(bytes(16))
     result = call(*map(file_bytes, args[:files]), *values)
     print(result.decode(), end='') if call is listing else print(shown(*result))

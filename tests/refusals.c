@@ -59,7 +59,7 @@ int main(void) {
         /* word 0, then word 0 */
         {PUMPFENNEL_GRAMMAR_EQUAL_RULES, check_grammar(BYTES(1, 1, 2, 0, 1, 0, 0, 0, 2, 0, 0, 0, 0)), "two rules"},
         {PUMPFENNEL_BAD_LENGTH, pumpfennel_count(ONE, 17, &f), "1 to 16"},
-        {PUMPFENNEL_TOO_MANY_DERIVATIONS, pumpfennel_count(MANY, 16, &f), "2^64"},
+        {PUMPFENNEL_TOO_MANY_DERIVATIONS, pumpfennel_count(MANY, 16, &f), "a count that"},
         /* one record, and no bytes for it */
         {PUMPFENNEL_HISTORY_WRONG_SIZE, check_history(BYTES(1, 0, 1, 0)), "4 + 20K"},
         /* a sentence of no words */
@@ -84,6 +84,10 @@ int main(void) {
         {PUMPFENNEL_BAD_VOICE, pumpfennel_append(history, 4, BYTES(0), 16, 0, &f), "the voice is above"},
         /* no record, no room for one, and both of two words played */
         {PUMPFENNEL_BAD_PLAYED, pumpfennel_append(history, 4, BYTES(0, 0), 0, 2, &f), "played is the sentence's"},
+        /* two weights of one word, no history, and room for none */
+        {PUMPFENNEL_BAD_WEIGHTS, pumpfennel_draw_weighted(ONE, NULL, 0, 1, 0, BYTES(1, 1), 0, NULL, 0, &f, &g), "the weights are"},
+        /* sixteen words of weight 255, which is above 2^64, no history, and room for none */
+        {PUMPFENNEL_TOO_MANY_TICKETS, pumpfennel_draw_weighted(TREES, NULL, 0, 16, 0, BYTES(255), 0, NULL, 0, &f, &g), "total weight"},
     };
     const int count = sizeof rows / sizeof rows[0];
     int wrong = 0;

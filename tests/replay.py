@@ -132,7 +132,27 @@ def sampling_lines(library, data):
                 yield line + shown(buffer)
 
 
-LINES = {'grammar': grammar_lines, 'ranking': ranking_lines, 'history': history_lines, 'sampling': sampling_lines}
+def weighted_lines(library, data):
+    at, grammar, history, weights = 0, b'', b'', b''
+    while at < len(data):
+        call, length, voice, ticket = data[at], *(number(data[i:i + 8]) for i in (at + 1, at + 9, at + 17))
+        size = number(data[at + 25:at + 27])
+        rest = data[at + 27:at + 27 + size]
+        at += 27 + size
+        if call == 0:
+            grammar = rest
+        elif call == 1:
+            history = rest
+        elif call == 2:
+            weights = rest
+        else:
+            buffer = Lent([7] * len(rest))
+            given = (*shared(grammar), *shared(history), ctypes.c_uint64(length), ctypes.c_uint64(voice))
+            name, more = ('draw_weighted', shared(weights)) if call == 3 else ('draw', ())
+            yield library.call(name, (*given, *more, ctypes.c_uint64(ticket), *buffer.arguments()), 2) + shown(buffer)
+
+
+LINES = {'grammar': grammar_lines, 'ranking': ranking_lines, 'history': history_lines, 'sampling': sampling_lines, 'weighted': weighted_lines}
 
 
 def main():

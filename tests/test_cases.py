@@ -6,12 +6,14 @@ from pathlib import Path
 import oracle
 
 FIGURES = {'check_grammar': 2, 'check_history': 1, 'count': 1, 'unrank': 1, 'rank': 3, 'remaining': 3, 'remaining_matching': 3, 'draw': 2,
-           'draw_matching': 2, 'append': 1}
-LENT = {'unrank': 'sentence', 'draw': 'sentence', 'draw_matching': 'sentence', 'append': 'history'}  # the buffer that a call writes
+           'draw_matching': 2, 'draw_weighted': 2, 'append': 1}
+LENT = {'unrank': 'sentence', 'draw': 'sentence', 'draw_matching': 'sentence', 'draw_weighted': 'sentence',
+        'append': 'history'}  # the buffer that a call writes
 # the order of every call's arguments; a case of these calls without a voice has voice 0, and one of Log without words played has all
 ORDER = {'remaining': ['grammar', 'history', 'length', 'voice'], 'draw': ['grammar', 'history', 'length', 'voice', 'number', 'sentence'],
          'remaining_matching': ['grammar', 'history', 'pattern', 'voice'],
          'draw_matching': ['grammar', 'history', 'pattern', 'voice', 'number', 'sentence'],
+         'draw_weighted': ['grammar', 'history', 'length', 'voice', 'weights', 'number', 'sentence'],
          'append': ['history', 'sentence', 'voice', 'played']}
 PLAIN = ['grammar', 'history', 'length', 'number', 'sentence']  # of the others
 

@@ -63,24 +63,24 @@ class Generate(unittest.TestCase):
         self.assertEqual(self.run_tool(), (0, [], ''))
 
     def test_a_new_refusal_comes_to_every_language(self):
-        self.write('refusals.txt', self.read('refusals.txt') + '24 BadWeights: a weight is 0\n')
+        self.write('refusals.txt', self.read('refusals.txt') + '26 BadUnions: a type is above 3\n')
         self.check_differ(MARKED + CRATES)
         for name, lines in {
                 'include/pumpfennel.h': [
-                    '    /* A weight is 0. */\n    PUMPFENNEL_BAD_WEIGHTS = 24\n};',
-                    '    case PUMPFENNEL_BAD_WEIGHTS:\n        return "a weight is 0";\n'],
+                    '    /* A type is above 3. */\n    PUMPFENNEL_BAD_UNIONS = 26\n};',
+                    '    case PUMPFENNEL_BAD_UNIONS:\n        return "a type is above 3";\n'],
                 'bindings/rust/src/refusal.rs': [
-                    '    /// A weight is 0.\n    BadWeights = 24,\n}',
-                    'ALL: [Refusal; 24] = [\n', '        Refusal::BadWeights,\n    ];',
-                    '            Refusal::BadWeights => "a weight is 0",\n'],
-                'README.md': ['| 24 | `BadWeights` | a weight is 0 |\n\n'],
-                'crates/answers/src/refusal.rt': ['    BadWeights,\n}', '        Refusal::BadWeights => 24,\n    }'],
+                    '    /// A type is above 3.\n    BadUnions = 26,\n}',
+                    'ALL: [Refusal; 26] = [\n', '        Refusal::BadUnions,\n    ];',
+                    '            Refusal::BadUnions => "a type is above 3",\n'],
+                'README.md': ['| 26 | `BadUnions` | a type is above 3 |\n\n'],
+                'crates/answers/src/refusal.rt': ['    BadUnions,\n}', '        Refusal::BadUnions => 26,\n    }'],
                 'crates/answers/specs/Inner/Refusals.antt': [
-                    ', BadWeights}\n', '-- a weight is 0\nrefusalNumber BadWeights = 24\n'],
-                'crates/answers/proofs/Numbers.antt': [', BadWeights}\n', 'number-some BadWeights = lit< tt\n'],
-                'crates/answers/proofs/refusal/number/Proof.antt': ['    (λ c. rw (c .enum-told23 .given .1)))\n'],
+                    ', BadUnions}\n', '-- a type is above 3\nrefusalNumber BadUnions = 26\n'],
+                'crates/answers/proofs/Numbers.antt': [', BadUnions}\n', 'number-some BadUnions = lit< tt\n'],
+                'crates/answers/proofs/refusal/number/Proof.antt': ['    (λ c. rw (c .enum-told25 .given .1)))\n'],
                 'crates/listing/src/meanings.rt': [
-                    '        Refusal::BadWeights => say(b"listing: refused: a weight is 0\\n"),\n    }']}.items():
+                    '        Refusal::BadUnions => say(b"listing: refused: a type is above 3\\n"),\n    }']}.items():
             for line in lines:
                 self.assertIn(line, self.read(name), name)
 
@@ -93,7 +93,7 @@ class Generate(unittest.TestCase):
                     '    /* No longer returned: a rule is on no chain. */\n    PUMPFENNEL_GRAMMAR_RULE_ON_NO_CHAIN = 7,\n',
                     '    case PUMPFENNEL_GRAMMAR_RULE_ON_NO_CHAIN:\n        return "a rule is on no chain";\n'],
                 'bindings/rust/src/refusal.rs': [
-                    '    /// No longer returned: a rule is on no chain.\n    GrammarRuleOnNoChain = 7,\n', 'ALL: [Refusal; 23] = [\n'],
+                    '    /// No longer returned: a rule is on no chain.\n    GrammarRuleOnNoChain = 7,\n', 'ALL: [Refusal; 25] = [\n'],
                 'README.md': ['| 7 | `GrammarRuleOnNoChain` | no longer returned: a rule is on no chain |\n'],
                 'crates/answers/src/refusal.rt': ['    GrammarRuleMetTwice,\n    GrammarEqualRules,\n', 'Refusal::GrammarEqualRules => 8,\n']}.items():
             for line in lines:
@@ -149,14 +149,14 @@ class Generate(unittest.TestCase):
 
     def test_wrong_lists(self):
         good = self.read('refusals.txt')
-        for line in ['24', '24 Name', '24 Name words', '24 name: words', '24 Two Names: words', '24 Name: ',
-                     '24 Name, no longer: words', '24 Name: words.', '24 Name: a "word"', '24 Name: a | b', '24 Name: a */ b', '24 Name: a \\ b', '24 Name: naïve']:
+        for line in ['26', '26 Name', '26 Name words', '26 name: words', '26 Two Names: words', '26 Name: ',
+                     '26 Name, no longer: words', '26 Name: words.', '26 Name: a "word"', '26 Name: a | b', '26 Name: a */ b', '26 Name: a \\ b', '26 Name: naïve']:
             with self.subTest(line):
                 self.write('refusals.txt', good + line + '\n')
                 self.check_refused('is not a number, a name, a colon and plain words')
-        for line, said in [('23 Name: words', 'the number 23, not one from 24 to 255'), ('21 Name: words', 'the number 21, not one from 24 to 255'),
-                           ('256 Name: words', 'the number 256, not one from 24 to 255'), ('24 BadLength: words', 'says what 9 says'),
-                           ('24 Name: a rule is on no chain', 'says what 7 says')]:
+        for line, said in [('25 Name: words', 'the number 25, not one from 26 to 255'), ('23 Name: words', 'the number 23, not one from 26 to 255'),
+                           ('256 Name: words', 'the number 256, not one from 26 to 255'), ('26 BadLength: words', 'says what 9 says'),
+                           ('26 Name: a rule is on no chain', 'says what 7 says')]:
             with self.subTest(line):
                 self.write('refusals.txt', good + line + '\n')
                 self.check_refused(said)

@@ -6,6 +6,8 @@ or what CC and CXX name.
 """
 import collections
 import functools
+import itertools
+import math
 import os
 import pathlib
 import re
@@ -18,7 +20,8 @@ import unittest.mock
 import listings
 import oracle
 import vectors
-from generate import Rng, ambiguous, brimful, damaged, grammar, history, pair, random_damage, reaching, word
+from generate import (BESIDE, LADEN, Rng, ambiguous, beside_nothing, brimful, damaged, grammar, history, laden, pair, random_damage,
+                      reaching, word)
 from one_more_log import Asked, check_alone, check_unmoved, large_questions, play, questions
 from oracle import F, G
 
@@ -27,7 +30,8 @@ HEADER = ROOT / 'include' / 'pumpfennel.h'
 ARCHIVE = ROOT / 'target' / 'staticlib' / 'libpumpfennel.a'
 STRICT = ['-Wall', '-Wextra', '-Werror']
 MOST = oracle.MOST
-CALLS = ['check_grammar', 'check_history', 'count', 'unrank', 'rank', 'remaining', 'remaining_matching', 'draw', 'draw_matching', 'append']
+CALLS = ['check_grammar', 'check_history', 'count', 'unrank', 'rank', 'remaining', 'remaining_matching', 'draw', 'draw_matching', 'draw_weighted',
+         'append']
 BLANK = oracle.BLANK
 
 
@@ -161,6 +165,10 @@ def value_of(word):
     return bytes.fromhex(word[1:]) if word.startswith('x') else int(word)
 
 
+def bytes_of(word):
+    return b'' if word == 'null' else bytes.fromhex(word[1:])
+
+
 def call_line(call, *args):
     return ' '.join([call, *map(word_of, args)])
 
@@ -216,6 +224,34 @@ def cases_of(length, bank, diary, voice=0):
         yield 'draw_matching', bank, diary, blanks, other, 0, old
     for room in (16, length, max(length, 1) - 1, 0):
         yield 'draw_matching', bank, diary, blanks, voice, 0, old[:room]
+    ones = vectors.ones(bank)
+    for weights in weights_of(len(ones)):
+        yield from weighted_cases(bank, diary, length, voice, weights)
+    for other in (15 - voice, 15, 16, 256 + voice, MOST):
+        yield 'draw_weighted', bank, diary, length, other, ones, 0, old
+    for room in (16, length, max(length, 1) - 1, 0):
+        yield 'draw_weighted', bank, diary, length, voice, ones, 0, old[:room]
+    for number in in_64_bits(left // 2, left - 1, left, left + 1, total):
+        yield 'draw_weighted', bank, diary, length, voice, ones, number, old
+
+
+def weights_of(words):
+    """Ones, small ones, any, 255 alone; a 0 at each end; one too few, one too many, and none."""
+    yield b'\1' * words
+    yield bytes(1 + place % 3 for place in range(words))
+    yield bytes(1 + 37 * place % 255 for place in range(words))
+    yield b'\377' * words
+    for wrong in ([0] + [1] * (words - 1), [1] * (words - 1) + [0], [1] * (words - 1), [1] * (words + 1), []):
+        yield bytes(wrong)
+
+
+def weighted_cases(bank, diary, length, voice, weights, about=()):
+    """Draw with weights, at the ends and in the middle of the tickets and about others; a buffer that is too short."""
+    tickets = oracle.draw_weighted(bank, diary, length, voice, weights, 0, bytes(16))[1]
+    for ticket in in_64_bits(0, 1, tickets // 3, tickets // 2, tickets - 1, tickets, MOST, *about) if tickets else [0]:
+        yield 'draw_weighted', bank, diary, length, voice, weights, ticket, b'\7' * 18
+    if tickets:
+        yield 'draw_weighted', bank, diary, length, voice, weights, 0, b'\7' * (length - 1)
 
 
 def patterns_of(size, bank, sentences):
@@ -265,6 +301,8 @@ def full_diaries():
         yield 'draw', bank, history(heard), 16, 0, 60000, bytes(16)
         for pattern in (bytes([BLANK]) * 16, heard[-1][:1] + bytes([BLANK]) * 15, heard[-1][:8] + bytes([BLANK]) * 8, heard[-1]):
             yield from matching_cases(bank, history(heard), pattern, 0)
+        for weights in (b'\1\1', b'\1\2', b'\7\3'):
+            yield from weighted_cases(bank, history(heard), 16, 0, weights)
         yield 'append', history(heard[1:], slack=bytes(20)), heard[0], 0, 0
 
 
@@ -344,6 +382,47 @@ def patterned_diaries():
                 yield from matching_cases(oracle.matrix(), diary, pattern, voice)
 
 
+def weighted_diaries():
+    """The traps; every ticket of short lists; every weight and every byte of a diary; totals up to 2^64 - 1 and what is needed; the house bank
+    with diaries of up to a thousand records."""
+    for _, _, bank, diary, length, voice, weights, ticket, room in vectors.WEIGHT_TRAPS:
+        yield 'draw_weighted', bank, diary, length, voice, weights, ticket, b'\7' * room
+    for weights in (b'\3\2', b'\1\5', b'\4\4'):
+        for length in (2, 3):
+            for voice in (0, 5, 15):
+                tickets = oracle.draw_weighted(F, vectors.HEARD, length, voice, weights, 0, bytes(3))[1]
+                yield from (('draw_weighted', F, vectors.HEARD, length, voice, weights, ticket, b'\7' * 4) for ticket in range(tickets + 2))
+    for byte in range(256):
+        yield from weighted_cases(F, vectors.HEARD, 3, 0, bytes([byte, 2]))
+        yield from weighted_cases(F, vectors.HEARD, 3, 0, bytes([7, byte]))
+        for bank, weights in ((G, b'\5'), (F, b'\3\2'), (largest_bank(), bytes(1 + 37 * place % 255 for place in range(255)))):
+            yield from weighted_cases(bank, history([bytes([byte]), bytes([byte, 1]), bytes([0, byte])], [2, 3, 1]), bank[0] % 2 + 1, 0, weights)
+    for bank, sentences in ambiguous().values():
+        for sentence in sentences:
+            for diary in (history([]), history([sentence]), history([sentence], voices=[3]), history([sentence], played=[len(sentence) // 2])):
+                for weights in (vectors.ones(bank), bytes([3, 2, 4][:bank[1]]), bytes([255, 1, 9][:bank[1]])):
+                    yield from weighted_cases(bank, diary, len(sentence), 0, weights)
+    borders = [sum(vectors.LADEN_WEIGHTS[:i]) + beside for i in range(9) for beside in (-1, 0)]
+    for extra in (0, 1):
+        for heard in ([], [[2] * 14], [[3] * 14, [3] * 6 + [2] * 8]):
+            diary = history([*(bytes([0, 1] + words) for words in heard), vectors.LAST])
+            yield from weighted_cases(laden(extra), diary, 16, 0, LADEN, borders)
+        for length in range(1, 17):
+            yield from weighted_cases(beside_nothing(extra), history([]), length, 0, BESIDE)
+    for bank, _ in reaching([vectors.HEAVY]).values():
+        for length in range(1, 17):
+            yield from weighted_cases(bank, history([]), length, 0, vectors.weighing(240, (vectors.HEAVY, 255)))
+    rng = Rng(50)
+    said = [oracle.unrank(oracle.matrix(), 5, 31000 + rng.below(1000), bytes(5))[2] for _ in range(1000)]
+    for many in (1, 99, 100, 101, 1000):
+        voices, played = [rng.choice([0, 0, 9]) for _ in range(many)], [rng.choice([0, 0, 4]) for _ in range(many)]
+        diary = history(said[:many], rng.shuffled(range(1, many + 1)), voices=voices, played=played)
+        for weights in (vectors.ones(oracle.matrix()), bytes(1 + 37 * place % 255 for place in range(50))):
+            for voice in (0, 9):
+                tickets = oracle.draw_weighted(oracle.matrix(), diary, 5, voice, weights, 0, bytes(5))[1]
+                yield from weighted_cases(oracle.matrix(), diary, 5, voice, weights, [rng.below(tickets) for _ in range(30)])
+
+
 def all_cases():
     for length in (1, 2, 3, 16):
         yield from cases_of(length, F, history([bytes([0, 1])]))
@@ -366,6 +445,7 @@ def all_cases():
     yield from voiced_diaries()
     yield from broken_off_diaries()
     yield from patterned_diaries()
+    yield from weighted_diaries()
     for bank, diary in [(b'', b''), (F, b''), (b'', bytes(4)), (largest_bank(), full_diary(1000)), (F, full_diary(1001))]:
         yield from cases_of(1, bank, diary)
     for _, _, bank in vectors.TRAPS:
@@ -380,6 +460,8 @@ def all_cases():
         for pattern in (bytes([BLANK, 1]), bytes([BLANK, BLANK])):
             yield 'remaining_matching', F, diary, pattern, 0
             yield 'draw_matching', F, diary, pattern, 0, 1, bytes(2)
+        for weights in (b'\3\2', b'\1\1'):
+            yield 'draw_weighted', F, diary, 2, 0, weights, 1, bytes(2)
     rng = Rng(41)
     for length, bank, diary in listings.random_listings(rng, 40):
         yield from cases_of(length, bank, diary)
@@ -414,7 +496,8 @@ class Calls(unittest.TestCase):
         self.assertEqual(met, {
             'check_grammar': bank, 'check_history': diary, 'count': bank | {9, 10}, 'unrank': bank | {9, 10, 16, 20},
             'rank': bank | {9, 10, 17}, 'remaining': left, 'remaining_matching': left | {21},
-            'draw': left | {16, 20}, 'draw_matching': left | {16, 20, 21}, 'append': diary | {9, 19, 22, 23}})
+            'draw': left | {16, 20}, 'draw_matching': left | {16, 20, 21}, 'draw_weighted': left | {16, 20, 24, 25},
+            'append': diary | {9, 19, 22, 23}})
 
     def test_blanks_only_answer_as_the_plain_calls(self):
         """With every refusal that both can have."""
@@ -444,6 +527,38 @@ class Calls(unittest.TestCase):
                 compared['none' if refusal else 'heard' if heard else min(count, 2)] += 1
         self.assertGreater(min(compared[kind] for kind in ('none', 'heard', 1, 2)), 10, compared)
 
+    def test_ones_answer_as_the_plain_draw(self):
+        """With every refusal that it can have."""
+        answers, compared = dict(zip(self.expected, self.lines)), collections.Counter()
+        for call, line in answers.items():
+            name, *args = call.split()
+            if name == 'draw_weighted' and bytes_of(args[4]) == vectors.ones(bytes_of(args[0])):
+                plain = ' '.join(['draw', *args[:4], *args[5:]])
+                if plain in answers:
+                    self.assertEqual(line, answers[plain], call)
+                    compared[int(line.split()[0])] += 1
+        self.assertEqual(set(compared), {*range(17), 20, 22})
+        self.assertGreater(sum(compared.values()), 1000)
+
+    def test_each_derivation_owns_its_weight(self):
+        """Of the questions of which all tickets are there: consecutive ones, as many as the product of the words' weights."""
+        drawn, owners, several = collections.defaultdict(dict), 0, 0  # by question, each ticket's answer
+        for call, line in zip(self.expected, self.lines):
+            name, *args = call.split()
+            if name == 'draw_weighted' and line.startswith('0 '):
+                _, tickets, number, buffer = line.split()
+                drawn[tuple(args[:5])][int(args[5])] = int(tickets), int(number), bytes_of(buffer)[:int(args[2])]
+        for (*_, weights), given in drawn.items():
+            total, weights = next(iter(given.values()))[0], bytes_of(weights)
+            if len(given) == total:
+                runs = [(*owner, len([*run])) for owner, run in itertools.groupby(given[ticket][1:] for ticket in range(total))]
+                self.assertEqual([many for *_, many in runs], [math.prod(weights[word] for word in sentence) for _, sentence, _ in runs])
+                numbers = [number for number, *_ in runs]
+                self.assertEqual(numbers, sorted(set(numbers)))
+                owners += len(runs)
+                several += len({many for *_, many in runs}) > 1
+        self.assertGreater(min(owners // 20, several), 15, (owners, several))
+
     def test_null_with_length_0(self):
         """It stood for every pointer that has a length, and the answer was that for a run of no bytes."""
         met = collections.defaultdict(set)
@@ -452,12 +567,12 @@ class Calls(unittest.TestCase):
             met[name].update(place for place, arg in enumerate(args) if arg == 'null')
         self.assertEqual(met, {'check_grammar': {0}, 'check_history': {0}, 'count': {0}, 'unrank': {0, 3}, 'rank': {0, 1},
                                'remaining': {0, 1}, 'remaining_matching': {0, 1, 2}, 'draw': {0, 1, 5}, 'draw_matching': {0, 1, 2, 5},
-                               'append': {0, 1}})
+                               'draw_weighted': {0, 1, 4, 6}, 'append': {0, 1}})
 
     def test_stack(self):
         """No call takes more than the header says, and one of its kind takes more than half of that."""
         used = dict(zip(CALLS, map(int, self.lines[-1].split())))
-        matching = {call: used.pop(call) for call in ('remaining_matching', 'draw_matching')}
+        matching = {call: used.pop(call) for call in ('remaining_matching', 'draw_matching', 'draw_weighted')}
         large = {call: used.pop(call) for call in ('rank', 'remaining', 'draw')}
         for most, taken in [(limit('MATCHING_STACK'), matching), (limit('LARGE_STACK'), large), (limit('SMALL_STACK'), used)]:
             self.assertLess(max(taken.values()), most, taken)

@@ -110,6 +110,7 @@ class Refusals(unittest.TestCase):
             self.assertEqual(oracle.draw(bad, b'', 0, 0, 0, b'\7'), (refusal, 0, 0, b'\7'))
             self.assertEqual(oracle.remaining_matching(bad, b'', b'', 0), (refusal, 0, 0, 0))
             self.assertEqual(oracle.draw_matching(bad, b'', b'', 0, 0, b'\7'), (refusal, 0, 0, b'\7'))
+            self.assertEqual(oracle.draw_weighted(bad, b'', 0, 16, b'', 0, b'\7'), (refusal, 0, 0, b'\7'))
 
     def test_length(self):
         for length in (0, 17, 255, 256, PAST):
@@ -117,6 +118,7 @@ class Refusals(unittest.TestCase):
             self.assertEqual(oracle.unrank(F, length, PAST, b''), (9, 0, b''))
             self.assertEqual(oracle.remaining(F, b'', length, 0), (9, 0, 0, 0))
             self.assertEqual(oracle.draw(F, b'', length, 0, PAST, b''), (9, 0, 0, b''))
+            self.assertEqual(oracle.draw_weighted(F, b'', length, 16, b'', PAST, b''), (9, 0, 0, b''))
         self.assertEqual(oracle.rank(F, b''), (9, 0, 0, 0))
         self.assertEqual(oracle.rank(F, bytes(17)), (9, 0, 0, 0))
 
@@ -508,6 +510,165 @@ class Patterns(unittest.TestCase):
         self.assertEqual(oracle.draw_matching(full, EMPTY, b'\377' * 16, 0, PAST - 1, bytes(16)), (0, PAST, PAST - 1, sentence))
 
 
+class Weights(unittest.TestCase):
+    """Document 02, U7: "Derivations take that many consecutive tickets each, in the old order, heard ones none"."""
+
+    def check_owners(self, grammar, diary, length, weights, owners, voice=0):
+        """These derivation numbers, sentences and weights are all that Draw with weights gives, one after the other."""
+        total = sum(weight for *_, weight in owners)
+        first = 0
+        for number, sentence, weight in owners:
+            for ticket in sorted({first, first + 1, first + weight // 2, first + weight - 2, first + weight - 1} & {*range(first, first + weight)}):
+                answer = oracle.draw_weighted(grammar, diary, length, voice, weights, ticket, b'\7' * 17)
+                self.assertEqual(answer, (0, total, number, sentence + b'\7' * (17 - length)), ticket)
+            first += weight
+        for ticket in {total, PAST}:
+            self.assertEqual(oracle.draw_weighted(grammar, diary, length, voice, weights, ticket, b'\7' * 17), (16, 0, 0, b'\7' * 17))
+
+    def test_every_sentence_of_f(self):
+        weights = bytes([3, 2])
+        self.check_owners(F, EMPTY, 2, weights, [(0, b'\0\0', 9), (1, b'\0\1', 6), (2, b'\1\0', 6), (3, b'\1\1', 4)])
+        self.check_owners(F, HEARD_01, 2, weights, [(0, b'\0\0', 9), (2, b'\1\0', 6), (3, b'\1\1', 4)])
+        self.check_owners(F, HEARD_01, 2, weights, [(0, b'\0\0', 9), (1, b'\0\1', 6), (2, b'\1\0', 6), (3, b'\1\1', 4)], voice=1)
+        self.check_owners(F, EMPTY, 1, weights, [])
+        self.check_owners(F, history([bytes([0, 0]), bytes([1, 1]), bytes([0, 0])]), 2, bytes([255, 1]), [(1, b'\0\1', 255), (2, b'\1\0', 255)])
+
+    def test_the_remainder_is_not_the_right_halfs_ticket(self):
+        """The left word weighs 3: its nine tickets are three of each ticket of the right half, not the three in turn."""
+        given = [oracle.draw_weighted(F, EMPTY, 2, 0, bytes([3, 1]), ticket, bytes(2))[2] for ticket in range(16)]
+        self.assertEqual(given, [0] * 9 + [1] * 3 + [2] * 3 + [3])
+
+    def test_the_house_bank(self):
+        """Words 3 and 45 weigh 20 and 5: the first group 29, the last one 14. The sentences before word 3 weigh 14,000 for each word."""
+        weights = generate.damaged(b'\1' * 50, [(3, 20), (45, 5)])
+        heard = history([bytes([3, 11, 24, 31, 45]), bytes([0, 10, 20, 30, 40])])
+        for ticket, number, sentence in [(0, 1, [0, 10, 20, 30, 41]), (4, 5, [0, 10, 20, 30, 45]), (8, 5, [0, 10, 20, 30, 45]), (9, 6, [0, 10, 20, 30, 46]),
+                                         (41998, 29999, [2, 19, 29, 39, 49]), (41999, 30000, [3, 10, 20, 30, 40]), (42018, 30000, [3, 10, 20, 30, 40]),
+                                         (42019, 30001, [3, 10, 20, 30, 41]), (405898, 99999, [9, 19, 29, 39, 49])]:
+            self.assertEqual(oracle.draw_weighted(oracle.matrix(), heard, 5, 0, weights, ticket, bytes(5)), (0, 405899, number, bytes(sentence)))
+        self.assertEqual(oracle.draw_weighted(oracle.matrix(), heard, 5, 0, weights, 405899, bytes(5)), (16, 0, 0, bytes(5)))
+
+    def test_ambiguous_sentences(self):
+        """Each derivation owns its own tickets, also where two have one sentence."""
+        self.check_owners(G, EMPTY, 3, bytes([2]), [(0, bytes(3), 8), (1, bytes(3), 8)])
+        grammar, sentences = generate.ambiguous()['by the chain']
+        self.check_owners(grammar, EMPTY, 2, bytes([3, 5]), [(0, b'\1\0', 15), (1, b'\0\0', 9), (2, b'\0\0', 9)])
+        self.check_owners(grammar, history([b'\1\0']), 2, bytes([3, 5]), [(1, b'\0\0', 9), (2, b'\0\0', 9)])
+        self.assertEqual(oracle.draw_weighted(grammar, history([b'\0\0']), 2, 0, bytes([3, 5]), PAST, b''), (15, 0, 0, b''))
+
+    def test_heard_means_what_it_means_for_the_plain_draw(self):
+        """In the voice, played in full, with one derivation; repeated ones once; words that have no weight bar nothing."""
+        said = [b'\1\1\0', b'\0\0\1', b'\1\1\0', b'\1\1', b'\0\1\2', b'\377\1\0', b'\1\0\0', b'\0\0\0']
+        diary = history(said, [3, 1, 7, 2, 6, 5, 4, 8], voices=[9, 9, 9, 9, 9, 9, 9, 4], played=[0, 0, 0, 0, 0, 0, 1, 0])
+        weighed = [(d, bytes([d >> 2, d >> 1 & 1, d & 1]), 3 ** (3 - d.bit_count()) * 2 ** d.bit_count()) for d in range(8)]
+        self.check_owners(F, diary, 3, bytes([3, 2]), [entry for entry in weighed if entry[0] not in (1, 6)], voice=9)
+        self.check_owners(F, diary, 3, bytes([3, 2]), weighed[1:], voice=4)
+        self.check_owners(F, diary, 3, bytes([3, 2]), weighed)
+
+    def test_ones(self):
+        """They agree with the plain draw on every input: refused ones, other voices, large counts, no length and seventeen."""
+        broken, met = history([bytes([0, 1])], voices=[3], played=[1]), set()
+        for grammar in (F, G, F[:-1], b'', oracle.matrix(), oracle.f_words(16), generate.brimful()):
+            weights = b'\1' * (grammar[1] if grammar else 0)
+            for diary in (EMPTY, HEARD_01, broken, history([bytes(3)]), b'', bytes([0, 0, 1, 0])):
+                for length in (0, 1, 2, 3, 5, 15, 16, 17):
+                    if grammar == G and length > 5:
+                        continue
+                    for voice in (0, 3, 16):
+                        left = oracle.remaining(grammar, diary, length, voice)[3]
+                        for q in {0, 1, left // 2, max(left, 1) - 1, left, PAST}:
+                            for buffer in (b'\7' * 18, b'\7'):
+                                plain = oracle.draw(grammar, diary, length, voice, q, buffer)
+                                self.assertEqual(oracle.draw_weighted(grammar, diary, length, voice, weights, q, buffer), plain)
+                                met.add(plain[0])
+        self.assertEqual(met, {0, 1, 3, 9, 10, 11, 13, 15, 16, 20, 22})
+
+    def test_how_many_weights(self):
+        """24 where they are not W bytes; every W, and one less and one more."""
+        for words in (1, 2, 3, 50, 127, 128, 253):
+            grammar = oracle.f_words(words)
+            for size in {0, 1, words - 1, words, words + 1, 2 * words, 254, 255, 256, 256 + words}:
+                refusal = oracle.draw_weighted(grammar, EMPTY, 2, 0, b'\2' * size, 0, bytes(2))[0]
+                self.assertEqual(refusal, 0 if size == words else 24, (words, size))
+
+    def test_a_weight_of_0(self):
+        """24 wherever it stands, for a word that no rule has too; such a word's weight makes no other difference."""
+        for words in (2, 5, 255):
+            grammar = generate.damaged(F, [(1, words)])
+            self.assertEqual(oracle.check_grammar(grammar), (0, 2, words))
+            for place in range(words):
+                weights = generate.damaged(b'\2' * words, [(place, 0)])
+                self.assertEqual(oracle.draw_weighted(grammar, EMPTY, 2, 0, weights, 0, b'\7\7'), (24, 0, 0, b'\7\7'))
+            for value in (1, 7, 255):
+                weights = bytes([3, 2]) + bytes([value]) * (words - 2)
+                self.assertEqual(oracle.draw_weighted(grammar, HEARD_01, 2, 0, weights, 14, bytes(2)), (0, 19, 2, b'\1\0'))
+
+    def test_order_of_refusals(self):
+        """9, 22, 10, 24, 25, 11: each before the next, and 15, 16 and 20 after them."""
+        large = oracle.f_words(16)
+        for grammar, length, voice, weights, refusal in [
+                (large[:-1], 0, 16, b'', 3), (large, 0, 16, b'', 9), (large, 17, 16, b'', 9), (large, 16, 16, b'', 22), (large, 16, 15, b'', 10),
+                (large, 16, 15, bytes([255] * 16), 10), (large, 15, 15, bytes([255] * 15 + [0]), 24), (large, 15, 15, bytes([255] * 17), 24),
+                (large, 15, 15, bytes([255] * 16), 25), (large, 15, 15, bytes([1] * 16), 11)]:
+            self.assertEqual(oracle.draw_weighted(grammar, b'', length, voice, weights, PAST, b'\7'), (refusal, 0, 0, b'\7'))
+        for diary, ticket, refusal in [(bytes([0, 0, 1, 0]), PAST, 13), (EMPTY, 25, 16), (EMPTY, 24, 20), (HEARD_01, 19, 16), (HEARD_01, 18, 20)]:
+            self.assertEqual(oracle.draw_weighted(F, diary, 2, 0, bytes([3, 2]), ticket, b'\7'), (refusal, 0, 0, b'\7'))
+        self.assertEqual(oracle.draw_weighted(G, history([bytes(3)]), 3, 0, b'\2', PAST, b''), (15, 0, 0, b''))
+        self.assertEqual(oracle.draw_weighted(G, history([bytes(9)]), 9, 0, b'\377', PAST, b''), (25, 0, 0, b''))
+
+    def test_as_many_tickets_as_there_can_be(self):
+        """2^64 - 1 of them; one more is 25, also where a heard derivation has it."""
+        weights = [255 * two * four * eight for two in (256, 1) for four in (65536, 1) for eight in (2**32, 1)]
+        self.assertEqual(sum(weights), PAST)
+        sentences = [bytes([0, 1] + two * 2 + four * 4 + eight * 8) for two in ([2], [3]) for four in ([2], [3]) for eight in ([2], [3])]
+        first = 0
+        for number, (weight, sentence) in enumerate(zip(weights, sentences)):
+            for ticket in (first, first + weight - 1):
+                answer = oracle.draw_weighted(generate.laden(), EMPTY, 16, 0, generate.LADEN, ticket, bytes(16))
+                self.assertEqual(answer, (0, PAST, number, sentence))
+            first += weight
+        self.assertEqual(oracle.draw_weighted(generate.laden(), EMPTY, 16, 0, generate.LADEN, PAST, bytes(16)), (16, 0, 0, bytes(16)))
+        for diary in (EMPTY, history([b'\3' * 16]), history([sentences[0]])):
+            self.assertEqual(oracle.draw_weighted(generate.laden(1), diary, 16, 0, generate.LADEN, 0, bytes(16)), (25, 0, 0, bytes(16)))
+        heard = history([sentences[0], sentences[7]])
+        answer = oracle.draw_weighted(generate.laden(), heard, 16, 0, generate.LADEN, weights[1], bytes(16))
+        self.assertEqual(answer, (0, PAST - weights[0] - 255, 2, sentences[2]))
+
+    def test_large_totals(self):
+        """By the total weights: word 14 of 15 weighs 200, so a word of eight weighs 214 in all. First none is heard, then sentences at the
+        beginning, in the middle and at the end."""
+        grammar, weights, total = oracle.f_words(15), b'\1' * 14 + b'\310', 214**8
+        middle, first, last = bytes([14] + [0] * 7), 14 * 214**7, bytes([14] * 8)
+        behind, before_last = bytes([14] + [0] * 6 + [1]), bytes([14] * 7 + [13])
+        for heard, lost, owners in [
+                ([], 0, [(0, 0, bytes(8)), (1, 1, bytes([0] * 7 + [1])), (first, 14 * 15**7, middle), (first + 199, 14 * 15**7, middle),
+                         (first + 200, 14 * 15**7 + 1, behind), (total - 200**8, 15**8 - 1, last), (total - 200**8 - 1, 15**8 - 2, before_last)]),
+                ([bytes(8), middle], 201, [(0, 1, bytes([0] * 7 + [1])), (first - 1, 14 * 15**7 + 1, behind), (total - 202, 15**8 - 1, last)]),
+                ([last, bytes([14] * 6), bytes([15] * 8), last, middle], 200**8 + 200, [(first, 14 * 15**7 + 1, behind), (0, 0, bytes(8)),
+                                                                                       (total - 200**8 - 201, 15**8 - 2, before_last)])]:
+            diary = history(heard, range(len(heard), 0, -1))
+            for ticket, number, sentence in owners:
+                self.assertEqual(oracle.draw_weighted(grammar, diary, 8, 0, weights, ticket, bytes(8)), (0, total - lost, number, sentence))
+            self.assertEqual(oracle.draw_weighted(grammar, diary, 8, 0, weights, total - lost, bytes(8)), (16, 0, 0, bytes(8)))
+
+    def test_only_total_weights_of_needed_pairs_must_fit(self):
+        heavy = generate.damaged(b'\1' * 240, [(239, 255)])
+        for name, (grammar, refused) in generate.reaching([239]).items():
+            with self.subTest(name):
+                for length in range(1, 17):
+                    total = oracle.count(grammar, length)[1]
+                    self.assertEqual(oracle.draw_weighted(grammar, b'', length, 0, heavy, PAST, b'')[0], 25 if length in refused else 11)
+                    self.assertEqual(oracle.draw_weighted(grammar, b'', length, 0, b'\1' * 240, PAST, b'')[0], 11)
+                    if length not in refused:
+                        answer = oracle.draw_weighted(grammar, EMPTY, length, 0, heavy, 0, bytes(length))
+                        self.assertEqual(answer[:2], (0, total) if total else (16, 0))
+        for extra in (0, 1):
+            for length in range(1, 17):
+                answer = oracle.draw_weighted(generate.beside_nothing(extra), EMPTY, length, 0, generate.BESIDE, 0, bytes(16))
+                accepted = (0, 1, 0, b'\5' * length + bytes(16 - length)) if length in (1, 9) else (16, 0, 0, bytes(16))
+                self.assertEqual(answer, (25, 0, 0, bytes(16)) if extra and length >= 9 else accepted)
+
+
 class OneMoreLog(unittest.TestCase):
     """Document 02, U14: "Suppose draw q gives a sentence with just one derivation, and that sentence is logged in the same voice,
     played in full"."""
@@ -674,6 +835,14 @@ def random_patterns(rng, words, sentences, length):
     yield b'\377' * place + bytes([byte]) + b'\377' * (length - place - 1)
 
 
+def random_weights(rng, words):
+    """Ones, small ones, large ones, and ones with a large one among them."""
+    yield b'\1' * words
+    yield bytes(1 + rng.below(3) for _ in range(words))
+    yield bytes(1 + rng.below(255) for _ in range(words))
+    yield generate.damaged(b'\1' * words, [(rng.below(words), 1 + rng.below(255))])
+
+
 def ways_down(read, a, m):
     """Each pair on each way down from (a, m), as often as a way leads to it: document 02's U2, step by step."""
     yield a, m
@@ -817,6 +986,86 @@ class SmallGrammars(unittest.TestCase):
                     kinds.update({'some fit': 0 < len(fitting) < len(sentences), 'some of them heard': 0 < left < len(fitting),
                                   'others heard': any(sentence in own for sentence in {*once} - {fit for _, fit in fitting})})
         self.assertGreater(min(kinds[kind] for kind in ('some fit', 'some of them heard', 'others heard')), 300, kinds)
+
+    def test_counts_give_what_the_list_gives_of_weights(self):
+        """Total weights and owners: by the tickets as one list, by the derivations as a list, and by the total weights."""
+        rng, tried = Rng(9), 0
+        for grammar, length in self.lists(100):
+            read = oracle.read(grammar)
+            listed, counted = oracle.Listed(read, length), oracle.Counted(read, length)
+            once = [sentence for sentence in listed.places if listed.count(sentence) == 1]
+            heard = frozenset(rng.shuffled(once)[:rng.below(len(once) + 1)] + [b'\377' * length])
+            for weights in random_weights(rng, grammar[1]):
+                for a, m in read.needed(length):
+                    weighed = [oracle.weight_of(oracle.sentence_of(tree), weights) for tree in read.derivations(a, m)]
+                    self.assertEqual(read.weight(a, m, weights), sum(weighed))
+                tickets = listed.tickets(heard, weights)
+                self.assertEqual(counted.tickets(heard, weights), tickets)
+                short = tickets <= 60
+                for ticket in range(tickets) if short else sorted({0, tickets - 1, *(rng.below(tickets) for _ in range(20))}):
+                    owner = counted.owner(heard, weights, ticket)
+                    with unittest.mock.patch.object(oracle, 'HANDED_OUT', 0):
+                        self.assertEqual(listed.owner(heard, weights, ticket), owner)
+                    if tickets <= 5000:
+                        self.assertEqual(listed.owners(heard, weights)[ticket], owner)
+                tried += 0 < tickets < read.weight(read.start, length, weights) and len(set(weights)) > 1
+        self.assertGreater(tried, 200)  # so often there are several weights, and only a part is heard
+
+    def test_twenty_five_with_a_lowered_bound(self):
+        """It reads the needed pairs alone, and comes after 24."""
+        rng, tried, refused = Rng(11), 0, 0
+        for grammar, length in self.lists(100):
+            if length > 4:
+                continue
+            read = oracle.read(grammar)
+            for weights in random_weights(rng, grammar[1]):
+                def weigh(a, m):
+                    return sum(oracle.weight_of(oracle.sentence_of(tree), weights) for tree in read.derivations(a, m))
+                most = max(weigh(a, m) for a, m in ways_down(read, read.start, length))
+                counts = max(read.totals(length))
+                for bound in (most - 1, most):
+                    with unittest.mock.patch.object(oracle, 'MOST', bound):
+                        refusal = oracle.draw_weighted(grammar, b'', length, 0, weights, 0, b'')[0]
+                        self.assertEqual(refusal, 10 if bound < counts else 25 if bound < most else 11)
+                        self.assertEqual(oracle.draw_weighted(grammar, b'', length, 0, weights[1:], 0, b'')[0], 10 if bound < counts else 24)
+                        refused += refusal == 25
+                tried += max(weigh(a, m) for a in range(grammar[0]) for m in range(1, length + 1)) > most
+        self.assertGreater(min(tried, refused), 300)  # so often a pair that isn't needed weighs more, and 25 is the answer
+
+    def test_each_unheard_derivation_owns_its_weight(self):
+        """The law of document 02, U7, as one list of tickets: consecutive ones, as many as the product of the weights, in the old order; heard
+        derivations own none, and the total is how many there are. With ones the tickets are the draws."""
+        rng, kinds = Rng(12), collections.Counter()
+        for grammar, length in self.lists(40):
+            sentences = [oracle.sentence_of(tree) for tree in oracle.read(grammar).derivations(grammar[3], length)]
+            once = [sentence for sentence in sentences if sentences.count(sentence) == 1]
+            records = [rng.choice(once) for _ in range(rng.below(6)) if once] + [b'\377' * length, b'\0' * (length % 16 + 1)]
+            voices = [rng.choice([0, 7]) for _ in records]
+            played = [rng.choice([0, rng.below(len(record))]) for record in records]
+            diary = history(records, rng.shuffled(range(1, len(records) + 1)), voices=voices, played=played)
+            small = bytes(1 + rng.below(3) for _ in range(grammar[1]))
+            for weights, voice in [(small, 0), (small, 7), (b'\1' * grammar[1], 0), (generate.damaged(b'\1' * grammar[1], [(rng.below(grammar[1]), 5)]), 7)]:
+                own = [sentence for sentence, said, figure in zip(records, voices, played) if said == voice and figure == 0]
+                owners = []
+                for d, sentence in enumerate(sentences):
+                    weight = 1
+                    for byte in sentence:
+                        weight *= weights[byte]
+                    owners += [(d, sentence)] * (0 if sentence in own else weight)
+                total = len(owners)
+                if total > 250:
+                    continue
+                given = [oracle.draw_weighted(grammar, diary, length, voice, weights, ticket, b'\7' * 17) for ticket in range(total)]
+                self.assertEqual(given, [(0, total, d, sentence + b'\7' * (17 - length)) for d, sentence in owners])
+                for ticket in (total, total + 1, PAST):
+                    self.assertEqual(oracle.draw_weighted(grammar, diary, length, voice, weights, ticket, b'\7' * 17), (16, 0, 0, b'\7' * 17))
+                if set(weights) == {1}:
+                    self.assertEqual(given, [oracle.draw(grammar, diary, length, voice, q, b'\7' * 17) for q in range(total)])
+                    self.assertEqual(oracle.remaining(grammar, diary, length, voice)[3], total)
+                heard = any(sentence in own for sentence in sentences)
+                kinds.update({'several weights': total > 0 and len(set(weights)) > 1, 'some heard': total > 0 and heard, 'all heard': total == 0 and heard,
+                              'ambiguous': total > 0 and len({*sentences}) < len(sentences)})
+        self.assertGreater(min(kinds[kind] for kind in ('several weights', 'some heard', 'all heard', 'ambiguous')), 100, kinds)
 
     def test_the_draws_are_the_unheard_list(self):
         rng = Rng(5)

@@ -1,4 +1,4 @@
-"""Tests of tools/pumpfennel-text: texts of grammars, histories and patterns become the bytes that the documents describe, and come back."""
+"""Tests of tools/pumpfennel-text: texts of grammars, histories, patterns and weights become the bytes that the documents describe, and come back."""
 import importlib.machinery
 import importlib.util
 import pathlib
@@ -85,8 +85,8 @@ class Examples(unittest.TestCase):
             self.assertEqual(back(there(lines)), bare(lines))
 
     def test_the_help_has_examples_that_hold(self):
-        grammar, diary, pattern = ['\n'.join(line[4:] for line in part.split('\n') if line.startswith('    '))
-                                   for part in re.split('A history has|A pattern is', text.__doc__)]
+        grammar, diary, pattern, weights = ['\n'.join(line[4:] for line in part.split('\n') if line.startswith('    '))
+                                            for part in re.split('A history has|A pattern is|Weights have', text.__doc__)]
         chains = [[(1, 1, 1), (1, 0, 1)], [(0, 0, 0), (0, 1, 0), (0, 2, 0)]]
         self.assertEqual(meaning(text.grammar_bytes(grammar)), (2, 3, 0, chains))
         said = [bytes([0, 2, 1]), bytes([2, 2]), bytes([0, 1, 2]), bytes([0, 1, 2])]
@@ -94,6 +94,10 @@ class Examples(unittest.TestCase):
         self.assertEqual(text.pattern_bytes(pattern), bytes([0, 255, 2]))
         bank, diary = text.grammar_bytes(grammar), text.history_bytes(diary)
         self.assertEqual(oracle.remaining_matching(bank, diary, text.pattern_bytes(pattern), 0), (0, 3, 1, 2))
+        self.assertEqual(text.weights_bytes(weights), bytes([7, 1, 40]))
+        # 48 * 48 tickets; the last 40 * 40 are those of 2 2, which was broken off
+        self.assertEqual(oracle.draw_weighted(bank, diary, 2, 0, text.weights_bytes(weights), 704, bytes(2)), (0, 2304, 8, bytes([2, 2])))
+        self.assertEqual(oracle.draw_weighted(bank, diary, 2, 0, text.weights_bytes(weights), 703, bytes(2)), (0, 2304, 7, bytes([2, 1])))
 
 
 class Grammars(unittest.TestCase):
@@ -350,6 +354,80 @@ class Patterns(unittest.TestCase):
             self.assertEqual(str(caught.exception), f'there are {size} bytes, and a pattern has 1 to 16')
 
 
+class Weights(unittest.TestCase):
+    def test_a_word_that_is_not_named_weighs_1(self):
+        for lines, weights in [('words 1', [1]), ('words 3', [1, 1, 1]), ('words 3\n1 255', [1, 255, 1]), ('words 3\n2 4\n0 3', [3, 1, 4]),
+                               ('words 2\n0 1\n1 1', [1, 1]), ('# speech\r\n\r\n words   03\r\n\t2\t 040 # common\r\n01 2', [1, 2, 40]),
+                               ('words 255\n254 7', [1] * 254 + [7])]:
+            self.assertEqual(text.weights_bytes(lines), bytes(weights), lines)
+
+    def test_every_weight_and_every_number_of_words_come_back(self):
+        rng = Rng(37)
+        for weights in [*(bytes([weight]) for weight in range(1, 256)), *(bytes([1]) * words for words in range(1, 256)),
+                        *(bytes(1 + rng.choice([0, 0, rng.below(255)]) for _ in range(words)) for words in range(1, 256))]:
+            lines = text.weights_text(weights)
+            self.assertEqual(text.weights_bytes(lines), weights)
+            self.assertEqual(len(lines.splitlines()), 1 + len(weights) - weights.count(1))
+        self.assertEqual(text.weights_text(bytes([7, 1, 40])), 'words 3\n0 7\n2 40\n')
+        self.assertEqual(text.weights_text(bytes([1, 1])), 'words 2\n')
+
+    def test_the_order_of_the_words_is_free(self):
+        rng = Rng(38)
+        for _ in range(100):
+            weights = bytes(1 + rng.below(255) for _ in range(1 + rng.below(40)))
+            lines = [f'{word} {weight}' for word, weight in enumerate(weights) if weight > 1 or rng.below(2)]
+            self.assertEqual(text.weights_bytes('\n'.join([f'words {len(weights)}', *rng.shuffled(lines)])), weights)
+
+    def test_the_house_bank(self):
+        """By the weights 20 and 5 of two words; four of the sample diary's sentences are heard."""
+        bank = text.grammar_bytes((ROOT / 'examples' / 'matrix.txt').read_text())
+        diary = text.history_bytes((ROOT / 'examples' / 'diary.txt').read_text())
+        heard = [sentence for *_, sentence in oracle.sentences_of(diary)]
+        weights = text.weights_bytes('words 50\n45 5\n3 20')
+        own = [20 ** sentence.count(3) * 5 ** sentence.count(45) for sentence in heard]
+        self.assertEqual((own, 29 * 10 * 10 * 10 * 14), ([5, 100, 1, 1], 406000))
+        self.assertEqual(oracle.draw_weighted(bank, diary, 5, 0, weights, 0, bytes(5))[:2], (0, 406000 - sum(own)))
+
+    def test_what_the_library_refuses_is_its_own_matter(self):
+        """More words than the grammar has, or fewer."""
+        for lines, refusal in [('words 2\n0 3', 0), ('words 1', 24), ('words 3', 24)]:
+            self.assertEqual(oracle.draw_weighted(F, history([]), 2, 0, text.weights_bytes(lines), 0, bytes(2))[0], refusal)
+
+    def test_errors(self):
+        for lines, message in [
+            ('', 'there is no line "words"'),
+            ('# none\n\n', 'there is no line "words"'),
+            ('words 3\n\nwords 3', 'line 3: "words" stands there already'),
+            ('0 7\nwords 3', 'line 1: "words" comes first'),
+            ('words 0', 'line 1: words is 0, and 1 is the least'),
+            ('words 256', 'line 1: words is above 255: 256'),
+            ('words many', "line 1: words is not a number: 'many'"),
+            ('words', "line 1: neither words nor a word and its weight: 'words'"),
+            ('words 3 4', "line 1: neither words nor a word and its weight: 'words 3 4'"),
+            ('words 3\n0 7\n# again\n0 7', 'line 4: word 0 has a weight already'),
+            ('words 3\n2 40\n3 7', 'line 3: the word is above 2: 3'),
+            ('words 1\n1 7', 'line 2: the word is above 0: 1'),
+            ('words 3\n-1 7', "line 2: the word is not a number: '-1'"),
+            ('words 3\ndog 7', "line 2: the word is not a number: 'dog'"),
+            ('words 3\n0 0', 'line 2: the weight is 0, and 1 is the least'),
+            ('words 3\n0 256', 'line 2: the weight is above 255: 256'),
+            ('words 3\n0 1.5', "line 2: the weight is not a number: '1.5'"),
+            ('words 3\n0 -1', "line 2: the weight is not a number: '-1'"),
+            ('words 3\n0', "line 2: neither words nor a word and its weight: '0'"),
+            ('words 3\n0 7 8', "line 2: neither words nor a word and its weight: '0 7 8'"),
+            ('words 3\n0, 7', "line 2: the word is not a number: '0,'"),
+            ('words 3\nstart 0', "line 2: the word is not a number: 'start'"),
+        ]:
+            with self.subTest(lines), self.assertRaises(text.Wrong) as caught:
+                text.weights_bytes(lines)
+            self.assertEqual(str(caught.exception), message)
+        for data, message in [(b'', 'there are 0 bytes, and weights have 1 to 255'), (bytes(256), 'there are 256 bytes, and weights have 1 to 255'),
+                              (bytes([0]), 'word 0 weighs 0, and 1 is the least'), (bytes([3, 2, 0, 0]), 'word 2 weighs 0, and 1 is the least')]:
+            with self.assertRaises(text.Wrong) as caught:
+                text.weights_text(data)
+            self.assertEqual(str(caught.exception), message)
+
+
 class Commands(unittest.TestCase):
     def tool(self, *args, given=b''):
         run = subprocess.run([TOOL, *map(str, args)], input=given, capture_output=True)
@@ -363,6 +441,8 @@ class Commands(unittest.TestCase):
         self.assertEqual(self.tool('history', 'to-text', given=history([b'\5'])), (0, b'5\n', ''))
         self.assertEqual(self.tool('pattern', 'to-bytes', given=b'5 _\n'), (0, b'\5\377', ''))
         self.assertEqual(self.tool('pattern', 'to-text', '-', given=b'\5\377'), (0, b'5 _\n', ''))
+        self.assertEqual(self.tool('weights', 'to-bytes', given=b'words 3\n1 9\n'), (0, b'\1\11\1', ''))
+        self.assertEqual(self.tool('weights', 'to-text', '-', given=b'\1\11\1'), (0, b'words 3\n1 9\n', ''))
 
     def test_listing(self):
         with tempfile.TemporaryDirectory() as name:
@@ -412,7 +492,9 @@ class Commands(unittest.TestCase):
         for name, why in [(ROOT / 'no such file', 'No such file or directory'), (ROOT, 'Is a directory')]:
             self.assertEqual(self.tool('grammar', 'to-text', name), (1, b'', f'pumpfennel-text: {name}: {why}\n'))
         self.assertEqual(self.tool('pattern', 'to-bytes', given=b'_\n_'), (1, b'', 'pumpfennel-text: -: line 2: there is a pattern already\n'))
-        for args in [(), ('grammar',), ('grammar', 'to-hex'), ('pattern',), ('pattern', '5 _'), ('listing', '5'), ('grammar', 'to-text', '-', '-')]:
+        self.assertEqual(self.tool('weights', 'to-bytes', given=b'words 2\n2 9'), (1, b'', 'pumpfennel-text: -: line 2: the word is above 1: 2\n'))
+        for args in [(), ('grammar',), ('grammar', 'to-hex'), ('pattern',), ('pattern', '5 _'), ('weights',), ('weight', 'to-text'), ('listing', '5'),
+                     ('grammar', 'to-text', '-', '-')]:
             self.assertEqual(self.tool(*args)[:2], (2, b''))
         self.assertEqual(self.tool('--help')[0], 0)
 

@@ -209,7 +209,7 @@ class HistoryVectors(unittest.TestCase):
 
 
 def frames(stdin):
-    """The parts of each frame of kind sampling: call, length, voice, draw number, bytes."""
+    """The parts of each frame of kind sampling or weighted: call, length, voice, draw number or ticket, bytes."""
     at = 0
     while at < len(stdin):
         end = at + 27 + oracle.two_bytes(stdin, at + 25)
@@ -365,6 +365,174 @@ class SamplingVectors(unittest.TestCase):
 
     def test_a_second_run_gives_the_same(self):
         self.assertEqual(vectors.sampling_cases(), self.cases)
+
+
+def weight(sentence, weights):
+    """The product of the words' weights."""
+    product = 1
+    for word in sentence:
+        product *= weights[word]
+    return product
+
+
+class WeightedVectors(unittest.TestCase):
+    @classmethod
+    def setUpClass(cls):
+        cls.cases = vectors.weighted_cases()
+        cls.lines = {case.name: case.line for case in cls.cases}
+        cls.stated = vectors.WEIGHT_TRAPS + list(vectors.weighted_defects())
+        cls.calls = []  # each with its bank, its diary, its weights and its line
+        lines, state = iter(cls.cases), [b'', b'', b'']
+        for frame in frames(vectors.files(cls.cases)['stdin']):
+            if frame[0] in (vectors.BANK, vectors.DIARY, vectors.WEIGHTS):
+                state[frame[0]] = frame[-1]
+            else:
+                cls.calls.append((*state, *frame, next(lines).line))
+        cls.drawn = collections.defaultdict(dict)  # by question, each ticket's answer: total, derivation number, sentence
+        for bank, diary, weights, call, length, voice, ticket, _, line in cls.calls:
+            if call == vectors.DRAW_WEIGHTED and line.startswith('0 '):
+                figures, buffer = line.split(':')
+                sentence = bytes(map(int, buffer.split()))[:length]
+                cls.drawn[bank, diary, weights, length, voice][ticket] = *map(int, figures.split()[1:]), sentence
+
+    def test_each_trap_and_each_set_of_defects_gets_the_stated_refusal(self):
+        for name, refusal, bank, diary, length, voice, weights, ticket, room in self.stated:
+            with self.subTest(name):
+                buffer = b'\7' * room
+                *answer, after = oracle.draw_weighted(bank, diary, length, voice, weights, ticket, buffer)
+                self.assertEqual(answer[0], refusal)
+                self.assertTrue(refusal == 0 or (answer[1:], after) == ([0, 0], buffer))
+
+    def test_the_defects_are_all_there(self):
+        """Each refusal is the first in some set of them, and with each that comes after it."""
+        order = [*range(1, 10), 22, 10, 24, 25, *range(11, 17), 20]
+        sets = [[int(number) for number in name.removeprefix('defects [').rstrip(']').split(', ') if number] for name, *_ in vectors.weighted_defects()]
+        self.assertEqual(len(sets), 1024)
+        self.assertTrue(all(chosen == sorted(chosen, key=order.index) for chosen in sets))
+        met = {(chosen[0], other) for chosen in sets if chosen for other in chosen[1:]}
+        apart = [range(1, 9), range(11, 15)]  # of these a set has one
+        for i, refusal in enumerate(order):
+            for other in order[i + 1:]:
+                self.assertEqual((refusal, other) in met, not any(refusal in kind and other in kind for kind in apart), (refusal, other))
+
+    def test_names_of_traps_differ(self):
+        names = [name for name, *_ in vectors.WEIGHT_TRAPS]
+        self.assertEqual(len(names), len(set(names)))
+        self.assertEqual(len(self.lines), len(self.cases))
+
+    def test_lines_worked_out_by_hand(self):
+        """By the weights 3 and 2 the eight sentences of F weigh 27, 18, 18, 12, 18, 12, 12 and 8; numbers 1, 4 and 6 are heard."""
+        full = 2**64 - 1
+        for name, line in {
+            'F, heard: Draw 3 in 0: 0 into 3 bytes by [3, 2]': '0 77 0: 0 0 0',
+            'F, heard: Draw 3 in 0: 26 into 5 bytes by [3, 2]': '0 77 0: 0 0 0 7 7',
+            'F, heard: Draw 3 in 0: 27 into 3 bytes by [3, 2]': '0 77 2: 0 1 0',
+            'F, heard: Draw 3 in 0: 44 into 5 bytes by [3, 2]': '0 77 2: 0 1 0 7 7',
+            'F, heard: Draw 3 in 0: 45 into 3 bytes by [3, 2]': '0 77 3: 0 1 1',
+            'F, heard: Draw 3 in 0: 56 into 5 bytes by [3, 2]': '0 77 3: 0 1 1 7 7',
+            'F, heard: Draw 3 in 0: 57 into 3 bytes by [3, 2]': '0 77 5: 1 0 1',
+            'F, heard: Draw 3 in 0: 68 into 5 bytes by [3, 2]': '0 77 5: 1 0 1 7 7',
+            'F, heard: Draw 3 in 0: 69 into 3 bytes by [3, 2]': '0 77 7: 1 1 1',
+            'F, heard: Draw 3 in 0: 76 into 4 bytes by [3, 2]': '0 77 7: 1 1 1 7',
+            'F, heard: Draw 3 in 0: 77 into 5 bytes by [3, 2]': 'refused 16: 7 7 7 7 7',
+            'F, heard: Draw 3 in 0: 0 into 2 bytes by [3, 2]': 'refused 20: 7 7',
+            'F, heard: Draw 3 in 0: 4 into 4 bytes by [1, 1]': '0 5 7: 1 1 1 7',
+            'F, heard: Draw 3 in 0: 4 into 4 bytes': '0 5 7: 1 1 1 7',
+            'G: Draw 3 in 0: 8 into 5 bytes by [2]': '0 16 1: 0 0 0 7 7',
+            'G: Draw 2 in 0: 0 into 2 bytes by [3]': 'refused 16: 7 7',
+            'G: Draw 2 in 4: 8 into 4 bytes by [3]': '0 9 0: 0 0 7 7',
+            f'laden, 0 heard: Draw 16 in 2: {255 * 2**56 - 1} into 18 bytes by [15, 17, 16, 1]': f'0 {full} 0: 0 1' + ' 2' * 14 + ' 7 7',
+            f'laden, 0 heard: Draw 16 in 2: {255 * 2**56} into 16 bytes by [15, 17, 16, 1]': f'0 {full} 1: 0 1' + ' 2' * 6 + ' 3' * 8,
+            f'laden, 0 heard: Draw 16 in 2: {full - 255} into 16 bytes by [15, 17, 16, 1]': f'0 {full} 7: 0 1' + ' 3' * 14,
+            f'laden, 0 heard: Draw 16 in 2: {full - 256} into 18 bytes by [15, 17, 16, 1]': f'0 {full} 6: 0 1' + ' 3' * 6 + ' 2' * 8 + ' 7 7',
+            f'laden, 0 heard: Draw 16 in 2: {full} into 16 bytes by [15, 17, 16, 1]': 'refused 16:' + ' 7' * 16,
+            'matrix, slack: Draw 5 in 0: 42100 into 6 bytes by ' + str([1] * 3 + [20] + [1] * 41 + [5] + [1] * 4): '0 405900 30005: 3 10 20 30 45 7',
+            'matrix, slack: Draw 5 in 0: 42099 into 5 bytes by ' + str([1] * 3 + [20] + [1] * 41 + [5] + [1] * 4): '0 405900 30004: 3 10 20 30 44',
+        }.items():
+            with self.subTest(name):
+                self.assertEqual(self.lines[name], line)
+
+    def test_every_refusal_is_there_several_times(self):
+        met = collections.Counter((call, int(line.split(':')[0].split()[1]) if line.startswith('refused') else 0) for *_, call, _, _, _, _, line in self.calls)
+        plain = [*range(0, 17), 20, 22]
+        for call, refusals in {vectors.DRAW_PLAIN: plain, vectors.DRAW_WEIGHTED: [*plain, 24, 25]}.items():
+            self.assertEqual({refusal for own, refusal in met if own == call}, set(refusals))
+            self.assertGreaterEqual(min(met[call, refusal] for refusal in refusals), 12 if call == vectors.DRAW_WEIGHTED else 4)
+
+    def test_ones_stand_beside_the_plain_calls(self):
+        """Each call with a weight of 1 for every word has the line of the plain one, which is there."""
+        plain, weighted = {}, {}
+        for bank, diary, weights, call, *question, data, line in self.calls:
+            if weights == vectors.ones(bank):
+                (plain if call == vectors.DRAW_PLAIN else weighted)[bank, diary, *question, len(data)] = line
+        self.assertEqual(plain, weighted)
+        self.assertGreater(len(plain), 1000)
+        refusals = {line.split(':')[0] for line in plain.values() if line.startswith('refused')}
+        self.assertEqual(refusals, {f'refused {number}' for number in [*range(1, 17), 20, 22]})
+
+    def test_each_derivation_owns_its_weight(self):
+        """Where all tickets of a question are there: consecutive ones, as many as the product says; heard ones own none."""
+        whole, mixed, several = 0, 0, 0
+        for (bank, diary, weights, length, voice), tickets in self.drawn.items():
+            total = next(iter(tickets.values()))[0]
+            if len(tickets) < total:
+                continue
+            owners = [(tickets[ticket][1], tickets[ticket][2]) for ticket in range(total)]
+            runs = [(*owner, len([*run])) for owner, run in itertools.groupby(owners)]
+            heard = {words for own, played, words in oracle.sentences_of(diary) if (own, played) == (voice, 0)}
+            full = [oracle.sentence_of(tree) for tree in oracle.read(bank).derivations(bank[3], length)]
+            self.assertEqual(runs, [(d, words, weight(words, weights)) for d, words in enumerate(full) if words not in heard])
+            whole += 1
+            mixed += len({many for *_, many in runs}) > 1
+            several += len(full) > len(runs)
+        self.assertGreater(min(whole - 100, mixed, several), 25, (whole, mixed, several))
+
+    def test_borders_of_long_lists(self):
+        """Neighbouring tickets, the first of one derivation and the last of the one before it; each derivation is that of Give."""
+        kinds = collections.Counter()
+        for (bank, _, weights, length, _), tickets in self.drawn.items():
+            total = next(iter(tickets.values()))[0]
+            kinds['of 2^63 and more'] += total >= 2**63
+            kinds['the last'] += total - 1 in tickets
+            for ticket, (given, number, sentence) in tickets.items():
+                self.assertEqual((given, oracle.unrank(bank, length, number, bytes(length))[::2]), (total, (0, sentence)))
+                if ticket + 1 in tickets:
+                    following = tickets[ticket + 1][1]
+                    self.assertLessEqual(number, following)
+                    kinds['border' if number < following else 'inside'] += len(tickets) < total
+        self.assertGreater(min(kinds['border'], kinds['inside'], kinds['the last']), 300, kinds)
+        self.assertGreater(kinds['of 2^63 and more'], 10, kinds)
+
+    def test_kinds_of_weights(self):
+        """Ones, 1 and 255 alone and mixed ones; with some heard, with some heard in another voice, with words that no rule has."""
+        kinds = collections.Counter()
+        for (bank, diary, weights, length, voice), tickets in self.drawn.items():
+            said = oracle.sentences_of(diary)
+            derived = [record for record in said if oracle.full_list(bank, length).count(record[2])]
+            used = {rule.a for rule in oracle.rules_of(bank).values() if rule.kind == oracle.WORD}
+            kinds.update({'ones': set(weights) == {1}, '255': 255 in weights, '255 alone': set(weights) == {255}, 'mixed': len(set(weights)) > 1,
+                          'heard': any(record[:2] == (voice, 0) for record in derived), 'another voice': any(record[0] != voice for record in derived),
+                          'broken off': any(record[1] for record in derived), 'repeated': len(derived) > len(set(derived)),
+                          'unused words': len(used) < bank[1], 'foreign words': any(word >= bank[1] for *_, words in said for word in words)})
+        self.assertEqual(len(kinds), 10)
+        self.assertGreater(min(kinds.values()), 10, kinds)
+
+    def test_size(self):
+        self.assertIn(len(self.cases), range(6000, 9001))
+        self.assertLess(len(vectors.files(self.cases)['stdin']), 400_000)
+        self.assertLess(sum(map(len, vectors.files(self.cases).values())), 650_000)
+
+    def test_the_frames_hold_the_cases(self):
+        lines = []
+        for bank, diary, weights, call, length, voice, ticket, data, _ in self.calls:
+            self.assertEqual(data, b'\7' * len(data))
+            *answer, after = (oracle.draw(bank, diary, length, voice, ticket, data) if call == vectors.DRAW_PLAIN
+                              else oracle.draw_weighted(bank, diary, length, voice, weights, ticket, data))
+            lines.append(f'{vectors.line(*answer)}:' + ''.join(f' {byte}' for byte in after))
+        self.assertEqual('\n'.join(lines).encode() + b'\n', vectors.files(self.cases)['stdout'])
+
+    def test_a_second_run_gives_the_same(self):
+        self.assertEqual(vectors.weighted_cases(), self.cases)
 
 
 if __name__ == '__main__':

@@ -33,6 +33,11 @@ Calls 0 and 1 have no line: their bytes are the grammar and the history of the c
 into a buffer of that many bytes, each 7. 4 is Left with a pattern, its bytes. 5 is Draw with a pattern, its bytes, into
 a buffer of as many bytes, each 7, as the length says. The line is as with Count and with Give. Beside each call with a
 pattern of blanks stands the plain call.
+
+Kind weighted (document 02, U7: Draw with weights): a case is as in kind sampling, with a ticket in place of the draw number.
+Calls 0, 1 and 2 have no line: their bytes are the grammar, the history and the weights of the calls after them. 3 is Draw
+with weights into a buffer of that many bytes, each 7; 4 is the plain Draw. The line is as with Give. Beside each call with a
+weight of 1 for every word stands the plain call.
 """
 import argparse
 import itertools
@@ -41,8 +46,8 @@ import sys
 from typing import NamedTuple
 
 import oracle
-from generate import (Rng, ambiguous, brimful, damaged, grammar, history, low_high, pair, random_damage, random_grammar,
-                      random_heavy, reaching, word)
+from generate import (BESIDE, LADEN, Rng, ambiguous, beside_nothing, brimful, damaged, grammar, history, laden, low_high, pair,
+                      random_damage, random_grammar, random_heavy, reaching, word)
 from oracle import F, G
 
 
@@ -1271,9 +1276,426 @@ def sampling_cases():
     return cases
 
 
+# ---- Kind weighted
+
+WEIGHTS, DRAW_WEIGHTED, DRAW_PLAIN = range(2, 5)  # BANK is 0, DIARY 1
+
+
+class Lottery:
+    """The calls on one grammar and one history by their weights, each with the brute-force program's answer."""
+
+    def __init__(self, name, bank, diary):
+        self.name, self.bank, self.diary, self.calls = name, bank, diary, {}
+
+    def add(self, name, weights, stdin, line):
+        calls = self.calls.setdefault(weights, {})
+        if stdin not in calls:
+            calls[stdin] = Case(f'{self.name}: {name}', stdin, line)
+
+    def draw(self, length, weights, ticket, room, voice=0):
+        """Draw with the weights, and with a weight of 1 for every word the plain one too. Gives the total of tickets, 0 where
+        it is refused."""
+        buffer, named = bytes([SOME]) * room, f'{length} in {voice}: {ticket} into {room} bytes'
+        *answer, after = oracle.draw_weighted(self.bank, self.diary, length, voice, weights, ticket, buffer)
+        shown = list(weights) if len(set(weights)) > 1 or len(weights) < 4 else f'{len(weights)} times {weights[0]}'
+        self.add(f'Draw {named} by {shown}', weights, sampled(DRAW_WEIGHTED, length, voice, ticket, buffer), line(*answer) + bytes_shown(after))
+        if weights == ones(self.bank):
+            *plain, after = oracle.draw(self.bank, self.diary, length, voice, ticket, buffer)
+            self.add(f'Draw {named}', weights, sampled(DRAW_PLAIN, length, voice, ticket, buffer), line(*plain) + bytes_shown(after))
+        return answer[1]
+
+    def own(self, length, weights, ticket, voice):
+        """The first ticket of the derivation that owns this one, and the first behind its tickets."""
+        full, heard = oracle.full_list(self.bank, length), oracle.heard_of(self.diary, length, voice)
+        number, sentence = full.owner(heard, weights, ticket)
+        weight = oracle.weight_of(sentence, weights)
+        low, high = max(0, ticket - weight + 1), ticket
+        while low < high:
+            middle = (low + high) // 2
+            if full.owner(heard, weights, middle)[0] < number:
+                low = middle + 1
+            else:
+                high = middle
+        return low, low + weight
+
+    def every_ticket(self, length, weights, voice=0, most=30, about=()):
+        """Each ticket from 0 to the first beyond. Of a long list its ends and its middle; and for each of these and of about the
+        borders of its owner's tickets."""
+        total = self.draw(length, weights, 0, length, voice)
+        numbers = range(total + 1)
+        if total > most:
+            inner = [ticket for ticket in (0, total // 2, total - 1, *about) if ticket < total]
+            borders = [border for ticket in inner for border in self.own(length, weights, ticket, voice)]
+            numbers = sorted({0, 1, total // 2, total - 2, total - 1, total, *borders, *(border - 1 for border in borders if border)})
+        for ticket in numbers:
+            if ticket < 2**64:
+                self.draw(length, weights, ticket, length + ticket % 3, voice)
+
+
+def ones(bank):
+    """A weight of 1 for every word; of a grammar without that byte, none."""
+    return bytes([1]) * (bank[1] if len(bank) > 1 else 0)
+
+
+def weighing(w, *places):
+    """A weight of 1 for each of w words, but for those that are named with theirs."""
+    return damaged(bytes([1]) * w, places)
+
+
+HEAVY = 239  # the word that takes the place of 240 in reaching(), where it weighs 255
+UNUSED = grammar(5, 0, [[pair(1, 1), pair(1, 0)], [word(3), word(1)]])  # F with the words 3 and 1 of five
+# Of that in voice 0: a sentence broken off, one heard, and one with 255 and a word that no rule has; in voice 9 one twice.
+OF_FIVE = history([bytes([1, 3]), bytes([3, 3]), bytes([3, 1]), bytes([3, 1]), bytes([255, 4])], [3, 5, 1, 2, 4], voices=[0, 0, 9, 9, 0],
+                  played=[1, 0, 0, 0, 0])
+LAST = bytes([3] * 16)  # of laden(1) the derivation that is one too many
+
+# Each: name, the refusal of Draw with weights that the documents give (0: accepted), bank, diary, length, voice, weights, ticket, room.
+WEIGHT_TRAPS = [
+    # 24: W bytes
+    ('two weights of two', 0, F, HEARD, 3, 0, bytes([3, 2]), 0, 3),
+    ('no weight', 24, F, HEARD, 3, 0, b'', 0, 3),
+    ('one weight of two', 24, F, HEARD, 3, 0, bytes([3]), 0, 3),
+    ('three weights of two', 24, F, HEARD, 3, 0, bytes([3, 2, 1]), 0, 3),
+    ('256 weights of two', 24, F, HEARD, 3, 0, bytes([1] * 256), 0, 3),
+    ('258 weights of two', 24, F, HEARD, 3, 0, bytes([1] * 258), 0, 3),
+    ('no weight of one', 24, G, NONE, 3, 0, b'', 0, 3),
+    ('one weight of one', 0, G, NONE, 3, 0, bytes([7]), 685, 3),
+    ('two weights of one', 24, G, NONE, 3, 0, bytes([7, 7]), 0, 3),
+    ('49 weights of 50', 24, oracle.matrix(), NONE, 5, 0, bytes([2] * 49), 0, 5),
+    ('50 weights of 50', 0, oracle.matrix(), NONE, 5, 0, bytes([2] * 50), 3199999, 5),
+    ('51 weights of 50', 24, oracle.matrix(), NONE, 5, 0, bytes([2] * 51), 0, 5),
+    ('254 weights of 255', 24, WORDS_255, NONE, 1, 0, bytes([2] * 254), 0, 1),
+    ('255 weights of 255', 0, WORDS_255, NONE, 1, 0, bytes([2] * 255), 507, 1),
+    ('256 weights of 255', 24, WORDS_255, NONE, 1, 0, bytes([2] * 256), 0, 1),
+
+    # 24: none of them 0
+    ('the first weight is 0', 24, F, HEARD, 3, 0, bytes([0, 2]), 0, 3),
+    ('the last weight is 0', 24, F, HEARD, 3, 0, bytes([3, 0]), 0, 3),
+    ('both weights are 0', 24, F, HEARD, 3, 0, bytes(2), 0, 3),
+    ('a 0 behind two weights', 24, F, HEARD, 3, 0, bytes([3, 2, 0]), 0, 3),
+    ('the only weight is 0', 24, G, NONE, 1, 0, bytes(1), 0, 1),
+    ('a 0 among 50', 24, oracle.matrix(), NONE, 5, 0, weighing(50, (24, 0)), 0, 5),
+    ('a 0 at the end of 50', 24, oracle.matrix(), NONE, 5, 0, weighing(50, (49, 0)), 0, 5),
+    ('a 0 at the end of 255', 24, WORDS_255, NONE, 1, 0, weighing(255, (254, 0)), 0, 1),
+    ('a 0 for a word that no rule has', 24, WORDS_255, NONE, 1, 0, weighing(255, (0, 0)), 0, 1),
+    ('a 0 for the last word, which no rule has', 24, UNUSED, NONE, 2, 0, bytes([1, 2, 3, 4, 0]), 0, 2),
+
+    # Words that no rule has add to no total
+    ('255 for a word that no rule has', 0, WORDS_255, NONE, 1, 0, weighing(255, (0, 255)), 253, 1),
+    ('255 for a word that no rule has, beyond', 16, WORDS_255, NONE, 1, 0, weighing(255, (0, 255)), 254, 1),
+    ('255 for three words that no rule has', 0, UNUSED, OF_FIVE, 2, 0, bytes([255, 2, 255, 3, 255]), 15, 2),
+    ('255 for three words that no rule has, beyond', 16, UNUSED, OF_FIVE, 2, 0, bytes([255, 2, 255, 3, 255]), 16, 2),
+    ('255 for three words that no rule has, sixteen words', 0, UNUSED, NONE, 16, 0, bytes([255, 7, 255, 8, 255]), 15**16 - 1, 16),
+
+    # 24 after 1 to 9, 22 and 10
+    ('no weight, no length', 9, F, b'', 0, 16, b'', 0, 0),
+    ('no weight, length 17', 9, F, b'', 17, 16, b'', 0, 0),
+    ('no weight, voice 16', 22, F, b'', 2, 16, b'', 0, 0),
+    ('no weight, counts', 10, oracle.f_words(16), b'', 16, 0, b'', 0, 0),
+    ('a 0 of sixteen, counts, voice 16', 22, oracle.f_words(16), b'', 16, 16, bytes(16), 0, 0),
+    ('no weight, a damaged bank', 8, grammar(1, 0, [[word(0), word(0)]]), b'', 1, 0, b'', 0, 0),
+    ('no weight, no byte of a bank', 1, b'', b'', 1, 0, b'', 0, 0),
+
+    # 24 before 25, 11 to 16 and 20
+    ('a 0, total weights', 24, F, b'', 16, 0, bytes([255, 0]), 0, 0),
+    ('three weights of two, total weights', 24, F, b'', 16, 0, bytes([255] * 3), 0, 0),
+    ('a 0, no byte of a diary', 24, F, b'', 2, 15, bytes([0, 1]), 0, 0),
+    ('a 0, layout', 24, F, four((RECORD[1] + LENGTH, 0)), 2, 0, bytes([0, 1]), 0, 0),
+    ('a 0, link', 24, F, bytes([0, 0, 1, 0]), 2, 0, bytes([0, 1]), 0, 0),
+    ('a 0, loop', 24, F, four((RECORD[2] + LINK, 2)), 2, 0, bytes([0, 1]), 0, 0),
+    ('a 0, an ambiguous sentence', 24, G, history([bytes(3)]), 3, 0, bytes(1), 0, 0),
+    ('a 0, beyond', 24, F, NONE, 2, 0, bytes([0, 1]), 2**64 - 1, 0),
+    ('weights, no byte of a diary', 11, F, b'', 2, 15, bytes([3, 1]), 0, 0),
+    ('weights, layout', 12, F, four((RECORD[1] + LENGTH, 0)), 2, 0, bytes([3, 1]), 0, 0),
+    ('weights, link', 13, F, bytes([0, 0, 1, 0]), 2, 0, bytes([3, 1]), 0, 0),
+    ('weights, loop', 14, F, four((RECORD[2] + LINK, 2)), 2, 0, bytes([3, 1]), 0, 0),
+
+    # 25: the total weight at the whole length. F has (a + b)^n tickets
+    ('15^16 tickets', 0, F, NONE, 16, 0, bytes([1, 14]), 15**16 - 1, 16),
+    ('15^16 tickets, beyond', 16, F, NONE, 16, 0, bytes([1, 14]), 15**16, 16),
+    ('16^16 tickets', 25, F, NONE, 16, 0, bytes([1, 15]), 0, 16),
+    ('16^16 tickets, by equal weights', 25, F, NONE, 16, 0, bytes([8, 8]), 0, 16),
+    ('16^15 tickets', 0, F, NONE, 15, 0, bytes([8, 8]), 2**60 - 1, 15),
+    ('510^16 tickets', 25, F, NONE, 16, 0, bytes([255, 255]), 0, 16),
+    ('510^8 tickets', 25, F, NONE, 8, 0, bytes([255, 255]), 0, 16),
+    ('510^7 tickets', 0, F, NONE, 7, 0, bytes([255, 255]), 510**7 - 1, 7),
+    ('255^8 tickets', 0, oracle.f_words(1), NONE, 8, 0, bytes([255]), 255**8 - 1, 8),
+    ('255^9 tickets', 25, oracle.f_words(1), NONE, 9, 0, bytes([255]), 0, 9),
+    ('2^64 - 1 tickets, the last', 0, laden(), NONE, 16, 0, LADEN, 2**64 - 2, 16),
+    ('2^64 - 1 tickets, the first', 0, laden(), NONE, 16, 0, LADEN, 0, 16),
+    ('2^64 - 1 tickets, beyond', 16, laden(), NONE, 16, 0, LADEN, 2**64 - 1, 16),
+    ('2^64 tickets', 25, laden(1), NONE, 16, 0, LADEN, 0, 16),
+    ('2^64 tickets, one of them heard', 25, laden(1), history([LAST]), 16, 0, LADEN, 0, 16),
+    ('2^64 tickets with a weight less', 0, laden(1), NONE, 16, 0, bytes([14, 17, 16, 1]), 238 * (2**64 - 1) // 255, 16),
+    ('2^64 - 1 tickets with a weight more', 25, laden(), NONE, 16, 0, bytes([15, 17, 16, 2]), 0, 16),
+    ('2^64 - 1 derivations of weight 1', 0, brimful(), NONE, 16, 0, ones(brimful()), 2**64 - 2, 16),
+    ('2^64 - 1 derivations, one word weighs 2', 25, brimful(), NONE, 16, 0, weighing(17, (16, 2)), 0, 16),
+    ('2^64 derivations of weight 1', 10, brimful(1), NONE, 16, 0, ones(brimful(1)), 0, 16),
+    ('every tree, 5^16 times as many', 0, G, NONE, 16, 0, bytes([5]), 9694845 * 5**16 - 1, 16),
+    ('every tree, 6^16 times as many', 25, G, NONE, 16, 0, bytes([6]), 0, 16),
+
+    # 25 reads needed pairs, beside nothing too, and no others
+    ('2^64 - 1 beside nothing', 0, beside_nothing(), NONE, 9, 0, BESIDE, 0, 9),
+    ('2^64 - 1 beside nothing, beyond', 16, beside_nothing(), NONE, 9, 0, BESIDE, 1, 9),
+    ('2^64 beside nothing', 25, beside_nothing(1), NONE, 9, 0, BESIDE, 0, 9),
+    ('2^64 beside nothing, a weight less', 0, beside_nothing(1), NONE, 9, 0, damaged(BESIDE, [(0, 254)]), 0, 9),
+    ('2^64 that eight words do not need', 16, beside_nothing(1), NONE, 8, 0, BESIDE, 0, 8),
+    ('2^64 that one word does not need', 0, beside_nothing(1), NONE, 1, 0, BESIDE, 0, 1),
+    ('2^64 that sixteen words need', 25, beside_nothing(1), NONE, 16, 0, BESIDE, 0, 16),
+    *((f'{name}, {length} words by weight', 25 if length in refused else 16 if oracle.count(bank, length)[1] == 0 else 0, bank, NONE, length, 0,
+       weighing(240, (HEAVY, 255)), 0, 16) for name, (bank, refused) in reaching([HEAVY]).items() for length in (1, 2, 3, 7, 8, 9, 10, 11, 16)),
+
+    # 25 after 9, 22 and 10, before 11 to 16 and 20
+    ('total weights, length 17', 9, F, b'', 17, 0, bytes([255, 255]), 0, 0),
+    ('total weights, voice 16', 22, F, b'', 16, 16, bytes([255, 255]), 0, 0),
+    ('total weights, counts', 10, oracle.f_words(16), b'', 16, 0, bytes([255] * 16), 0, 0),
+    ('total weights, no byte of a diary', 25, F, b'', 16, 0, bytes([255, 255]), 0, 0),
+    ('total weights, layout', 25, F, four((RECORD[1] + LENGTH, 0)), 16, 0, bytes([255, 255]), 0, 0),
+    ('total weights, link', 25, F, bytes([0, 0, 1, 0]), 16, 0, bytes([255, 255]), 0, 0),
+    ('total weights, loop', 25, F, four((RECORD[2] + LINK, 2)), 16, 0, bytes([255, 255]), 0, 0),
+    ('total weights, an ambiguous sentence', 25, G, history([bytes(9)]), 9, 0, bytes([255]), 0, 0),
+    ('total weights, beyond', 25, F, NONE, 16, 0, bytes([255, 255]), 2**64 - 1, 0),
+
+    # 15 reads the sentences of the length, in the voice, played in full
+    ('an ambiguous sentence', 15, AMBIGUOUS, history([bytes(3)]), 3, 0, bytes([3, 2]), 0, 3),
+    ('an ambiguous sentence, last on the chain, beyond', 15, AMBIGUOUS, history([bytes([1]), bytes([1, 1]), bytes([0, 0, 1])]), 3, 0, b'\3\2', 2**64 - 1, 0),
+    ('an ambiguous sentence, broken off', 0, AMBIGUOUS, history([bytes(3)], played=[2]), 3, 0, bytes([3, 2]), 249, 3),
+    ('an ambiguous sentence in another voice', 0, AMBIGUOUS, history([bytes(3)], voices=[7]), 3, 0, bytes([3, 2]), 249, 3),
+    ('an ambiguous sentence in voice 7', 15, AMBIGUOUS, history([bytes(3)], voices=[7]), 3, 7, bytes([3, 2]), 0, 3),
+    ('an ambiguous sentence of another length', 0, AMBIGUOUS, history([bytes(4)]), 3, 0, bytes([3, 2]), 249, 3),
+
+    # a word of a diary that has no weight
+    ('255 was heard, one word', 0, grammar(1, 0, [[word(0)]]), history([bytes([255])]), 1, 0, bytes([9]), 8, 1),
+    ('255 was heard of 255 words', 0, WORDS_255, history([bytes([255])]), 1, 0, bytes([255] * 255), 254 * 255 - 1, 1),
+    ('254 was heard of 255 words', 16, WORDS_255, history([bytes([254]), bytes([255])]), 1, 0, bytes([255] * 255), 253 * 255, 1),
+    ('W and 255 were heard beside words', 0, F, history([bytes([0, 2]), bytes([255, 1]), bytes([1, 255])]), 2, 0, bytes([3, 2]), 24, 2),
+
+    # 16: the total of unheard tickets. Of F the heard ones weigh 12, 18 and 18 of 125
+    ('the last of what is left', 0, F, HEARD, 3, 0, bytes([3, 2]), 76, 3),
+    ('beyond what is left, below what all weigh', 16, F, HEARD, 3, 0, bytes([3, 2]), 77, 3),
+    ('what all weigh', 16, F, HEARD, 3, 0, bytes([3, 2]), 125, 3),
+    ('what is left in voice 5', 0, F, HEARD, 3, 5, bytes([3, 2]), 116, 3),
+    ('beyond what is left in voice 5', 16, F, HEARD, 3, 5, bytes([3, 2]), 117, 3),
+    ('what is left in voice 15', 0, F, HEARD, 3, 15, bytes([3, 2]), 124, 3),
+    ('beyond what is left in voice 15', 16, F, HEARD, 3, 15, bytes([3, 2]), 125, 3),
+    ('ticket 2^32', 16, F, HEARD, 3, 0, bytes([3, 2]), 2**32, 3),
+    ('ticket 2^64 - 1', 16, F, HEARD, 3, 0, bytes([3, 2]), 2**64 - 1, 3),
+    ('nothing derived', 16, F, HEARD, 1, 0, bytes([3, 2]), 0, 3),
+    ('nothing left', 16, F, history([bytes([a, b]) for a in (0, 1) for b in (1, 0)]), 2, 0, bytes([3, 2]), 0, 2),
+    ('nothing left but what was broken off', 0, F, history([bytes([a, b]) for a in (0, 1) for b in (1, 0)], played=[0, 1, 0, 0]), 2, 0, bytes([3, 2]), 8, 2),
+
+    # 20 after 16
+    ('a buffer of two bytes', 20, F, HEARD, 3, 0, bytes([3, 2]), 76, 2),
+    ('a buffer of no byte', 20, F, HEARD, 3, 0, bytes([3, 2]), 76, 0),
+    ('a buffer of no byte, beyond', 16, F, HEARD, 3, 0, bytes([3, 2]), 77, 0),
+    ('a buffer of more bytes', 0, F, HEARD, 3, 0, bytes([3, 2]), 76, 40),
+
+    # lengths
+    ('length 0', 9, F, HEARD, 0, 0, bytes([3, 2]), 0, 16),
+    ('length 1', 0, G, HEARD, 1, 0, bytes([3]), 2, 1),
+    ('length 16', 0, F, HEARD, 16, 0, bytes([3, 2]), 5**16 - 1, 16),
+    ('length 17', 9, F, HEARD, 17, 0, bytes([3, 2]), 0, 17),
+    ('length 256 + 3', 9, F, HEARD, 259, 0, bytes([3, 2]), 0, 17),
+    ('length 2^32 + 3', 9, F, HEARD, 2**32 + 3, 0, bytes([3, 2]), 0, 17),
+    ('length 2^64 - 1', 9, F, HEARD, 2**64 - 1, 0, bytes([3, 2]), 0, 17),
+]
+
+
+def weighted_defects():
+    """Every subset of one of 1 to 8, 9, 22, 10, 24, 25, one of 11 to 14, 15, 16 and 20 in one call: the first in this order is the answer.
+    Each is as a row of WEIGHT_TRAPS. Sixteen words need 20^15 derivations of the second nonterminal, above 2^64 - 1; fifteen need 20^14, or
+    a total weight of 24^14, above 2^64 - 1, where one of the twenty words weighs 5."""
+    base = grammar(20, 0, [[pair(0, 0), word(0), pair(1, 4)], [pair(2, 2), pair(1, 2)], words(20), [word(0), word(1)], []])
+    rule = [None] + [9 + 4 * i for i in range(base[2])]
+    last = base[2]
+    banks = {0: base, 1: base[:3], 2: damaged(base, [(3, 5)]), 3: base + b'\0', 4: damaged(base, [(rule[last] + KIND, 2)]),
+             5: damaged(base, [(rule[last - 1] + NEXT, last + 1)]), 6: damaged(base, [(rule[last] + NEXT, 1)]),
+             7: damaged(base, [(rule[last - 1] + NEXT, 0)]), 8: damaged(base, [(rule[last] + A, 0)])}
+    for subset in range(1024):
+        first, length, voice, counts, faulty, heavy, wrong, several, beyond, short = (subset >> i & 1 for i in range(10))
+        bank = first * (1 + (length ^ faulty) + 2 * (voice ^ several) + 4 * (counts ^ beyond))  # each with each of the others
+        other = wrong * (11 + (several ^ short) + 2 * (beyond ^ short))
+        places = 16 if counts else 15
+        heard = history([bytes([2]), bytes([0 if several else 7]) * places, bytes([3])])
+        diaries = {0: heard, 11: heard[:-1], 12: damaged(heard, [(7, 49)]), 13: damaged(heard, [(2, 4)]), 14: damaged(heard, [(2, 2)])}
+        weights = weighing(20, (19, 5 if heavy else 1))
+        if faulty:
+            weights = [weights[:-1], weights + b'\1', damaged(weights, [(0, 0)]), damaged(weights, [(18, 0)])][(voice ^ short) + 2 * (several ^ first)]
+        chosen = [number for number in (bank, 9 * length, 22 * voice, 10 * counts, 24 * faulty, 25 * heavy, other, 15 * several, 16 * beyond, 20 * short)
+                  if number]
+        yield (f'defects {chosen}', chosen[0] if chosen else 0, banks[bank], diaries[other], 17 if length else places, 16 if voice else 0, weights,
+               2**64 - 1 if beyond else 1, places - 1 if short else places)
+
+
+def stated_lotteries():
+    """The traps and the sets of defects, each with its call, by bank and diary; and once the same with a weight of 1 for every word."""
+    groups, met = {}, set()
+    for name, refusal, bank, diary, length, voice, weights, ticket, room in [*WEIGHT_TRAPS, *sorted(weighted_defects(), key=lambda row: (*row[2:4], row[6]))]:
+        answer = oracle.draw_weighted(bank, diary, length, voice, weights, ticket, bytes(room))[0]
+        if answer != refusal:
+            raise AssertionError(f'{name}: the documents give {refusal}, the brute-force program {answer}')
+        lottery = groups.setdefault((bank, diary), Lottery(name, bank, diary))
+        lottery.name = name
+        lottery.draw(length, weights, ticket, room, voice)
+        if (bank, diary, length, voice) not in met:
+            met.add((bank, diary, length, voice))
+            lottery.draw(length, ones(bank), ticket, room, voice)
+    for name, refusal, diary in HISTORY_TRAPS:
+        if refusal and len(diary) < 1000:
+            lottery = groups.setdefault((F, diary), Lottery(name, F, diary))
+            lottery.name = name
+            lottery.draw(2, bytes([3, 2]), 0, 2)
+    return [*groups.values()]
+
+
+def small_lotteries():
+    """Of F, G and F with words of five: every ticket by several weights, in several voices, with sentences heard, repeated and broken off."""
+    short = history([bytes([0, 1]), bytes([1, 1]), bytes([0, 1, 1, 0]), bytes([1, 1, 1, 1]), bytes([0, 1, 1, 0]), bytes([1])], [3, 1, 2, 6, 5, 4],
+                    voices=[0, 5, 0, 0, 0, 0], played=[0, 0, 0, 3, 0, 0])
+    for name, diary, lengths in [('F, heard', HEARD, [3]), ('F, two and four words', short, [1, 2, 4]), ('F, nothing heard', NONE, [1, 2, 3])]:
+        lottery = Lottery(name, F, diary)
+        for length in lengths:
+            for weights in (bytes([1, 1]), bytes([3, 2]), bytes([1, 4]), bytes([4, 1]), bytes([2, 2]), bytes([255, 1]), bytes([1, 255]), bytes([255, 254])):
+                lottery.every_ticket(length, weights, most=80)
+                lottery.draw(length, weights, 0, length - 1)
+                for voice in (5, 15):
+                    lottery.every_ticket(length, weights, voice, most=16)
+        yield lottery
+    lottery = Lottery('G', G, history([bytes(2), bytes(1)]))
+    for length in range(1, 6):
+        for weight in (1, 2, 3, 255):
+            lottery.every_ticket(length, bytes([weight]), most=24)
+            lottery.every_ticket(length, bytes([weight]), voice=4, most=24)
+    yield lottery
+    lottery = Lottery('F with words of five', UNUSED, OF_FIVE)
+    for weights in (ones(UNUSED), bytes([9, 2, 9, 3, 9]), bytes([255, 1, 255, 4, 255]), bytes([1, 255, 1, 7, 1])):
+        for voice in (0, 9):
+            lottery.every_ticket(2, weights, voice, most=40)
+            lottery.every_ticket(3, weights, voice, most=20)
+    yield lottery
+
+
+def ambiguous_lotteries():
+    """Sentences of two and more derivations, nothing of them heard; and one of one derivation heard where there is one."""
+    for name, (bank, sentences) in ambiguous().items():
+        once = [sentence for sentence, (_, _, count) in sentences.items() if count == 1]
+        lottery = Lottery(name, bank, history(once, voices=[3] * len(once)))
+        for length in sorted({len(sentence) for sentence in sentences}):
+            small = length < 10
+            for weights in (ones(bank), bytes([3, 2, 4][:bank[1]]), bytes([1, 255, 1][:bank[1]]) if small else bytes([2, 1, 1][:bank[1]])):
+                for voice in (3, 0):
+                    lottery.every_ticket(length, weights, voice, most=12 if small else 0)
+        yield lottery
+
+
+# What the eight derivations of laden() weigh by LADEN: 15 * 17 times 256 or 1, times 256^2 or 1, times 256^4 or 1.
+LADEN_WEIGHTS = [255 * two * four * eight for two in (256, 1) for four in (256**2, 1) for eight in (256**4, 1)]
+
+
+def large_lotteries(rng):
+    """Totals up to 2^64 - 1, a thousand records, and the house bank by the frequency of its words."""
+    heard = [bytes([0, 1, 2, 2] + [2] * 4 + [3] * 8), bytes([0, 1, 3, 3] + [3] * 4 + [2] * 8), bytes([0, 1, 2, 2] + [2] * 12), LAST]
+    borders = [sum(LADEN_WEIGHTS[:i]) for i in range(9)]
+    for many in range(5):
+        lottery = Lottery(f'laden, {many} heard', laden(), history(heard[:many], voices=[2] * many))
+        for voice in (2, 0):
+            lottery.every_ticket(16, LADEN, voice, about=borders)
+            lottery.every_ticket(16, bytes([1, 2, 3, 4]), voice, about=[5 * 10**i for i in range(7)])
+            lottery.every_ticket(16, bytes([255, 254, 1, 3]), voice, about=[5 * 10**i for i in range(7)])
+        yield lottery
+    parts = brimful(0, 8, [0, 1], [2, 3, 4], [5, 6], [7]), bytes([7, 8, 5, 11, 1, 15, 1, 1])
+    lottery = Lottery('laden, groups of words', parts[0], history([bytes([1, 4, 7, 7] + [6] * 4 + [5] * 8), bytes([0, 3] + [7] * 14)]))
+    lottery.every_ticket(16, parts[1], about=[rng.below(2**60) * 16 for _ in range(6)])
+    yield lottery
+    lottery = Lottery('brimful', brimful(), history([oracle.unrank(brimful(), 16, number, bytes(16))[2] for number in (0, 2**63, 2**64 - 5)]))
+    for voice in (0, 1):
+        lottery.every_ticket(16, ones(brimful()), voice)
+    yield lottery
+    fifteen = oracle.f_words(15)
+    said = [bytes([14] * 7 + [12]), bytes([13] * 8), bytes([14] + [0] * 7), bytes([7, 14] * 4), bytes(8), bytes([0, 0, 0, 0, 0, 0, 0, 1])]
+    lottery = Lottery('F with 15 words', fifteen, history(said, [2, 5, 1, 4, 3, 6]))
+    for weights in (ones(fifteen), bytes(range(1, 16)), bytes(range(15, 0, -1)), weighing(15, (0, 200)), weighing(15, (14, 200), (7, 255))):
+        lottery.every_ticket(8, weights, about=[rng.below(10**9) for _ in range(2)])
+        lottery.every_ticket(3, weights, about=[rng.below(1000) for _ in range(2)])
+    yield lottery
+    for extra in (0, 1):
+        lottery = Lottery(f'beside nothing, {extra} more', beside_nothing(extra), NONE)
+        for length in (1, 8, 9, 10, 16):
+            for weights in (BESIDE, ones(beside_nothing()), damaged(BESIDE, [(5, 9)]), damaged(BESIDE, [(2, 1)]), damaged(BESIDE, [(2, 3)])):
+                lottery.every_ticket(length, weights)
+        yield lottery
+    zero = huge_times_zero()
+    lottery = Lottery('huge times zero', zero, NONE)
+    for weights in (ones(zero), weighing(16, (15, 9)), weighing(16, (0, 5))):
+        for length in (1, 2, 15, 16):
+            lottery.every_ticket(length, weights)
+    yield lottery
+    yield from matrix_lotteries(rng)
+
+
+def matrix_lotteries(rng):
+    """The house bank, with diaries of up to a thousand records, sentences repeated, in two voices and broken off; and with slack."""
+    matrix = oracle.matrix()
+    common = bytes(1 + rng.choice([0, 0, 1, 5, 60, 254]) for _ in range(50))
+    for many in (0, 5, 100, 1000):
+        numbers = [rng.choice([31000 + rng.below(1000), 31400 + rng.below(100), rng.below(100000)]) for _ in range(many)]
+        said = [oracle.unrank(matrix, 5, number, bytes(5))[2] for number in numbers]
+        records = rng.shuffled(range(1, many + 1))
+        voices, played = [rng.choice([0, 0, 0, 9]) for _ in said], [rng.choice([0, 0, 0, 4]) for _ in said]
+        lottery = Lottery(f'matrix, {many} records', matrix, history(said, records, voices=voices, played=played))
+        for weights in (ones(matrix), common, weighing(50, (3, 20), (45, 5))):
+            total = oracle.draw_weighted(matrix, lottery.diary, 5, 0, weights, 0, bytes(5))[1]
+            lottery.every_ticket(5, weights, about=[rng.below(total) for _ in range(8)])
+        lottery.every_ticket(5, common, 9)
+        yield lottery
+    lottery = Lottery('matrix, slack', matrix, history([bytes([3, 11, 24, 31, 45])], slack=bytes([255]) * 2500))
+    lottery.every_ticket(5, weighing(50, (3, 20), (45, 5)), about=[42100, 84200])
+    yield lottery
+
+
+def random_weights(rng, w):
+    """Small ones, any, ones and 255, or ones with a few others; rarely a 0, or a byte too many or too few."""
+    kind = rng.below(7)
+    data = bytes(1 + rng.choice([[0, 1, 2], [0, 1], [0, 3], [0, 0, 1], [0, 254], [rng.below(255)], [0, 0, 0, rng.below(255)]][kind]) for _ in range(w))
+    damage = rng.below(24)
+    return damaged(data, [(rng.below(w), 0)]) if damage == 0 else data + b'\1' if damage == 1 else data[1:] if damage == 2 else data
+
+
+def random_lotteries(rng, count):
+    """Random grammars with some derivations of a length, their diaries and weights."""
+    while count:
+        bank, length = random_grammar(rng, 4, 4, 10), 1 + rng.below(6)
+        if not 3 <= oracle.count(bank, length)[1] <= rng.choice([8, 60]) or sum(oracle.read(bank).totals(length)) > 1000:
+            continue
+        if len({rule.a for rule in oracle.rules_of(bank).values() if rule.kind == oracle.WORD}) == 1:
+            continue
+        count -= 1
+        lottery = Lottery(f'random {count}', bank, random_diary(rng, bank, length))
+        for weights in [ones(bank), *(random_weights(rng, bank[1]) for _ in range(3))]:
+            lottery.every_ticket(length, weights, rng.choice([0, 0, 9, 8]), 40, [rng.below(100), rng.below(10**6)])
+        yield lottery
+
+
+def weighted_cases():
+    rng = Rng(71)
+    groups = [*stated_lotteries(), *small_lotteries(), *ambiguous_lotteries(), *large_lotteries(rng), *random_lotteries(rng, 38)]
+    cases, state = [], {}
+    for lottery in groups:
+        for weights, calls in lottery.calls.items():
+            frame = b''
+            for call, data in [(BANK, lottery.bank), (DIARY, lottery.diary), (WEIGHTS, weights)]:
+                if state.get(call) != data:
+                    state[call] = data
+                    frame += sampled(call, 0, 0, 0, data)
+            first, *others = calls.values()
+            cases += [first._replace(stdin=frame + first.stdin), *others]
+    return cases
+
+
 # ---- Writing and checking
 
-KINDS = {'grammar': grammar_cases, 'matrix': matrix_table, 'ranking': ranking_cases, 'history': history_cases, 'sampling': sampling_cases}
+KINDS = {'grammar': grammar_cases, 'matrix': matrix_table, 'ranking': ranking_cases, 'history': history_cases, 'sampling': sampling_cases,
+         'weighted': weighted_cases}
 
 
 def files(cases):

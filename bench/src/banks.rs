@@ -177,6 +177,44 @@ pub fn every_tree() -> Vec<u8> {
     encode(5, 0, &[chain], &[0, 1, 2, 3, 4, 5])
 }
 
+/// Weights for which the bank below has the total 2^64 - 1 at length 8.
+pub const BRIMFUL: [u8; 3] = [1, 255, 2];
+
+/// That total is 255 * 257 * (256^2 + 1) * (256^4 + 1), with factors of the lengths 1, 1, 2 and 4. With one rule more it is 2^64.
+pub fn brimful(more: bool) -> Vec<u8> {
+    use Rule::{Pair, Word};
+    let mut chains = [
+        vec![Pair(1, 2)],
+        vec![Pair(3, 4)],               // 256^4 - 1
+        vec![Pair(9, 9), Pair(10, 10)], // 256^4 + 1
+        vec![Pair(7, 8)],               // 256^2 - 1
+        vec![Pair(5, 5), Pair(6, 6)],   // 256^2 + 1
+        vec![Word(0), Word(1)],         // 256
+        vec![Word(0)],                  // 1
+        vec![Word(1)],                  // 255
+        vec![Word(1), Word(2)],         // 257
+        vec![Pair(5, 5)],               // 256^2
+        vec![Pair(6, 6)],               // 1, of two words
+        vec![Pair(10, 10)],             // 1, of four words
+    ];
+    if more {
+        chains[0].push(Pair(11, 11));
+    }
+    let numbers: Vec<usize> = (0..17).collect();
+    encode(3, 0, &chains, &numbers)
+}
+
+/// The same bank with another start.
+pub fn started(mut bank: Vec<u8>, start: u8) -> Vec<u8> {
+    bank[3] = start;
+    bank
+}
+
+/// Weights from 1 to `most`.
+pub fn weights(rng: &mut Rng, words: u8, most: u64) -> Vec<u8> {
+    (0..words).map(|_| 1 + rng.below(most) as u8).collect()
+}
+
 /// A history of these sentences, in voice 0 and played in full, chained in an order of its own.
 pub fn history(sentences: &[Vec<u8>], rng: &mut Rng) -> Vec<u8> {
     let k = sentences.len();
@@ -327,6 +365,21 @@ pub fn small_pattern(rng: &mut Rng, sentence: &[u8], words: u8) -> Vec<u8> {
         pattern.resize([0, 1, 16, 17, 256 + sentence.len()][rng.index(5)], 255);
     }
     pattern
+}
+
+/// Weights for so many words: all 1, small ones, all 255, any. Sometimes one is 0, or there are more or fewer of them.
+pub fn small_weights(rng: &mut Rng, words: u8) -> Vec<u8> {
+    let most = [1, 2, 3, 10, 255][rng.index(5)];
+    let mut list = if rng.below(6) == 0 { vec![255; words as usize] } else { weights(rng, words, most) };
+    match rng.below(24) {
+        0 if !list.is_empty() => {
+            let i = rng.index(list.len());
+            list[i] = 0;
+        }
+        1 => list.resize([0, list.len().saturating_sub(1), list.len() + 1, list.len() + 256][rng.index(4)], 1),
+        _ => {}
+    }
+    list
 }
 
 /// The sentence with so many of its words blanked.

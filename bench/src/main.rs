@@ -15,7 +15,7 @@ const DRAWS: usize = 20;
 // ---- Both answer alike
 
 /// Refusals have numbers below it. 18 is returned no more.
-const REFUSALS: usize = 24;
+const REFUSALS: usize = 26;
 const NEVER: [usize; 1] = [18];
 
 /// How often each refusal was given, 0 for accepted.
@@ -88,6 +88,14 @@ impl Alike {
         self.same_buffers("draw_matching", &input, &x, &y);
     }
 
+    fn draw_weighted(&mut self, g: &[u8], h: &[u8], (n, v): (u64, u64), w: &[u8], ticket: u64, room: usize) {
+        let (mut x, mut y) = (vec![77; room], vec![77; room]);
+        let input = (g, h, n, v, w, ticket, room);
+        let ours = ours::draw_weighted(g, h, n, v, w, ticket, &mut x);
+        self.note("draw_weighted", &input, ours, plain::draw_weighted(g, h, n, v, w, ticket, &mut y));
+        self.same_buffers("draw_weighted", &input, &x, &y);
+    }
+
     fn append(&mut self, h: &[u8], s: &[u8], v: u64, p: u64) {
         let (mut x, mut y) = (h.to_vec(), h.to_vec());
         let input = (h, s, v, p);
@@ -96,9 +104,9 @@ impl Alike {
     }
 }
 
-/// Small random inputs, all ten calls on each. Patterns have random numbers of their own.
+/// Small random inputs, all eleven calls on each. Patterns and weights have random numbers of their own.
 fn random_inputs(alike: &mut Alike) {
-    let (mut rng, mut patterns) = (Rng::new(1), Rng::new(5));
+    let (mut rng, mut patterns, mut weights) = (Rng::new(1), Rng::new(5), Rng::new(8));
     for _ in 0..RANDOM {
         let g = banks::small_bank(&mut rng);
         let n = match rng.below(12) {
@@ -150,6 +158,7 @@ fn random_inputs(alike: &mut Alike) {
         };
         alike.append(&h, &s, v, p);
         random_pattern(alike, &mut patterns, (&g, &h, n, v), &mut |rng| derivable(rng));
+        random_weights(alike, &mut weights, (&g, &h, n, v));
     }
 }
 
@@ -176,6 +185,17 @@ fn random_pattern(
     let left = plain::remaining_matching(g, h, &p, v).map_or(0, |(_, _, left)| left);
     for q in [0, rng.below(left.saturating_add(2)), left.wrapping_sub(1), left, rng.next()] {
         alike.draw_matching(g, h, &p, v, q, room);
+    }
+}
+
+/// The call with weights on such an input, in its voice or in that of a record, with several tickets.
+fn random_weights(alike: &mut Alike, rng: &mut Rng, (g, h, n, v): (&[u8], &[u8], u64, u64)) {
+    let w = banks::small_weights(rng, g.get(1).copied().unwrap_or(0));
+    let v = if rng.below(2) == 0 { v } else { h.get(7).map_or(0, |&b| b as u64 / 16) };
+    let room = if rng.below(6) == 0 { rng.index(6) } else { 17 };
+    let tickets = tickets(g, h, (n, v), &w).unwrap_or(0);
+    for ticket in [0, rng.below(tickets.saturating_add(2)), tickets.wrapping_sub(1), tickets, rng.next()] {
+        alike.draw_weighted(g, h, (n, v), &w, ticket, room);
     }
 }
 
@@ -307,6 +327,7 @@ struct Case {
     /// The full ones with every second record broken off; all others are played in full.
     broken: Vec<Vec<u8>>,
     patterns: Vec<Patterns>,
+    weighted: Vec<Weighted>,
 }
 
 /// Patterns with as many blanks each, made from sentences that no full history has: 2,000 for the empty history, of which the first 20 are
@@ -334,10 +355,69 @@ impl Patterns {
     }
 }
 
+/// Weights with their bank and length, which need not be those of the other rows, and with full histories of that length. The tickets are
+/// below the total: 2,000 for the empty history, 20 for the full ones in turn.
+struct Weighted {
+    what: String,
+    bank: Vec<u8>,
+    length: u64,
+    weights: Vec<u8>,
+    full: Vec<Vec<u8>>,
+    empty: Vec<u64>,
+    heard: Vec<u64>,
+}
+
+impl Weighted {
+    /// All weights 1.
+    fn ones(c: &Case) -> Self {
+        let (bank, full) = (c.banks[0].clone(), c.full.clone());
+        let weights = vec![1; bank[1] as usize];
+        Weighted::new(format!("all weights 1, length {}", c.length), bank, c.length, weights, full)
+    }
+
+    /// Random weights, as large as every total weight that is needed allows. `place` names start and length.
+    fn heavy(bank: Vec<u8>, length: u64, place: &str) -> Self {
+        let (most, weights) = (2..=255)
+            .rev()
+            .map(|most| (most, banks::weights(&mut Rng::new(9), bank[1], most)))
+            .find(|(_, weights)| tickets(&bank, &EMPTY, (length, 0), weights).is_some())
+            .expect("room for weights");
+        let mut rng = Rng::new(10);
+        let full = (0..4).map(|_| banks::history(&distinct(&bank, length, &mut rng), &mut rng)).collect();
+        Weighted::new(format!("weights 1 to {most}, {place}"), bank, length, weights, full)
+    }
+
+    fn new(what: String, bank: Vec<u8>, length: u64, weights: Vec<u8>, full: Vec<Vec<u8>>) -> Self {
+        let mut rng = Rng::new(11);
+        let mut below = |h: &[u8]| rng.below(tickets(&bank, h, (length, 0), &weights).expect("some tickets"));
+        let empty = (0..MANY).map(|_| below(&EMPTY)).collect();
+        let heard = (0..DRAWS).map(|i| below(&full[i % full.len()])).collect();
+        Weighted { what, bank, length, weights, full, empty, heard }
+    }
+}
+
+/// How many tickets there are, unless there is none.
+fn tickets(bank: &[u8], history: &[u8], (length, voice): (u64, u64), weights: &[u8]) -> Option<u64> {
+    Some(plain::draw_weighted(bank, history, length, voice, weights, 0, &mut [0; 16]).ok()?.0)
+}
+
 fn sentence(bank: &[u8], n: u64, d: u64) -> Vec<u8> {
     let mut s = vec![0; n as usize];
     plain::unrank(bank, n, d, &mut s).expect("d is below T");
     s
+}
+
+/// 1,000 distinct sentences of a bank in which none has two derivations.
+fn distinct(bank: &[u8], length: u64, rng: &mut Rng) -> Vec<Vec<u8>> {
+    let total = plain::count(bank, length).expect("an accepted bank");
+    let (mut met, mut sentences) = (HashSet::new(), Vec::new());
+    while sentences.len() < 1_000 {
+        let d = rng.below(total);
+        if met.insert(d) {
+            sentences.push(sentence(bank, length, d));
+        }
+    }
+    sentences
 }
 
 fn case(name: &'static str, banks: Vec<Vec<u8>>, length: u64, mixed: bool) -> Case {
@@ -351,14 +431,7 @@ fn case(name: &'static str, banks: Vec<Vec<u8>>, length: u64, mixed: bool) -> Ca
     let sentences = numbers.iter().map(|&d| sentence(bank, length, d)).collect();
     let mut case = Case { name, length, total, sentences, numbers, banks, ..Case::default() };
     for _ in 0..4 {
-        let mut met = HashSet::new();
-        let mut heard = Vec::new();
-        while heard.len() < 1_000 {
-            let d = rng.below(total);
-            if met.insert(d) {
-                heard.push(sentence(&case.banks[0], length, d));
-            }
-        }
+        let mut heard = distinct(&case.banks[0], length, &mut rng);
         case.full.push(banks::history(&heard, &mut rng));
         case.half = banks::logged(&heard[..500]);
         if mixed {
@@ -386,12 +459,18 @@ fn case(name: &'static str, banks: Vec<Vec<u8>>, length: u64, mixed: bool) -> Ca
 }
 
 fn cases() -> Vec<Case> {
-    vec![
+    let mut cases = vec![
         case("matrix", vec![banks::matrix()], 5, true),
         case("right-linear", (0..16).map(|s| banks::right_linear(255, s)).collect(), 16, false),
         case("ladder", (0..16).map(banks::ladder).collect(), 16, false),
         case("dense", (0..16).map(banks::dense).collect(), 8, false),
-    ]
+    ];
+    // At length 16 T leaves no room for weights; the nonterminals of the ladder's second rung have length 8.
+    let places = [(0, 5, "length 5"), (0, 8, "length 8"), (1, 8, "length 8 from the second rung"), (0, 8, "length 8")];
+    for (c, (start, length, place)) in cases.iter_mut().zip(places) {
+        c.weighted = vec![Weighted::ones(c), Weighted::heavy(banks::started(c.banks[0].clone(), start), length, place)];
+    }
+    cases
 }
 
 const EMPTY: [u8; 4] = [0; 4];
@@ -436,7 +515,9 @@ fn table_inputs(alike: &mut Alike, cases: &[Case]) {
                 alike.draw_matching(g, &c.full[i % c.full.len()], pattern, 0, q, 16);
             }
         }
+        weight_inputs(alike, c);
     }
+    brimful_inputs(alike);
     for rules in RULES {
         alike.grammar(&banks::right_linear(rules, 0));
         alike.count(&banks::right_linear(rules, 0), 16);
@@ -461,6 +542,44 @@ fn pattern_inputs(alike: &mut Alike, c: &Case, h: &[u8]) {
         let left = plain::remaining_matching(g, h, &p, v).expect("an accepted pattern").2;
         for q in [0, rng.below(left.max(1)), left.wrapping_sub(1), left] {
             alike.draw_matching(g, h, &p, v, q, 16);
+        }
+    }
+}
+
+/// The weights with their tickets, and each history with the first ticket and the last, and with tickets beyond.
+fn weight_inputs(alike: &mut Alike, c: &Case) {
+    for Weighted { bank: g, length: n, weights: w, full, empty, heard, .. } in &c.weighted {
+        for &ticket in empty {
+            alike.draw_weighted(g, &EMPTY, (*n, 0), w, ticket, 16);
+        }
+        for (i, &ticket) in heard.iter().enumerate() {
+            alike.draw_weighted(g, &full[i % full.len()], (*n, 0), w, ticket, 16);
+        }
+        let made = full.iter().chain(&c.mixed).chain(&c.spoken).chain(&c.broken).map(Vec::as_slice);
+        for h in [&EMPTY[..], &c.half].into_iter().chain(made) {
+            for v in [0, 1, 15] {
+                let tickets = tickets(g, h, (*n, v), w).expect("some tickets");
+                for ticket in [0, tickets / 2, tickets - 1, tickets, u64::MAX] {
+                    alike.draw_weighted(g, h, (*n, v), w, ticket, 16);
+                }
+            }
+        }
+    }
+}
+
+/// A total weight of 2^64 - 1, with every derivation's sentence heard in turn; and one of 2^64.
+fn brimful_inputs(alike: &mut Alike) {
+    let (n, w, mut rng) = (8, &banks::BRIMFUL, Rng::new(12));
+    for more in [false, true] {
+        let g = banks::brimful(more);
+        let mut histories = vec![EMPTY.to_vec()];
+        for d in 0..plain::count(&g, n).expect("an accepted bank") {
+            histories.push(banks::history(&[sentence(&g, n, d)], &mut rng));
+        }
+        for h in &histories {
+            for ticket in [0, 1, rng.next(), u64::MAX - 1, u64::MAX] {
+                alike.draw_weighted(&g, h, (n, 0), w, ticket, 16);
+            }
         }
     }
 }
@@ -557,6 +676,24 @@ fn patterns_table(report: &mut Report, c: &Case) {
                 q.len(),
                 |i| ours::draw_matching(g, &h[i % k], &p[i], 0, q[i], &mut out),
                 |i| plain::draw_matching(g, &h[i % k], &p[i], 0, q[i], &mut out2),
+            );
+            report.row(&format!("draw, {what}, {history}"), row);
+        }
+    }
+}
+
+/// *draw* with weights, in voice 0.
+fn weights_table(report: &mut Report, c: &Case) {
+    report.table(format!("With weights on the {} bank", c.name), "call");
+    let (mut out, mut out2) = ([0u8; 16], [0u8; 16]);
+    let none = vec![EMPTY.to_vec()];
+    for Weighted { what, bank: g, length: n, weights: w, full, empty, heard } in &c.weighted {
+        for (history, h, tickets) in [("empty", &none, empty), ("full", full, heard)] {
+            let k = h.len();
+            let row = measure(
+                tickets.len(),
+                |i| ours::draw_weighted(g, &h[i % k], *n, 0, w, tickets[i], &mut out),
+                |i| plain::draw_weighted(g, &h[i % k], *n, 0, w, tickets[i], &mut out2),
             );
             report.row(&format!("draw, {what}, {history}"), row);
         }
@@ -678,6 +815,9 @@ fn main() {
         }
         for c in &cases[..3] {
             patterns_table(&mut report, c);
+        }
+        for c in &cases {
+            weights_table(&mut report, c);
         }
         growth_tables(&mut report, &cases);
         draws_table(&mut report, &cases[0]);

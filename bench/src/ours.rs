@@ -66,6 +66,21 @@ extern "C" {
         remaining: *mut u64,
         number: *mut u64,
     ) -> c_uchar;
+    fn pumpfennel_draw_weighted(
+        g: *const u8,
+        g_len: usize,
+        h: *const u8,
+        h_len: usize,
+        length: u64,
+        voice: u64,
+        weights: *const u8,
+        weights_len: usize,
+        ticket: u64,
+        out: *mut u8,
+        out_len: usize,
+        tickets: *mut u64,
+        number: *mut u64,
+    ) -> c_uchar;
     fn pumpfennel_append(h: *mut u8, h_len: usize, s: *const u8, s_len: usize, voice: u64, played: u64, records: *mut u64) -> c_uchar;
 }
 
@@ -135,6 +150,16 @@ pub fn draw_matching(g: &[u8], h: &[u8], pattern: &[u8], voice: u64, q: u64, out
     let (gp, hp, pp, op) = (g.as_ptr(), h.as_ptr(), pattern.as_ptr(), out.as_mut_ptr());
     let r = unsafe { pumpfennel_draw_matching(gp, g.len(), hp, h.len(), pp, pattern.len(), voice, q, op, out.len(), &mut l, &mut d) };
     answer(r, &[l, d], (l, d))
+}
+
+pub fn draw_weighted(g: &[u8], h: &[u8], length: u64, voice: u64, weights: &[u8], ticket: u64, out: &mut [u8]) -> Result<(u64, u64), u8> {
+    let (mut t, mut d) = (BEFORE, BEFORE);
+    let (gp, hp, wp, op) = (g.as_ptr(), h.as_ptr(), weights.as_ptr(), out.as_mut_ptr());
+    let r = unsafe {
+        let (w_len, o_len) = (weights.len(), out.len());
+        pumpfennel_draw_weighted(gp, g.len(), hp, h.len(), length, voice, wp, w_len, ticket, op, o_len, &mut t, &mut d)
+    };
+    answer(r, &[t, d], (t, d))
 }
 
 pub fn append(h: &mut [u8], s: &[u8], voice: u64, played: u64) -> Result<u64, u8> {

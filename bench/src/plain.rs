@@ -1,4 +1,4 @@
-//! The calls of document 01, with document 02's U1, U2, U4, U5 and U6, in plain Rust: the yardstick. Written from the documents alone; no
+//! The calls of document 01, with document 02's U1, U2 and U4 to U7, in plain Rust: the yardstick. Written from the documents alone; no
 //! unsafe code, no threads, nothing kept between calls. An error is the refusal's number.
 
 const MOST_RECORDS: usize = 1000;
@@ -152,6 +152,11 @@ fn needed(g: &Grammar, n: usize) -> [u32; 17] {
     at
 }
 
+/// The left lengths k of a run of m words: bit k on the left and bit m - k on the right.
+fn splits(left: u32, right: u32, m: usize) -> Bits {
+    Bits(left & right.reverse_bits() >> (31 - m))
+}
+
 /// 10, or T of the needed pairs in a table of zeros. Which lengths a nonterminal has is a mask, so that no product with a zero is looked at.
 fn fill_totals(g: &Grammar, n: usize, t: &mut Totals) -> Result<(), u8> {
     let needed = needed(g, n);
@@ -165,8 +170,7 @@ fn fill_totals(g: &Grammar, n: usize, t: &mut Totals) -> Result<(), u8> {
             let mut sum = 0u64;
             for &(b, c) in g.pairs(a) {
                 let (b, c) = (b as usize & 31, c as usize & 31);
-                // the k with bit k on the left and bit m - k on the right
-                for k in Bits(lengths[b] & lengths[c].reverse_bits() >> (31 - m)) {
+                for k in splits(lengths[b], lengths[c], m) {
                     let product = t[b][k].checked_mul(t[c][m - k]).ok_or(10)?;
                     sum = sum.checked_add(product).ok_or(10)?;
                 }
@@ -178,8 +182,9 @@ fn fill_totals(g: &Grammar, n: usize, t: &mut Totals) -> Result<(), u8> {
     Ok(())
 }
 
-/// The refusals 1 to 9, 22 and 10; then T is in the table. A call that takes no voice names 0.
-fn prepare(grammar: &[u8], length: u64, voice: u64, t: &mut Totals) -> Result<(Grammar, usize), u8> {
+/// The refusals 1 to 9 and 22. A call that takes no voice names 0. Inlined, so that the grammar is not copied once more.
+#[inline(always)]
+fn open(grammar: &[u8], length: u64, voice: u64) -> Result<(Grammar, usize), u8> {
     let g = Grammar::read(grammar)?;
     if !(1..=16).contains(&length) {
         return Err(9);
@@ -187,7 +192,12 @@ fn prepare(grammar: &[u8], length: u64, voice: u64, t: &mut Totals) -> Result<(G
     if voice > LAST_VOICE {
         return Err(22);
     }
-    let n = length as usize;
+    Ok((g, length as usize))
+}
+
+/// The refusals 1 to 9, 22 and 10; then T is in the table.
+fn prepare(grammar: &[u8], length: u64, voice: u64, t: &mut Totals) -> Result<(Grammar, usize), u8> {
+    let (g, n) = open(grammar, length, voice)?;
     fill_totals(&g, n, t)?;
     Ok((g, n))
 }
@@ -482,6 +492,129 @@ impl Fitting<'_> {
     }
 }
 
+/// The tickets of the derivations of a nonterminal and a length: each owns as many as it weighs, one after another in the order of the
+/// derivations.
+struct Tickets<'a> {
+    g: &'a Grammar,
+    weights: &'a [u8],
+    /// The first ticket of each word rule, by its place among `g.words`.
+    first: [u16; 256],
+    /// The lengths that a nonterminal has, as a mask.
+    lengths: [u32; 32],
+    /// T, and the total weight, by nonterminal and length.
+    t: &'a mut Totals,
+    v: &'a mut Totals,
+}
+
+/// The owner of a ticket: its number among the derivations, its weight, and how many of its tickets stand before that one.
+struct Owner {
+    number: u64,
+    weight: u64,
+    before: u64,
+}
+
+impl<'a> Tickets<'a> {
+    /// 24, 25, or T and the total weights of the needed pairs in two tables of zeros.
+    fn new(g: &'a Grammar, n: usize, weights: &'a [u8], t: &'a mut Totals, v: &'a mut Totals) -> Result<Self, u8> {
+        if weights.len() != g.words_below as usize || weights.contains(&0) {
+            return Err(24);
+        }
+        let mut tickets = Tickets { g, weights, first: [0; 256], lengths: [0; 32], t, v };
+        tickets.fill(n).ok_or(25)?;
+        Ok(tickets)
+    }
+
+    /// Fills both tables side by side, unless a total weight is too large. No weight is 0: a count is no larger than its total weight, so it
+    /// fits too, and the two are 0 together.
+    fn fill(&mut self, n: usize) -> Option<()> {
+        let needed = needed(self.g, n);
+        for a in Bits(needed[1]) {
+            let mut sum = 0;
+            for i in self.g.word_from[a]..self.g.word_from[a + 1] {
+                self.first[i as usize] = sum;
+                sum += u16::from(self.weights[self.g.words[i as usize] as usize]);
+            }
+            self.t[a][1] = self.g.words(a).len() as u64;
+            self.v[a][1] = u64::from(sum);
+            self.lengths[a] = u32::from(sum != 0) << 1;
+        }
+        for m in 2..=n {
+            for a in Bits(needed[m]) {
+                let (mut count, mut weight) = (0, 0u64);
+                for &(b, c) in self.g.pairs(a) {
+                    let (b, c) = (b as usize & 31, c as usize & 31);
+                    for k in splits(self.lengths[b], self.lengths[c], m) {
+                        let product = self.v[b][k].checked_mul(self.v[c][m - k])?;
+                        weight = weight.checked_add(product)?;
+                        count += self.t[b][k] * self.t[c][m - k];
+                    }
+                }
+                self.t[a][m] = count;
+                self.v[a][m] = weight;
+                self.lengths[a] |= u32::from(count != 0) << m;
+            }
+        }
+        Some(())
+    }
+
+    /// The first ticket and the weight of a sentence's first derivation of a over m words from p on; the parser holds the sentence.
+    fn place(&self, parser: &Parser, s: &[u8], a: usize, p: usize, m: usize) -> (u64, u64) {
+        if m == 1 {
+            let rule = self.g.word_from[a] as usize + self.g.words(a).iter().position(|&w| w == s[p]).unwrap();
+            return (u64::from(self.first[rule]), u64::from(self.weights[s[p] as usize]));
+        }
+        let mut before = 0;
+        for &(b, c) in self.g.pairs(a) {
+            let (b, c) = (b as usize & 31, c as usize & 31);
+            for k in splits(self.lengths[b], self.lengths[c], m) {
+                let (x, y) = (self.v[b][k], self.v[c][m - k]);
+                if parser.some[p][k] >> b & parser.some[p + k][m - k] >> c & 1 != 0 {
+                    let (left, weight) = self.place(parser, s, b, p, k);
+                    let (right, other) = self.place(parser, s, c, p + k, m - k);
+                    return (before + left * y + weight * right, weight * other);
+                }
+                before += x * y;
+            }
+        }
+        unreachable!("the run has a derivation");
+    }
+
+    /// Writes the sentence of a ticket's owner among the derivations of a; its length is that of `out`.
+    fn write(&self, a: usize, mut ticket: u64, out: &mut [u8]) -> Owner {
+        let m = out.len();
+        if m == 1 {
+            let rules = self.g.word_from[a] as usize..self.g.word_from[a + 1] as usize;
+            let first = &self.first[rules];
+            let d = first.partition_point(|&f| u64::from(f) <= ticket) - 1;
+            out[0] = self.g.words(a)[d];
+            return Owner { number: d as u64, weight: u64::from(self.weights[out[0] as usize]), before: ticket - u64::from(first[d]) };
+        }
+        let mut before = 0;
+        for &(b, c) in self.g.pairs(a) {
+            let (b, c) = (b as usize & 31, c as usize & 31);
+            for k in splits(self.lengths[b], self.lengths[c], m) {
+                let (x, y) = (self.v[b][k], self.v[c][m - k]);
+                let here = x * y;
+                if ticket < here {
+                    let (start, end) = out.split_at_mut(k);
+                    let left = self.write(b, ticket / y, start);
+                    // A ticket of the right derivation stands for as many here as the left one weighs.
+                    let among = left.before * y + ticket % y;
+                    let right = self.write(c, among / left.weight, end);
+                    return Owner {
+                        number: before + left.number * self.t[c][m - k] + right.number,
+                        weight: left.weight * right.weight,
+                        before: right.before * left.weight + among % left.weight,
+                    };
+                }
+                ticket -= here;
+                before += self.t[b][k] * self.t[c][m - k];
+            }
+        }
+        unreachable!("the ticket is below the total weight");
+    }
+}
+
 fn two(bytes: &[u8], at: usize) -> usize {
     u16::from_le_bytes([bytes[at], bytes[at + 1]]) as usize
 }
@@ -586,6 +719,32 @@ impl<'a> History<'a> {
         places.dedup();
         Ok(places)
     }
+
+    /// The same for tickets: the first ticket and the weight of each such derivation.
+    fn heard_tickets(&self, tickets: &Tickets, n: usize, voice: u64) -> Result<Vec<(u64, u64)>, u8> {
+        let mut heard = Vec::with_capacity(self.count());
+        if self.count() == 0 {
+            return Ok(heard);
+        }
+        let mut parser = Parser::new(tickets.g, tickets.t);
+        let (start, in_full) = (tickets.g.start, 16 * voice as u8);
+        for record in self.records.chunks_exact(20) {
+            if record[2] as usize != n || record[3] != in_full {
+                continue;
+            }
+            let s = &record[4..4 + n];
+            parser.fill(s);
+            if parser.many[0][n] >> start & 1 != 0 {
+                return Err(15);
+            }
+            if parser.some[0][n] >> start & 1 != 0 {
+                heard.push(tickets.place(&parser, s, start, 0, n));
+            }
+        }
+        heard.sort_unstable_by_key(|&(first, _)| first);
+        heard.dedup();
+        Ok(heard)
+    }
 }
 
 /// The derivation number of the unheard derivation with q unheard ones before it.
@@ -600,6 +759,17 @@ fn skip(q: u64, heard: &[u64]) -> u64 {
         }
     }
     q + low as u64
+}
+
+/// The ticket with so many tickets of unheard derivations before it, itself one of them.
+fn skip_tickets(mut ticket: u64, heard: &[(u64, u64)]) -> u64 {
+    for &(first, weight) in heard {
+        if ticket < first {
+            break;
+        }
+        ticket += weight;
+    }
+    ticket
 }
 
 /// What many draws on one grammar, history, length and voice share.
@@ -733,6 +903,35 @@ pub fn draw_matching(grammar: &[u8], history: &[u8], pattern: &[u8], voice: u64,
     }
     let d = fitting.write(g.start, 0, skip(q, &heard), &mut out[..n]);
     Ok((left, d))
+}
+
+#[inline(never)]
+pub fn draw_weighted(
+    grammar: &[u8],
+    history: &[u8],
+    length: u64,
+    voice: u64,
+    weights: &[u8],
+    ticket: u64,
+    out: &mut [u8],
+) -> Result<(u64, u64), u8> {
+    let (g, n) = open(grammar, length, voice)?;
+    let (mut t, mut v) = (NO_TOTALS, NO_TOTALS);
+    let tickets = match Tickets::new(&g, n, weights, &mut t, &mut v) {
+        Ok(tickets) => tickets,
+        // 10 comes before these two
+        Err(refusal) => return count(grammar, length).and(Err(refusal)),
+    };
+    let heard = History::read(history)?.heard_tickets(&tickets, n, voice)?;
+    let left = tickets.v[g.start][n] - heard.iter().map(|&(_, weight)| weight).sum::<u64>();
+    if ticket >= left {
+        return Err(16);
+    }
+    if out.len() < n {
+        return Err(20);
+    }
+    let owner = tickets.write(g.start, skip_tickets(ticket, &heard), &mut out[..n]);
+    Ok((left, owner.number))
 }
 
 #[inline(never)]

@@ -101,6 +101,22 @@ unsafe extern "C" {
         number: *mut u64,
     ) -> u8;
 
+    pub fn pumpfennel_draw_weighted(
+        grammar: *const u8,
+        grammar_len: usize,
+        history: *const u8,
+        history_len: usize,
+        length: u64,
+        voice: u64,
+        weights: *const u8,
+        weights_len: usize,
+        ticket: u64,
+        sentence: *mut u8,
+        sentence_len: usize,
+        tickets: *mut u64,
+        number: *mut u64,
+    ) -> u8;
+
     pub fn pumpfennel_append(
         history: *mut u8,
         history_len: usize,

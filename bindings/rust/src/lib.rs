@@ -4,9 +4,10 @@
 //! each with its talker's *voice* from 0 to 15 and with how many of its words were *played*, where 0 means all. A
 //! sentence that was played in full is heard in its voice; one that was broken off may be drawn again. The calls count
 //! the derivations of a length, give the sentence of a derivation number and the number of a sentence, and draw from
-//! what is unheard in a voice. A draw can also be held to a *pattern*: some words are fixed, the others are blanks.
-//! Grammars, histories and patterns are plain bytes, laid out as the project's documents 01 and 02 say; they call the
-//! first two bank and diary.
+//! what is unheard in a voice. A draw can also be held to a *pattern*: some words are fixed, the others are blanks. And
+//! it can have *weights*, so that common words come more often: a derivation owns as many *tickets* as the product of
+//! its words' weights, and a ticket is drawn. Grammars, histories, patterns and weights are plain bytes, laid out as
+//! the project's documents 01 and 02 say; they call the first two bank and diary.
 //!
 //! The work is done by a proved archive, written by `rt staticlib pumpfennel` in the project's folder. This crate
 //! links it and gives each of its functions a safe face; it checks nothing itself and allocates nothing. No call
@@ -60,6 +61,21 @@
 //! let drawn = pumpfennel::draw_matching(&grammar, &history, &phrase, 0, DrawNumber(11), &mut sentence)?;
 //! assert_eq!(sentence, [3, 11, 24, 32, 45]);
 //! assert_eq!(drawn.number, DerivationNumber(31425)); // among all sentences of five words
+//!
+//! // The words 3 and 45 are common: they weigh 20 and 5, each other word 1. So the groups weigh 29, 10, 10, 10 and 14,
+//! // and of the product the heard sentence's 20 * 5 tickets are taken off.
+//! use pumpfennel::Ticket;
+//! let mut weights = [1; 50];
+//! (weights[3], weights[45]) = (20, 5);
+//! let first = pumpfennel::draw_weighted(&grammar, &history, 5, 0, &weights, Ticket(0), &mut sentence)?;
+//! assert_eq!(first.tickets, 29 * 10 * 10 * 10 * 14 - 20 * 5);
+//!
+//! // A ticket below that, taken at random, draws each sentence in proportion to its weight. The words 0, 1 and 2 come
+//! // first, with 14,000 tickets each; then 3 10 20 30 40 to 44 own 20 each, and 3 10 20 30 45 the next hundred.
+//! for ticket in [42_100, 42_101, 42_199] {
+//!     let drawn = pumpfennel::draw_weighted(&grammar, &history, 5, 0, &weights, Ticket(ticket), &mut sentence)?;
+//!     assert_eq!((drawn.number, sentence), (DerivationNumber(30005), [3, 10, 20, 30, 45]));
+//! }
 //! # Ok::<(), pumpfennel::Refusal>(())
 //! ```
 #![deny(unsafe_op_in_unsafe_fn, missing_docs)]
@@ -85,7 +101,7 @@ pub const MOST_RECORDS: usize = 1000;
 /// The most bytes of a history without slack.
 pub const LARGEST_HISTORY: usize = history_size(MOST_RECORDS);
 
-/// The most bytes of stack that [`remaining_matching`] or [`draw_matching`] takes.
+/// The most bytes of stack that [`remaining_matching`], [`draw_matching`] or [`draw_weighted`] takes.
 pub const MATCHING_STACK: usize = 160 * 1024;
 
 /// The most bytes of stack that [`rank`], [`remaining`] or [`draw`] takes.
@@ -118,6 +134,12 @@ pub struct DerivationNumber(pub u64);
 /// never serves as a [`DerivationNumber`].
 #[derive(Clone, Copy, Debug, PartialEq, Eq, PartialOrd, Ord, Hash)]
 pub struct DrawNumber(pub u64);
+
+/// How many tickets stand before one, among those of the derivations with a sentence unheard in the voice. A derivation
+/// owns as many as it weighs, the product of its words' weights; they stand together, in the order of the derivations.
+/// It never serves as a [`DrawNumber`] or a [`DerivationNumber`].
+#[derive(Clone, Copy, Debug, PartialEq, Eq, PartialOrd, Ord, Hash)]
+pub struct Ticket(pub u64);
 
 /// What [`check_grammar`] gives.
 #[derive(Clone, Copy, Debug, PartialEq, Eq)]
@@ -156,6 +178,15 @@ pub struct Drawn {
     /// How many derivations have a sentence unheard in that voice; with a pattern, and fitting it.
     pub remaining: u64,
     /// The derivation number of the sentence drawn, among all of that length.
+    pub number: DerivationNumber,
+}
+
+/// What [`draw_weighted`] gives.
+#[derive(Clone, Copy, Debug, PartialEq, Eq)]
+pub struct DrawnByTicket {
+    /// How many tickets there are: what all derivations with a sentence unheard in that voice weigh.
+    pub tickets: u64,
+    /// The derivation number of the sentence drawn.
     pub number: DerivationNumber,
 }
 
@@ -481,6 +512,73 @@ pub fn draw_matching(
         )
     };
     accepted(refusal, Drawn { remaining, number: DerivationNumber(number) })
+}
+
+/// Writes the sentence of the derivation that owns a ticket into the first bytes of `sentence`. `weights` has a byte
+/// for each word of the grammar, from word 0 up: 1 to 255, what the word weighs. A derivation weighs the product of its
+/// words' weights, and owns as many tickets where its sentence is unheard in the voice; heard ones own none. A
+/// derivation's tickets stand together, and the derivations are in their order. Bytes past the sentence keep their
+/// content.
+///
+/// A ticket taken from 0 to `tickets - 1`, each equally likely, draws each unheard derivation in proportion to its
+/// weight. The call with ticket 0 tells how many tickets there are; where that is refused by [`Refusal::NumberBeyond`],
+/// nothing is left. With weights of 1 alone the answer to each ticket is that of [`draw`] to the same draw number.
+///
+/// ```
+/// use pumpfennel::{DerivationNumber, DrawnByTicket, Refusal, Ticket};
+///
+/// let grammar = [2, 2, 4, 0, 1, 3, 1, 1, 1, 2, 1, 0, 1, 0, 0, 0, 0, 4, 0, 1, 0, 0];
+/// let mut history = [0; 24];
+/// pumpfennel::append(&mut history, &[0, 1], 0, 0)?;
+/// // 0 0 weighs 9 and owns the tickets 0 to 8, 0 1 is heard, 1 0 has the next six and 1 1 the last four
+/// let weights = [3, 2];
+/// let mut sentence = [0; 2];
+/// let drawn = DrawnByTicket { tickets: 19, number: DerivationNumber(2) };
+/// for ticket in 9..15 {
+///     let given = pumpfennel::draw_weighted(&grammar, &history, 2, 0, &weights, Ticket(ticket), &mut sentence)?;
+///     assert_eq!((given, sentence), (drawn, [1, 0]));
+/// }
+/// let past = pumpfennel::draw_weighted(&grammar, &history, 2, 0, &weights, Ticket(19), &mut sentence);
+/// assert_eq!(past, Err(Refusal::NumberBeyond));
+/// // there are two words
+/// let more = pumpfennel::draw_weighted(&grammar, &history, 2, 0, &[3, 2, 1], Ticket(0), &mut sentence);
+/// assert_eq!(more, Err(Refusal::BadWeights));
+/// # Ok::<(), Refusal>(())
+/// ```
+///
+/// # Errors
+///
+/// Refusals 1 to 16, 20, 22, 24 and 25. 24 comes right after 10, and 25 after it: 25 looks at total weights where 10
+/// looks at counts, of the same nonterminals at the same lengths, and of all their derivations, heard or not.
+pub fn draw_weighted(
+    grammar: &[u8],
+    history: &[u8],
+    length: u64,
+    voice: u64,
+    weights: &[u8],
+    ticket: Ticket,
+    sentence: &mut [u8],
+) -> Result<DrawnByTicket, Refusal> {
+    let (mut tickets, mut number) = (0, 0);
+    // SAFETY: four slices, of which the one that is written is borrowed alone, and two figures of this function.
+    let refusal = unsafe {
+        ffi::pumpfennel_draw_weighted(
+            grammar.as_ptr(),
+            grammar.len(),
+            history.as_ptr(),
+            history.len(),
+            length,
+            voice,
+            weights.as_ptr(),
+            weights.len(),
+            ticket.0,
+            sentence.as_mut_ptr(),
+            sentence.len(),
+            &mut tickets,
+            &mut number,
+        )
+    };
+    accepted(refusal, DrawnByTicket { tickets, number: DerivationNumber(number) })
 }
 
 /// Adds a sentence, played in a voice, to the history that `history` holds, and gives how many records there are then.

@@ -53,11 +53,15 @@ pub enum Refusal {
     BadVoice = 22,
     /// The count of words played is the sentence's length or more.
     BadPlayed = 23,
+    /// The weights are not W bytes, or one of them is 0.
+    BadWeights = 24,
+    /// A total weight that the length needs is above 2^64 - 1.
+    TooManyTickets = 25,
 }
 
 impl Refusal {
     /// Every refusal, by rising number.
-    pub const ALL: [Refusal; 23] = [
+    pub const ALL: [Refusal; 25] = [
         Refusal::GrammarTooShort,
         Refusal::GrammarOutOfRange,
         Refusal::GrammarWrongSize,
@@ -81,6 +85,8 @@ impl Refusal {
         Refusal::BadPattern,
         Refusal::BadVoice,
         Refusal::BadPlayed,
+        Refusal::BadWeights,
+        Refusal::TooManyTickets,
     ];
 
     /// What the refusal says in words: a sentence without its first capital and its full stop.
@@ -113,6 +119,8 @@ impl Refusal {
             Refusal::BadPattern => "a byte of the pattern is neither 255 nor a word of the grammar",
             Refusal::BadVoice => "the voice is above 15",
             Refusal::BadPlayed => "the count of words played is the sentence's length or more",
+            Refusal::BadWeights => "the weights are not W bytes, or one of them is 0",
+            Refusal::TooManyTickets => "a total weight that the length needs is above 2^64 - 1",
         }
     }
 }

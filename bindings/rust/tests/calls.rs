@@ -1,12 +1,12 @@
 //! The calls of the library against the reference, on stored, generated and hand-made inputs.
 mod support;
 
-use pumpfennel::{BLANK, DerivationNumber, DrawNumber, Refusal, Remaining};
+use pumpfennel::{BLANK, DerivationNumber, DrawNumber, Refusal, Remaining, Ticket};
 use std::collections::{BTreeMap, BTreeSet};
 use support::agreed;
 use support::case::{self, Answer, CALLS, Call, Case};
 use support::generate::{self, Rng, Spoken};
-use support::reference::{self, Full, Readings, Record};
+use support::reference::{self, Full, Readings, Record, Tickets};
 
 const SEED: u64 = 20261115;
 
@@ -171,6 +171,57 @@ fn generated_draw_matching() {
     assert!(numbered > 4_000 && passed > 1_500);
 }
 
+/// Where the owner's tickets stand: the first of several, the last, one between, or the only one.
+#[derive(Clone, Copy, Debug, PartialEq, Eq, PartialOrd, Ord)]
+enum Place {
+    Only,
+    First,
+    Between,
+    Last,
+}
+
+/// Where a ticket stands among those of the derivation that owns it, by the tickets beside it.
+fn place(case: &Case, number: u64) -> Place {
+    let owner = |ticket: Option<u64>| {
+        let given = ticket.map(|number| answered(&Case { number, ..case.clone() }));
+        given.is_some_and(|answer| answer.refusal == 0 && answer.figures[1] == number)
+    };
+    match (owner(case.number.checked_sub(1)), owner(case.number.checked_add(1))) {
+        (false, false) => Place::Only,
+        (false, true) => Place::First,
+        (true, true) => Place::Between,
+        (true, false) => Place::Last,
+    }
+}
+
+/// What the library answers.
+fn answered(case: &Case) -> Answer {
+    support::library::answer(case).unwrap_or_else(|fault| panic!("{fault}"))
+}
+
+/// Among them weights that are all 1 and others, tickets at every place of their owner's, with a heard sentence before
+/// them and without one, and 2^63 and more of them: all in plenty.
+#[test]
+fn generated_draw_weighted() {
+    let mut kinds: BTreeMap<(bool, Place, bool), u64> = BTreeMap::new();
+    let mut large = 0;
+    for (case, answer) in agree(Call::DrawWeighted, 40_000) {
+        let [tickets, number] = answer.figures[..] else { unreachable!("two figures") };
+        assert!(case.number < tickets);
+        large += u64::from(tickets >= 1 << 63);
+        let plain = Case { call: Call::Remaining, weights: vec![], number: 0, sentence: vec![], ..case.clone() };
+        let heard = answered(&plain).figures[1] > 0;
+        let mixed = case.weights.iter().any(|&weight| weight != 1);
+        *kinds.entry((mixed, place(&case, number), heard)).or_default() += 1;
+    }
+    println!(
+        "by whether a weight isn't 1, place among the owner's tickets, and whether a sentence is heard: {kinds:?}"
+    );
+    println!("{large} with 2^63 tickets and more");
+    assert_eq!(kinds.len(), 10);
+    assert!(large > 500 && kinds.values().all(|&many| many > 200), "{kinds:?}");
+}
+
 #[test]
 fn generated_append() {
     let accepted = agree(Call::Append, 200_000);
@@ -204,8 +255,9 @@ fn reference_both_ways() {
         let patterns: Vec<Vec<u8>> =
             (0..3).map(|_| generate::pattern(&mut rng, &grammar, Some(&full), length, &[])).collect();
         let patterns: Vec<Vec<u8>> = patterns.into_iter().filter(|pattern| pattern.len() == length).collect();
-        let agree = reference::ways_agree(&grammar, length, &strangers, &patterns);
-        assert!(agree, "case {i}: {} {patterns:?}", case::hex(&bytes));
+        let weights: Vec<Vec<u8>> = (0..2).map(|_| generate::weights(&mut rng, grammar.words)).collect();
+        let agree = reference::ways_agree(&grammar, length, &strangers, &patterns, &weights);
+        assert!(agree, "case {i}: {} {patterns:?} {weights:?}", case::hex(&bytes));
         tried += 1;
     }
 }
@@ -242,7 +294,7 @@ fn heard_01() -> Vec<u8> {
     generate::history(&[Spoken::in_full(0, vec![0, 1])], &[1], &[7; 20])
 }
 
-/// Accepted: F, the diary of P7, length 2, or any word and then word 1, voice 0, played in full.
+/// Accepted: F, the diary of P7, length 2, or any word and then word 1, voice 0, weights 3 and 2, played in full.
 fn accepted(call: Call) -> Case {
     let mut case = Case::new(call);
     if call.takes_grammar() {
@@ -256,6 +308,9 @@ fn accepted(call: Call) -> Case {
     }
     if call.takes_pattern() {
         case.pattern = vec![BLANK, 1];
+    }
+    if call.takes_weights() {
+        case.weights = vec![3, 2];
     }
     if call.takes_sentence() {
         case.sentence = vec![1; 2];
@@ -308,6 +363,8 @@ fn fault(case: &mut Case, refusal: u8) {
         21 => case.pattern[0] = 254,
         22 => case.voice = 16,
         23 => case.played = 2,
+        24 => case.weights.push(1),
+        25 => (case.length, case.weights) = (16, vec![8, 8]), // 16^16 tickets of F, more of G
         _ => unreachable!("{refusal}"),
     }
 }
@@ -339,7 +396,7 @@ fn first_that_applies() {
         .collect();
     assert_eq!(reached, allowed);
     println!("{} pairs of a call and a refusal", reached.len() - CALLS.len());
-    assert_eq!(reached.len() - CALLS.len(), 123);
+    assert_eq!(reached.len() - CALLS.len(), 143);
 }
 
 // ---- Voices
@@ -704,6 +761,365 @@ fn no_blank_at_all() {
     }
     println!("by derivations of the sentence, and whether it is heard: {seen:?}");
     assert!(seen.len() == 5 && seen.values().all(|&many| many > 50), "{seen:?}");
+}
+
+// ---- Weights
+
+fn draw_weighted(grammar: &[u8], history: &[u8], length: u64, voice: u64, weights: &[u8], number: u64) -> Answer {
+    let (grammar, history, weights) = (grammar.to_vec(), history.to_vec(), weights.to_vec());
+    let sentence = vec![7; length.min(17) as usize];
+    given(&Case { grammar, history, length, voice, weights, number, sentence, ..Case::new(Call::DrawWeighted) })
+}
+
+/// Who owns each ticket from 0 on until one is refused, with 16; each answer says how many there are.
+fn every_ticket(grammar: &[u8], history: &[u8], length: u64, voice: u64, weights: &[u8]) -> Vec<(u64, Vec<u8>)> {
+    let (mut owners, mut tickets) = (vec![], BTreeSet::new());
+    loop {
+        let answer = draw_weighted(grammar, history, length, voice, weights, owners.len() as u64);
+        if answer.refusal != 0 {
+            assert_eq!(answer.refusal, 16);
+            assert!(tickets.into_iter().eq((!owners.is_empty()).then_some(owners.len() as u64)));
+            return owners;
+        }
+        tickets.insert(answer.figures[0]);
+        owners.push((answer.figures[1], answer.buffer));
+    }
+}
+
+/// The ticket list as one list, from the unheard one: each entry as often as the product of its words' weights says.
+fn handed_out(unheard: &[(u64, Vec<u8>)], weights: &[u8]) -> Vec<(u64, Vec<u8>)> {
+    let mut owners = vec![];
+    for entry in unheard {
+        let mut weight = 1usize;
+        for &word in &entry.1 {
+            weight *= usize::from(weights[usize::from(word)]);
+        }
+        owners.extend(std::iter::repeat_n(entry.clone(), weight));
+    }
+    owners
+}
+
+/// Several weights for F, over a history with some of the sentences: what the plain draws give, each as often as it
+/// weighs.
+#[test]
+fn every_ticket_of_f() {
+    let mut tried = 0;
+    for length in 2..=5usize {
+        let (grammar, full) = f_listed(length);
+        // Every third sentence in full, every fifth broken off, every seventh in another voice; two strangers.
+        let spoken = |voice, played, step| full.iter().step_by(step).map(move |words| (voice, played, words.clone()));
+        let all = spoken(3, 0, 3).chain(spoken(3, 1, 5)).chain(spoken(4, 0, 7));
+        let strangers = [vec![255; length], [vec![1; length - 1], vec![2]].concat()];
+        let all = all.chain(strangers.map(|words| (3, 0, words)));
+        let mut sentences: Vec<Spoken> = all.map(|(voice, played, words)| Spoken { voice, played, words }).collect();
+        Rng::new(SEED).shuffle(&mut sentences);
+        let history = in_order(&sentences);
+        for voice in [3, 4, 5] {
+            let plain = every_draw(&grammar, &history, length as u64, voice);
+            for weights in [[1, 1], [1, 2], [2, 1], [3, 2], [1, 4], [5, 1], [3, 3]] {
+                let expected = handed_out(&plain, &weights);
+                assert_eq!(every_ticket(&grammar, &history, length as u64, voice, &weights), expected, "{weights:?}");
+                tried += expected.len();
+            }
+        }
+    }
+    println!("{tried} tickets");
+    assert!(tried > 50_000);
+}
+
+/// Every weight for one of two words, in every place of three: the ends of each derivation's tickets.
+#[test]
+fn every_weight() {
+    let (grammar, full) = f_listed(3);
+    let heard = generate::history(&[Spoken::in_full(0, vec![0, 1, 0])], &[1], &[]);
+    for (weight, turned) in (1..=255).flat_map(|weight| [(weight, false), (weight, true)]) {
+        let weights = if turned { [weight, 3] } else { [3, weight] };
+        for history in [&[0; 4][..], &heard] {
+            let own = |words: &[u8]| words.iter().map(|&word| u64::from(weights[usize::from(word)])).product::<u64>();
+            let unheard = || (0..).zip(&full).filter(|(_, words)| history.len() == 4 || **words != [0, 1, 0]);
+            let tickets: u64 = unheard().map(|(_, words)| own(words)).sum();
+            let mut first = 0;
+            for (number, words) in unheard() {
+                for ticket in [first, first + own(words) / 2, first + own(words) - 1] {
+                    let answer = draw_weighted(&grammar, history, 3, 0, &weights, ticket);
+                    assert_eq!(
+                        (&answer.figures[..], &answer.buffer),
+                        (&[tickets, number][..], words),
+                        "{weights:?} {ticket}"
+                    );
+                }
+                first += own(words);
+            }
+            assert_eq!(draw_weighted(&grammar, history, 3, 0, &weights, tickets).refusal, 16, "{weights:?}");
+        }
+    }
+}
+
+/// As many weights as words, and none of them 0, whether a rule has the word or not: else 24. A word that no rule has
+/// adds to no total.
+#[test]
+fn every_number_of_weights() {
+    for words in [1, 2, 3, 127, 128, 254, 255u8] {
+        let mut grammar = generate::f_words(words.min(2).into()).bytes();
+        grammar[1] = words;
+        let tickets = if words == 1 { 3 * 3 } else { (3 + 2) * (3 + 2) };
+        let weights = |size: usize, other: u8| [&[3, 2][..], &vec![other; size]].concat()[..size].to_vec();
+        for size in (0..=260).chain([510, 512, 65536 + usize::from(words)]) {
+            let answer = draw_weighted(&grammar, &[0; 4], 2, 0, &weights(size, 255), 0);
+            assert_eq!(answer.refusal, if size == usize::from(words) { 0 } else { 24 }, "{size} of {words}");
+            assert_eq!(answer.figures[0], if answer.refusal == 0 { tickets } else { 0 });
+        }
+        for place in 0..usize::from(words) {
+            let mut weights = weights(words.into(), 1);
+            weights[place] = 0;
+            assert_eq!(draw_weighted(&grammar, &[0; 4], 2, 0, &weights, 0).refusal, 24, "{place} of {words}");
+        }
+    }
+}
+
+/// Every byte as a word of the history: what has no weight bars nothing, and a word with 255 before it or behind it
+/// neither.
+#[test]
+fn every_word_heard() {
+    for words in [1, 2, 128, 253u8] {
+        let grammar = generate::f_words(words.into()).bytes();
+        let weights: Vec<u8> = (0..words).map(|word| 1 + word % 5).collect();
+        let group: u64 = weights.iter().map(|&weight| u64::from(weight)).sum();
+        for byte in 0..=255u8 {
+            let sentences = [[0, byte], [byte, 255], [255, byte]].map(|words| Spoken::in_full(0, words.to_vec()));
+            let answer = draw_weighted(&grammar, &in_order(&sentences), 2, 0, &weights, 0);
+            let heard = weights.get(usize::from(byte)).map_or(0, |&weight| u64::from(weights[0] * weight));
+            assert_eq!(answer.refusal, if heard == group * group { 16 } else { 0 }, "{byte} of {words}");
+            assert_eq!(answer.figures[0], group * group - heard, "{byte} of {words}");
+        }
+    }
+}
+
+/// Totals up to 2^64 - 1 and one above it: 25 comes with the first that doesn't fit, also where it is heard; and its
+/// place among the refusals.
+#[test]
+fn as_many_tickets_as_there_can_be() {
+    println!("seed {SEED}");
+    let (mut borders, mut groups) = (0, BTreeSet::new());
+    for i in 0..300 {
+        let mut rng = Rng::of_case(SEED + 70, i);
+        let (draft, weights) = generate::laden(&mut rng, false);
+        let grammar = draft.bytes();
+        let read = reference::read_grammar(&grammar).expect("an accepted grammar");
+        let full = Full::new(&read, 16).expect("counts that fit");
+        let tickets = Tickets::new(&full, &read, 16, &weights).expect("2^64 - 1 tickets");
+        groups.insert(weights.len());
+        for _ in 0..20 {
+            let number = rng.below_u64(full.total());
+            let (before, own) = tickets.share(number);
+            for ticket in [before, before + rng.below_u64(own), before + (own - 1)] {
+                let answer = draw_weighted(&grammar, &[0; 4], 16, 0, &weights, ticket);
+                assert_eq!(answer.figures, [u64::MAX, number], "{ticket} of {weights:?}");
+            }
+            borders += 1;
+        }
+        let answer = draw_weighted(&grammar, &[0; 4], 16, 0, &weights, u64::MAX - 1);
+        assert_eq!(answer.figures, [u64::MAX, full.total() - 1]);
+        assert_eq!(draw_weighted(&grammar, &[0; 4], 16, 0, &weights, u64::MAX).refusal, 16);
+        // The first sentence is heard, and with one derivation more that one too.
+        let history = in_order(&[Spoken::in_full(0, full.sentence(0))]);
+        let answer = draw_weighted(&grammar, &history, 16, 0, &weights, 0);
+        assert_eq!(answer.figures, [u64::MAX - tickets.share(0).1, 1]);
+        let (more, weights) = generate::laden(&mut rng, true);
+        let last = vec![weights.len() as u8 - 1; 16];
+        for history in [vec![0; 4], in_order(&[Spoken::in_full(0, last)]), vec![]] {
+            assert_eq!(draw_weighted(&more.bytes(), &history, 16, 0, &weights, 0).refusal, 25);
+        }
+    }
+    println!("{borders} derivations of grammars with {groups:?} words");
+    assert!(groups.len() > 8);
+}
+
+/// Total weights above 2^64 - 1 beside a nonterminal that derives nothing: 25 where the length needs them, and no harm
+/// where it doesn't.
+#[test]
+fn total_weights_that_are_needed() {
+    // 0 is 1 2, or 1 3, or word 0; 1 is word 0 nine times, 2 derives nothing, 3 is word 1.
+    let (pair, word) = (|a, b| [1, a, b], |a| [0, a, 0]);
+    let chains = vec![
+        vec![pair(1, 2), pair(3, 1), word(0)],
+        vec![pair(4, 7)],
+        vec![],
+        vec![word(1)],
+        vec![pair(5, 5)],
+        vec![pair(6, 6)],
+        vec![pair(7, 7)],
+        vec![word(0)],
+    ];
+    for reached in [true, false] {
+        let mut chains = chains.clone();
+        if !reached {
+            chains[0].remove(1);
+        }
+        let grammar = generate::Draft { words: 2, start: 0, chains }.bytes();
+        for length in 1..=16 {
+            // Nine words 0 weigh 138^9, just below 2^64, or 139^9, just above it.
+            let of = |weight: u8| draw_weighted(&grammar, &[0; 4], length, 0, &[weight, 1], 0);
+            let some = |weight: u64| match length {
+                1 => Some(weight),
+                10 if reached => Some(weight.pow(9)),
+                _ => None,
+            };
+            assert_eq!(of(138).figures[0], some(138).unwrap_or(0), "{length}");
+            assert_eq!(of(138).refusal, if some(138).is_some() { 0 } else { 16 }, "{length}");
+            assert_eq!(of(139).refusal, if length >= 10 { 25 } else { of(138).refusal }, "{length}");
+            assert_eq!(of(139).figures[0], if length == 1 { 139 } else { 0 }, "{length}");
+        }
+    }
+}
+
+/// A sentence with several derivations: 15 in its voice where it was played in full, and no harm else. Each of its
+/// derivations owns its own tickets.
+#[test]
+fn ambiguous_and_weighted() {
+    let grammar = generate::g_words(2).bytes();
+    let full = reference::listed(&reference::read_grammar(&grammar).expect("an accepted grammar"), 3);
+    let every: Vec<(u64, Vec<u8>)> = (0..).zip(full).collect();
+    for weights in [[1, 1], [2, 1], [1, 3], [4, 3]] {
+        for words in [[0, 0, 0], [0, 1, 1], [1, 0, 1]] {
+            for (voice, played) in [(5, 0), (5, 1), (5, 2), (6, 0)] {
+                // Beside sentences of another length, and one without a derivation.
+                let mut sentences =
+                    [vec![0; 4], vec![1; 2], vec![255; 3]].map(|words| Spoken::in_full(5, words)).to_vec();
+                sentences.insert(1, Spoken { voice, played, words: words.to_vec() });
+                let history = in_order(&sentences);
+                if (voice, played) == (5, 0) {
+                    for ticket in [0, u64::MAX] {
+                        assert_eq!(draw_weighted(&grammar, &history, 3, 5, &weights, ticket).refusal, 15);
+                    }
+                } else {
+                    assert_eq!(every_ticket(&grammar, &history, 3, 5, &weights), handed_out(&every, &weights));
+                }
+            }
+        }
+    }
+}
+
+/// A weight of 1 for every word has the answer of the plain draw to every question: refusal, figures and bytes.
+#[test]
+fn ones_alone() {
+    let (mut seen, mut lengths) = (BTreeSet::new(), BTreeSet::new());
+    for i in 0..8_000 {
+        let mut rng = Rng::of_case(SEED + 71, i);
+        let mut case = generate::case(&mut rng, Call::Draw);
+        if rng.once_in(20) {
+            case.length = rng.pick(&[0, 1, 16, 17]);
+        }
+        let weights = vec![1; case.grammar.get(1).map_or(0, |&words| words.into())];
+        let weighted = Case { call: Call::DrawWeighted, weights, ..case.clone() };
+        let answer = given(&case);
+        assert_eq!(given(&weighted), answer, "case {i}:\n{}", case.text(None));
+        seen.insert(answer.refusal);
+        lengths.insert(case.length.min(18));
+    }
+    let allowed: BTreeSet<u8> = [0].into_iter().chain(Call::Draw.refusals()).collect();
+    assert_eq!(seen, allowed);
+    assert!(lengths.into_iter().eq(0..=18));
+}
+
+/// Weights that are wrong in two ways, and those with which a total doesn't fit: 24 before 25, and both before all that
+/// is tested after them and after all that is tested before.
+#[test]
+fn weights_in_their_place() {
+    let wrong = |case: &mut Case, refusal: u8, kind: usize| match (refusal, kind) {
+        (24, 0) => case.weights.clear(),
+        (24, 1) => case.weights.truncate(1),
+        (24, 2) => case.weights.push(1),
+        (24, 3) => case.weights[0] = 0,
+        (24, _) => case.weights[1] = 0,
+        // The weights do it, or a word of them.
+        (_, 0) => (case.length, case.weights) = (16, vec![15, 1]),
+        (_, 1) => (case.length, case.weights) = (16, vec![1, 255]),
+        (_, _) => (case.length, case.weights) = (9, vec![255, 255]),
+    };
+    let order = Call::DrawWeighted.refusals();
+    let place = |refusal: u8| order.iter().position(|&other| other == refusal).expect("a refusal of the call");
+    for (refusal, kinds) in [(24, 5), (25, 3)] {
+        for kind in 0..kinds {
+            for &other in order.iter().filter(|&&other| other != refusal) {
+                let mut case = accepted(Call::DrawWeighted);
+                // What comes later in the order is done first, as it alters what the other needs.
+                if place(other) < place(refusal) {
+                    wrong(&mut case, refusal, kind);
+                    fault(&mut case, other);
+                } else {
+                    fault(&mut case, other);
+                    wrong(&mut case, refusal, kind);
+                }
+                let first = if place(other) < place(refusal) { other } else { refusal };
+                assert_eq!(given(&case).refusal, first, "{other}\n{}", case.text(None));
+                assert_eq!(case::parse(&case.text(None)), [(case, None)]);
+            }
+        }
+    }
+}
+
+/// Draws and logs in turn: the log of a sentence with one derivation takes its tickets away, and no others; those below
+/// them have the owners that they had, and those from them on the owners of the tickets behind.
+#[test]
+fn logs_take_tickets_away() {
+    println!("seed {SEED}");
+    let (mut rounds, mut several, mut i) = (0, 0, 0);
+    while rounds < 2_000 {
+        let mut rng = Rng::of_case(SEED + 72, i);
+        i += 1;
+        let Case { grammar, mut history, length, voice, .. } = generate::case(&mut rng, Call::Remaining);
+        let Ok(read) = reference::read_grammar(&grammar) else { continue };
+        let Ok(k) = pumpfennel::check_history(&history) else { continue };
+        if !(1..=16).contains(&length) || voice > 15 || k > 990 || short_lists(&read) < length as usize {
+            continue;
+        }
+        let weights: Vec<u8> = (0..read.words).map(|_| 1 + rng.below(3) as u8).collect();
+        let full = Full::new(&read, length as usize).expect("short lists");
+        let shown = format!("case {i}: {} {} {weights:?}", case::hex(&grammar), case::hex(&history));
+        let mut words = vec![0; length as usize];
+        let mut draw = |history: &[u8], ticket: u64| {
+            let (ticket, words) = (Ticket(ticket), &mut words[..]);
+            let drawn = pumpfennel::draw_weighted(&grammar, history, length, voice, &weights, ticket, words)?;
+            Ok((drawn.tickets, (drawn.number.0, words.to_vec())))
+        };
+        let mut owners = |history: &[u8]| -> Result<Vec<(u64, Vec<u8>)>, Refusal> {
+            match draw(history, 0) {
+                Ok((tickets, _)) => (0..tickets).map(|ticket| draw(history, ticket).map(|(_, owner)| owner)).collect(),
+                Err(Refusal::NumberBeyond) => Ok(vec![]),
+                Err(refusal) => Err(refusal),
+            }
+        };
+        let tickets = Tickets::new(&full, &read, length as usize, &weights).map(|tickets| match full.total() {
+            0 => 0,
+            total => tickets.share(total - 1).0,
+        });
+        if !tickets.is_ok_and(|tickets| tickets <= 1_000) {
+            continue;
+        }
+        history.truncate(4 + 20 * k as usize);
+        history.extend(rng.bytes(100));
+        let Ok(mut before) = owners(&history) else { continue };
+        for _ in 0..5 {
+            if before.is_empty() {
+                break;
+            }
+            let (number, words) = before[rng.below(before.len())].clone();
+            pumpfennel::append(&mut history, &words, voice, 0).unwrap_or_else(|refusal| panic!("{refusal}\n{shown}"));
+            if full.readings(&words).count > 1 {
+                assert_eq!(owners(&history), Err(Refusal::HeardAmbiguous), "{shown}");
+                several += 1;
+                break;
+            }
+            let many = before.len() as u64;
+            before.retain(|entry| entry.0 != number);
+            assert_eq!(many - before.len() as u64, reference::weight(&words, &weights), "{shown}");
+            assert_eq!(owners(&history).as_ref(), Ok(&before), "{shown}");
+            rounds += 1;
+        }
+    }
+    println!("{rounds} logs of a sentence with one derivation, {several} of one with several");
+    assert!(several > 100);
 }
 
 // ---- Playback broken off
@@ -1137,6 +1553,75 @@ fn matching_draws_as_one_list() {
     assert!(seen.len() == 6 && seen.values().all(|&many| many > 100), "{seen:?}");
 }
 
+/// The same with weights: the tickets from 0 to their total - 1 are those of the unheard list's entries, each as often
+/// as it weighs. Another history that bars the same sentences alters nothing.
+#[test]
+fn weighted_draws_as_one_list() {
+    println!("seed {SEED}");
+    let (mut lists, mut tickets, mut seen, mut i) = (0, 0, BTreeMap::<(bool, bool, bool), u64>::new(), 0);
+    while lists < 3_000 {
+        let mut rng = Rng::of_case(SEED + 73, i);
+        i += 1;
+        let case = generate::case(&mut rng, Call::DrawWeighted);
+        let Case { grammar, history, length, voice, weights, .. } = &case;
+        let draw = |history: &[u8], ticket: u64, buffer: &mut [u8]| {
+            pumpfennel::draw_weighted(grammar, history, *length, *voice, weights, Ticket(ticket), buffer)
+        };
+        let Ok(first) = draw(history, 0, &mut [0; 16]) else { continue };
+        let shown = case.text(None);
+        let read = reference::read_grammar(grammar).expect("an accepted grammar");
+        if first.tickets > 3_000 || short_lists(&read) < *length as usize {
+            continue;
+        }
+        let records = records(history);
+        let full = reference::listed(&read, *length as usize);
+        let heard = |words: &[u8]| records.contains(&Record { voice: *voice as u8, played: 0, words });
+        let unheard: Vec<(u64, Vec<u8>)> = (0..).zip(full.iter().cloned()).filter(|(_, words)| !heard(words)).collect();
+        let owners = handed_out(&unheard, weights);
+        assert_eq!(first.tickets, owners.len() as u64, "{shown}");
+        let mixed = weights.iter().any(|&weight| weight != weights[0]);
+        let several = unheard.iter().map(|(_, words)| words).collect::<BTreeSet<_>>().len() < unheard.len();
+        *seen.entry((mixed, unheard.len() < full.len(), several)).or_default() += 1;
+
+        // The heard ones that are derived, in another order and some twice; strangers, other voices, broken off.
+        let mut others: Vec<Spoken> = vec![Spoken::in_full(*voice as u8, vec![255; *length as usize])];
+        for words in full.iter().filter(|words| heard(words)) {
+            others.extend(std::iter::repeat_n(Spoken::in_full(*voice as u8, words.clone()), 1 + rng.below(2)));
+        }
+        for _ in 0..rng.below(8) {
+            let words = full[rng.below(full.len())].clone();
+            let elsewhere = Spoken::in_full((*voice as u8 + 1 + rng.below(15) as u8) % 16, words.clone());
+            let broken = |played: u64| Spoken { voice: *voice as u8, played: played as u8, words };
+            others.push(if *length > 1 && rng.once_in(2) { broken(1 + rng.below_u64(length - 1)) } else { elsewhere });
+        }
+        others.truncate(1000);
+        rng.shuffle(&mut others);
+        let mut numbers: Vec<usize> = (1..=others.len()).collect();
+        rng.shuffle(&mut numbers);
+        let other = generate::history(&others, &numbers, &[9; 7]);
+
+        for history in [history, &other] {
+            let mut given = vec![];
+            for ticket in 0..first.tickets {
+                let mut buffer = vec![rng.byte(); *length as usize];
+                let answer = draw(history, ticket, &mut buffer);
+                let answer = answer.unwrap_or_else(|refusal| panic!("ticket {ticket}: {refusal}\n{shown}"));
+                assert_eq!(answer.tickets, first.tickets, "{shown}");
+                given.push((answer.number.0, buffer));
+            }
+            assert_eq!(given, owners, "{shown}");
+            for ticket in [first.tickets, first.tickets + 1, first.tickets + 255, 1 << 32, u64::MAX] {
+                assert_eq!(draw(history, ticket, &mut [0; 16]), Err(Refusal::NumberBeyond), "ticket {ticket}\n{shown}");
+            }
+            tickets += given.len();
+        }
+        lists += 1;
+    }
+    println!("{lists} lists, {tickets} tickets");
+    println!("by whether weights differ, whether a sentence is heard, and whether one has two derivations: {seen:?}");
+    assert!(seen.len() == 8 && seen.values().all(|&many| many > 15), "{seen:?}");
+}
+
 /// A thousand sentences of the house matrix grammar, each drawn from what is left in a voice and then logged: all in
 /// one voice, and in sixteen in turn.
 #[test]
@@ -1182,6 +1667,9 @@ fn empty_slices() {
     assert_eq!(pumpfennel::remaining_matching(&grammar, &[], &[0, 1], 0), Err(Refusal::HistoryWrongSize));
     let drawn = pumpfennel::draw_matching(&grammar, &[0; 4], &[0, 1], 0, DrawNumber(0), &mut []);
     assert_eq!(drawn, Err(Refusal::BufferTooShort));
+    assert_eq!(pumpfennel::draw_weighted(&grammar, &[0; 4], 2, 0, &[], Ticket(0), &mut []), Err(Refusal::BadWeights));
+    let drawn = pumpfennel::draw_weighted(&grammar, &[0; 4], 2, 0, &[1, 1], Ticket(0), &mut []);
+    assert_eq!(drawn, Err(Refusal::BufferTooShort));
     assert_eq!(pumpfennel::append(&mut [], &[1], 0, 0), Err(Refusal::HistoryWrongSize));
     assert_eq!(pumpfennel::append(&mut [0; 24], &[], 0, 0), Err(Refusal::BadLength));
 }
@@ -1199,13 +1687,17 @@ fn stack() {
     let sentences: Vec<Spoken> = (0..1000).map(|i| Spoken::in_full(0, vec![(i % 15) as u8; 16])).collect();
     let history = in_order(&sentences);
     let (same_grammar, same_history) = (grammar.clone(), history.clone());
+    let (third_grammar, third_history) = (grammar.clone(), history.clone());
     let plain = move || pumpfennel::draw(&grammar, &history, 16, 0, DrawNumber(5), &mut [0; 16]);
-    let matching = move || {
-        pumpfennel::draw_matching(&same_grammar, &same_history, &[BLANK; 16], 0, DrawNumber(5), &mut [0; 16])
-    };
+    let matching =
+        move || pumpfennel::draw_matching(&same_grammar, &same_history, &[BLANK; 16], 0, DrawNumber(5), &mut [0; 16]);
+    let weighted =
+        move || pumpfennel::draw_weighted(&third_grammar, &third_history, 16, 0, &[1; 15], Ticket(5), &mut [0; 16]);
     let drawn = in_stack(pumpfennel::LARGE_STACK, plain);
     assert!(drawn.is_ok());
     assert_eq!(in_stack(pumpfennel::MATCHING_STACK, matching), drawn);
+    let by_ticket = in_stack(pumpfennel::MATCHING_STACK, weighted);
+    assert_eq!(by_ticket.map(|by| (by.tickets, by.number)), drawn.map(|drawn| (drawn.remaining, drawn.number)));
 }
 
 /// A number that the header defines.

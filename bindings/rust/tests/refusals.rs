@@ -1,7 +1,8 @@
 //! Each refusal by its name: a call that is refused for just that, and words that its text has and no other. Calls and
 //! words are written by hand and come from no list, so that two exchanged names or meanings are noticed.
 use pumpfennel::{
-    DerivationNumber, Refusal, append, check_grammar, check_history, count, rank, remaining, remaining_matching, unrank,
+    DerivationNumber, Refusal, Ticket, append, check_grammar, check_history, count, draw_weighted, rank, remaining,
+    remaining_matching, unrank,
 };
 
 /// S is word 0, and nothing else.
@@ -46,7 +47,7 @@ fn rows() -> Vec<(Refusal, Option<Refusal>, &'static str)> {
         // word 0, then word 0
         (Refusal::GrammarEqualRules, of(check_grammar(&[1, 1, 2, 0, 1, 0, 0, 0, 2, 0, 0, 0, 0])), "two rules"),
         (Refusal::BadLength, of(count(ONE, 17)), "1 to 16"),
-        (Refusal::TooManyDerivations, of(count(MANY, 16)), "2^64"),
+        (Refusal::TooManyDerivations, of(count(MANY, 16)), "a count that"),
         // one record, and no bytes for it
         (Refusal::HistoryWrongSize, of(check_history(&[1, 0, 1, 0])), "4 + 20K"),
         // a sentence of no words
@@ -70,6 +71,10 @@ fn rows() -> Vec<(Refusal, Option<Refusal>, &'static str)> {
         (Refusal::BadVoice, of(append(&mut [0; 24], &[0], 16, 0)), "above 15"),
         // one word, and playback broken off after it
         (Refusal::BadPlayed, of(append(&mut [0; 24], &[0], 0, 1)), "words played is"),
+        // two weights of one word
+        (Refusal::BadWeights, of(draw_weighted(ONE, &[0; 4], 1, 0, &[1, 1], Ticket(0), &mut [0])), "weights are"),
+        // sixteen words of weight 255
+        (Refusal::TooManyTickets, of(draw_weighted(TREES, &[0; 4], 16, 0, &[255], Ticket(0), &mut [])), "total weight"),
     ]
 }
 
@@ -86,7 +91,7 @@ fn by_name() {
 
 #[test]
 fn by_number() {
-    let numbers: Vec<u8> = (1..=23).collect();
+    let numbers: Vec<u8> = (1..=25).collect();
     assert_eq!(Refusal::ALL.map(Refusal::number)[..], numbers);
     for refusal in Refusal::ALL {
         assert_eq!(Refusal::from_number(refusal.number()), Some(refusal));

@@ -25,6 +25,8 @@ pub enum Refusal {
     BadPattern,
     BadVoice,
     BadPlayed,
+    BadWeights,
+    TooManyTickets,
 }
 
 // The refusal's number in the documents.
@@ -54,5 +56,7 @@ pub fn number(r: Refusal) -> u8
         Refusal::BadPattern => 21,
         Refusal::BadVoice => 22,
         Refusal::BadPlayed => 23,
+        Refusal::BadWeights => 24,
+        Refusal::TooManyTickets => 25,
     }
 }

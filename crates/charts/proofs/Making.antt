@@ -14,7 +14,8 @@ use Rattle.lists.proofs.Sums.{sum-ext, sum-one}
 use Rattle.lists.proofs.Tables.{row-same, row-other, wide-row}
 use Rattle.grammar.specs.Inner.Rules.{countIn, wordsIn}
 use Rattle.grammar.proofs.Ruling.{word-count}
-use Rattle.charts.specs.Inner.Letters.{any, weighed, letterAt, weightBy}
+use Rattle.counting.specs.Inner.Letters.{any, weighed}
+use Rattle.charts.specs.Inner.Letters.{letterAt, weightBy}
 use Rattle.charts.specs.Inner.Maps.{rowAt}
 use Rattle.charts.specs.Inner.Filling.{Clears, wordCount, wordTimes, leafSum, GrownAs, Clear, MadeAs, Makes, only, cutsSum, spanSum, Joins, Spans, SpannedAs}
 use Rattle.charts.specs.Inner.Plan.{wanted}

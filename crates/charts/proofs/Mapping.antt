@@ -1,5 +1,5 @@
--- Maps: the turns that write one, and what the plain one and a planned one give. In the map of plain counts every word within reach counts
--- for 1, so a total is a count; the spans that a plan needs are closed under halving.
+-- Maps: the turns that write one, and what those by length alone and a planned one give. By a letter that is the same at every position a total is
+-- the same at all of them; the spans that a plan needs are closed under halving.
 -- Assumes nothing.
 use mathlib.Core.Path.{_≡_, refl, sym, ap, _∙_}
 use mathlib.Core.Bool.{Bool, true, false, _&&_, _||_}
@@ -10,22 +10,23 @@ use native.Mathlib.Decide.{ℕ-discrete}
 use borrow.Author.Count.{below-more}
 use borrow.Author.Tests.{eq-eqb, ne-eqb}
 use lib.Dec.{eqb}
-use lib.ListN.{length, getD, set, drop, length-set, getD-replicate, drop-of-length-le}
-use lib.Seq.{drop-cons}
+use lib.ListN.{length, getD, set, drop, length-set, length-drop, getD-replicate, drop-of-length-le}
+use lib.Seq.{drop-cons, getD-drop}
 use Rattle.lists.specs.Inner.Tables.{entry, put, Wide}
 use Rattle.lists.proofs.Tables.{put-same, put-row, put-beside, wide-put}
 use Rattle.grammar.specs.Inner.Rules.{ruled}
-use Rattle.counting.specs.Totals.{total, T}
-use Rattle.counting.specs.Inner.Counted.{Asked, Counted}
+use Rattle.counting.specs.Totals.{total, totalBy}
+use Rattle.counting.specs.Inner.Counted.{Asked, Tallied, Counted}
 use Rattle.grammar.specs.Inner.Links.{LinkedAs}
-use Rattle.counting.proofs.Totals.{total-within, T-anywhere}
+use Rattle.counting.proofs.Totals.{total-within, by-anywhere}
 use Rattle.counting.proofs.Asking.{counted-rows, counted-kept}
 use Rattle.charts.specs.Inner.Chart.{Blank, Beside, Clean, Filled}
-use Rattle.charts.specs.Inner.Letters.{any, letterAt, letterWeight, weightBy, letterOf, stands}
-use Rattle.charts.specs.Inner.Maps.{rowAt, totalAt, Span, Closed, Mapped, Everywhere, rowsFrom, countsMap, LetteredAs}
+use Rattle.counting.specs.Inner.Letters.{any, byLetter}
+use Rattle.charts.specs.Inner.Letters.{letterAt, weightBy, letterOf, admits, stands}
+use Rattle.charts.specs.Inner.Maps.{rowAt, totalAt, Span, Closed, Mapped, ByLength, Everywhere, rowsFrom, mapBy, countsMap, LetteredAs}
 use Rattle.charts.specs.Inner.Plan.{needed, noneRow, chartRow, endOf, Planned}
 
--- ---- the map of plain counts
+-- ---- maps by length alone
 
 -- as a list
 rows-from : (k n i p : ℕ) → i < n → p < 16 → entry (rowsFrom k n) i p ≡ k + i
@@ -33,12 +34,15 @@ rows-from k zero i p h l = absurd (omega arith)
 rows-from k (suc n) zero p h l = getD-replicate 16 p k 0 l ∙ omega arith
 rows-from k (suc n) (suc i) p h l = omega (arith, rows-from (suc k) n i p (omega arith) l)
 
-counts-row : (p m : ℕ) → p < 16 → 1 ≤ m → m ≤ 16 → rowAt countsMap p m ≡ m
-counts-row p zero h s l = absurd (omega arith)
-counts-row p (suc m) h s l = omega (arith, rows-from 1 16 m p (omega arith) h)
+pub map-by : (x base : ℕ) → ByLength x base (mapBy x base)
+map-by x base = record { row = row; letter = λ p h. getD-replicate 16 p x 0 h }
+  where
+    row : (p m : ℕ) → p < 16 → 1 ≤ m → m ≤ 16 → rowAt (mapBy x base) p m ≡ base + m
+    row p zero h s l = absurd (omega arith)
+    row p (suc m) h s l = omega (arith, rows-from (suc base) 16 m p (omega arith) h)
 
 pub counts-map : Everywhere countsMap
-counts-map = record { row = counts-row; letter = λ p h. getD-replicate 16 p any 0 h }
+counts-map = map-by any 0
 
 -- ---- letters
 
@@ -92,50 +96,53 @@ module _ (map : List (List ℕ)) where
 
   -- the word at p
   step : (p : ℕ) (s : List ℕ) → p < length s
-      → stands map p (drop p s) ≡ ((eqb (letterAt map p) any || eqb (letterAt map p) (getD s p 0)) && stands map (suc p) (drop (suc p) s))
+      → stands map p (drop p s) ≡ (admits (letterAt map p) (getD s p 0) && stands map (suc p) (drop (suc p) s))
   step p s h = ap (stands map p) (drop-cons s p 0 h)
 
   -- a word that stands, and one that doesn't
-  pub stands-more : (p : ℕ) (s : List ℕ) → p < length s → (eqb (letterAt map p) any || eqb (letterAt map p) (getD s p 0)) ≡ true
+  pub stands-more : (p : ℕ) (s : List ℕ) → p < length s → admits (letterAt map p) (getD s p 0) ≡ true
       → stands map (suc p) (drop (suc p) s) ≡ stands map p (drop p s)
   stands-more p s h e = sym (step p s h ∙ rw e)
 
-  pub stands-fails : (p : ℕ) (s : List ℕ) → p < length s → (eqb (letterAt map p) any || eqb (letterAt map p) (getD s p 0)) ≡ false
+  pub stands-fails : (p : ℕ) (s : List ℕ) → p < length s → admits (letterAt map p) (getD s p 0) ≡ false
       → stands map p (drop p s) ≡ false
   stands-fails p s h e = step p s h ∙ rw e
 
--- ---- plain counts
+-- ---- totals by length alone
 
-any-one : (weights : ℕ → ℕ) (x w : ℕ) → x ≡ any → letterWeight weights x w ≡ 1
-any-one weights x w e = rw e
+module _ (rules : List (List ℕ)) {x base : ℕ} {map : List (List ℕ)} (e : ByLength x base map) where
+  pub length-weight : (p w : ℕ) → p < 16 → weightBy rules map p w ≡ byLetter rules x w
+  length-weight p w h = ap (λ (y : ℕ). byLetter rules y w) (e .letter p h)
 
-module _ (rules : List (List ℕ)) {map : List (List ℕ)} (e : Everywhere map) where
-  pub everywhere-weight : (p w : ℕ) → p < 16 → weightBy rules map p w ≡ 1
-  everywhere-weight p w h = any-one (entry rules 13) (letterAt map p) w (e .letter p h)
+  pub length-total : (p A m : ℕ) → p + m ≤ 16 → total (ruled rules) (weightBy rules map) p A m ≡ totalBy (ruled rules) (byLetter rules x) A m
+  length-total p A m h =
+      total-within (ruled rules) (weightBy rules map) (λ q w. byLetter rules x w) p A m (λ q w l u. length-weight q w (omega arith))
+      ∙ by-anywhere (ruled rules) (byLetter rules x) p A m
 
-  pub everywhere-total : (p A m : ℕ) → p + m ≤ 16 → total (ruled rules) (weightBy rules map) p A m ≡ T (ruled rules) A m
-  everywhere-total p A m h =
-      total-within (ruled rules) (weightBy rules map) (λ q w. 1) p A m (λ q w l u. everywhere-weight q w (omega arith))
-      ∙ T-anywhere (ruled rules) p A m
-
-  module _ {totals : List (List ℕ)} {n : ℕ} (c : Counted rules totals n) (known : ℕ → ℕ → Bool) where
-    row-is : (p m : ℕ) → Span n p m → rowAt map p m ≡ m
+  module _ (totals : List (List ℕ)) {n : ℕ} (c : Tallied rules (byLetter rules x) (drop base totals) n) (known : ℕ → ℕ → Bool) where
+    row-is : (p m : ℕ) → Span n p m → rowAt map p m ≡ base + m
     row-is p m s = e .row p m (omega (arith, s .some, s .inside, c .short)) (s .some) (omega (arith, s .inside, c .short))
 
     total-is : (p A m : ℕ) → Asked rules n A m → Span n p m → totalAt totals map p A m ≡ total (ruled rules) (weightBy rules map) p A m
     total-is p A m a s =
         ap (λ (r : ℕ). entry totals r A) (row-is p m s)
+        ∙ ap (λ (l : List ℕ). getD l A 0) (sym (getD-drop base totals m []))
         ∙ c .right A m a
-        ∙ sym (everywhere-total p A m (omega (arith, s .inside, c .short)))
+        ∙ sym (length-total p A m (omega (arith, s .inside, c .short)))
 
-    pub everywhere-mapped : Mapped rules totals map n known
-    everywhere-mapped =
+    pub length-mapped : Mapped rules totals map n known
+    length-mapped =
         record {
-          low = λ p m s. omega (arith, row-is p m s, s .inside, c .short, c .long);
+          low = λ p m s. omega (arith, row-is p m s, s .inside, c .short, c .long, length-drop base totals);
           right = λ p A m a s k. total-is p A m a s;
           below = λ p A m a s. omega (arith, total-is p A m a s);
-          fits = λ p A m a s. omega (arith, everywhere-total p A m (omega (arith, s .inside, c .short)), c .fits A m a);
+          fits = λ p A m a s. omega (arith, length-total p A m (omega (arith, s .inside, c .short)), c .fits A m a);
         }
+
+-- plain counts
+module _ (rules : List (List ℕ)) {map : List (List ℕ)} (e : Everywhere map) where
+  pub everywhere-mapped : {totals : List (List ℕ)} {n : ℕ} → Counted rules totals n → (known : ℕ → ℕ → Bool) → Mapped rules totals map n known
+  everywhere-mapped {totals} c known = length-mapped rules e totals c known
 
 -- every span may be known
 pub all-closed : (rules : List (List ℕ)) (n : ℕ) → Closed rules n (λ p m. true)

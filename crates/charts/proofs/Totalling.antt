@@ -20,7 +20,8 @@ use Rattle.counting.specs.Totals.{total, T}
 use Rattle.counting.specs.Inner.Counted.{Asked}
 use Rattle.counting.proofs.Totals.{productAt, pairTotal, left-none, right-none, total-one, total-more}
 use Rattle.counting.proofs.Asking.{asked-left, asked-right, total-dead}
-use Rattle.charts.specs.Inner.Letters.{any, weighed, letterWeight, weightBy}
+use Rattle.counting.specs.Inner.Letters.{any, weighed, letterWeight}
+use Rattle.charts.specs.Inner.Letters.{weightBy}
 use Rattle.charts.specs.Inner.Maps.{totalAt}
 use Rattle.charts.specs.Inner.Plan.{cuts, Cut}
 use Rattle.charts.specs.Inner.Filling.{cutSum, cutsSum, leafSum, Done}

@@ -14,6 +14,7 @@ use crate::plan::CUTS;
 use crate::plan::PARTNERS;
 use crate::plan::SPOTS;
 use crate::plan::WANTED;
+use counting::letters;
 use grammar::rules;
 
 // ---- a row to begin with
@@ -82,7 +83,7 @@ fn fill_leaf(
     let row = maps::row_at(map, p, 1);
     clear(old, row, totals);
     let x = map[maps::LETTERS][p];
-    if x == maps::ANY {
+    if x == letters::ANY {
         return add_words(rules, row, totals);
     }
     add_word(rules, x as usize, row, totals)

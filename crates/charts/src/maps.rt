@@ -1,24 +1,19 @@
 // Maps from spans to rows of the table of totals, with a letter for each position.
 ghost use mathlib.Core.Path.{_≡_};
-ghost use mathlib.Core.Bool.{_||_};
 ghost use Prim.Native.Nat.{_≤_, _<_};
-ghost use lib.Dec.{eqb};
 ghost use lib.ListN.{length};
 ghost use Rattle.lists.specs.Inner.Tables.{Wide};
-ghost use Rattle.charts.specs.Inner.Letters.{letterOf, stands};
+ghost use Rattle.charts.specs.Inner.Letters.{letterOf, admits, stands};
 ghost use Rattle.charts.specs.Inner.Maps.{rowAt, LetteredAs, Fitted};
+use counting::letters::ANY;
 
 // Rows of the table of totals: of zeros, and the first of a chart. Those below are the counts'.
 pub const NONE: usize = 17;
 
 pub const CHART: usize = 18;
 
-// What the word at a position must be: below 256 that word alone; any word; any word, by its weight. A map has them in its first row.
+// What the word at a position must be: a letter. A map has them in its first row.
 pub const LETTERS: usize = 0;
-
-pub const ANY: u16 = 256;
-
-pub const WEIGHED: u16 = 257;
 
 // The map of plain counts: the row of a span is its length, and any word counts for 1.
 pub const EVERYWHERE: [[u16; 16]; 17] = [
@@ -39,6 +34,32 @@ pub const EVERYWHERE: [[u16; 16]; 17] = [
     [14; 16],
     [15; 16],
     [16; 16],
+];
+
+// Where the totals by the words' weights stand, in a table that has them: the row of a length is that much behind it. Charts begin behind the last.
+pub const WEIGHTS: usize = 18;
+
+pub const BEHIND_WEIGHTS: usize = 35;
+
+// Their map.
+pub const BY_WEIGHT: [[u16; 16]; 17] = [
+    [257; 16],
+    [19; 16],
+    [20; 16],
+    [21; 16],
+    [22; 16],
+    [23; 16],
+    [24; 16],
+    [25; 16],
+    [26; 16],
+    [27; 16],
+    [28; 16],
+    [29; 16],
+    [30; 16],
+    [31; 16],
+    [32; 16],
+    [33; 16],
+    [34; 16],
 ];
 
 fn long(x: u16) -> usize
@@ -77,9 +98,9 @@ pub fn set_letters(words: &[u8], blank: u16, map: &mut [[u16; 16]; 17])
 
 // Whether a letter asks for the word, or for any.
 fn admits(letter: u16, w: u8) -> bool
-    ensures { λ r. ⌜ r ≡ (eqb letter 256 || eqb letter w) ⌝ }
+    ensures { λ r. ⌜ r ≡ admits letter w ⌝ }
 {
-    if letter == ANY {
+    if ANY <= letter {
         return true;
     }
     letter == w as u16

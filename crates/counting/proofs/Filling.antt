@@ -5,7 +5,7 @@
 use mathlib.Core.Path.{_≡_, refl, sym, ap, _∙_}
 use mathlib.Core.Bool.{Bool, true, false, not, false≢true}
 use mathlib.Core.List.{List, [], _∷_}
-use Prim.Native.Nat.{ℕ, suc, _+_, _-_, _≤_, _<_}
+use Prim.Native.Nat.{ℕ, suc, _+_, _*_, _-_, _≤_, _<_}
 use native.Mathlib.Omega.{arith}
 use native.Mathlib.Decide.{ℕ-discrete}
 use borrow.Author.Tests.{eq-eqb, ne-eqb}
@@ -18,17 +18,19 @@ use Rattle.lists.proofs.Tables.{put-same, put-row, put-other-row, put-beside, k
 use Rattle.sets.specs.Inner.Sets.{members}
 use Rattle.sets.proofs.Digits.{member-none}
 use Rattle.sets.proofs.Loops.{lowest-low, turn, turn-out, first-member}
-use Rattle.grammar.specs.Inner.Rules.{leftAt, rightAt, wordFrom, pairFrom, startIn, pairsIn, ruled}
-use Rattle.grammar.proofs.Ruling.{words-ruled, pairs-ruled, word-count, pair-count, pair-here}
-use Rattle.counting.specs.Totals.{T}
+use Rattle.grammar.specs.Inner.Rules.{wordAt, leftAt, rightAt, wordFrom, pairFrom, startIn, wordsIn, pairsIn, ruled}
+use Rattle.grammar.proofs.Ruling.{words-ruled, pairs-ruled, word-count, pair-count, word-here, pair-here}
+use Rattle.counting.specs.Totals.{totalBy}
 use Rattle.counting.specs.Needed.{Needed}
 use Rattle.counting.specs.Refusals.{most}
 use Rattle.counting.specs.Inner.Counted.{countAt, longestAt, Asked}
+use Rattle.counting.specs.Inner.Letters.{any, byLetter}
 use Rattle.counting.specs.Inner.Needs.{needsAt, NeedsAs, MemberOf, FoundAs}
-use Rattle.counting.specs.Inner.Filling.{TalliedAs, Filling, FilledAs, partSum, Halves, Below, Deriving, longer, stored, RowFilling, RowTo, RowFilledAs}
+use Rattle.counting.specs.Inner.Filling.{TalliedAs, Filling, FilledAs, partSum, Halves, Below, Deriving, WordsBy, longer, stored, RowFilling, RowTo, RowFilledAs}
 use Rattle.counting.specs.declared.tallies.Tally.{Tally}
 use Rattle.counting.specs.declared.tallies.Tally.the-variants.{Fits, Over}
-use Rattle.counting.proofs.Totals.{pairTotal, T-one, T-more}
+use Rattle.counting.proofs.Totals.{pairTotal, by-one, by-more}
+use Rattle.counting.proofs.Lettered.{letter-ones}
 use Rattle.counting.proofs.Needed.{overflows-needed, overflows-fit}
 use Rattle.counting.proofs.Asking.{asked-of}
 use Rattle.counting.proofs.PairSums.{says-fits, says-over, halves-asked, part-counts, halves-below}
@@ -36,26 +38,26 @@ use Rattle.counting.proofs.PairSums.{says-fits, says-over, halves-asked
 -- ---- the loop over a nonterminal's pair rules
 
 -- before the pair rule at i of the table: the sum so far, with what the pair rules from there on add, is T(a, m)
-pub record Summing (rules : List (List ℕ)) (a m i sum : ℕ) : Type 0 where
+pub record Summing (rules : List (List ℕ)) (u : ℕ → ℕ) (a m i sum : ℕ) : Type 0 where
   pub from : pairFrom rules a ≤ i
   pub to : i ≤ pairFrom rules (a + 1)
-  pub due : sum + sumOver (pairTotal (λ p. T (ruled rules)) 0 m) (drop (i - pairFrom rules a) (pairsIn rules a)) ≡ T (ruled rules) a m
+  pub due : sum + sumOver (pairTotal (λ p. totalBy (ruled rules) u) 0 m) (drop (i - pairFrom rules a) (pairsIn rules a)) ≡ totalBy (ruled rules) u a m
 
-pub deriving-few : {rules totals : List (List ℕ)} {m a : ℕ} → Deriving rules totals m a → a < 32
+pub deriving-few : {rules totals : List (List ℕ)} {u : ℕ → ℕ} {m a : ℕ} → Deriving rules u totals m a → a < 32
 deriving-few d = omega (arith, d .table .few, d .inside)
 
-module _ {rules totals : List (List ℕ)} {m a : ℕ} (d : Deriving rules totals m a) (more : 2 ≤ m) where
-  pub summing-start : {i : ℕ} → i ≡ pairFrom rules a → Summing rules a m i 0
+module _ {rules totals : List (List ℕ)} {u : ℕ → ℕ} {m a : ℕ} (d : Deriving rules u totals m a) (more : 2 ≤ m) where
+  pub summing-start : {i : ℕ} → i ≡ pairFrom rules a → Summing rules u a m i 0
   summing-start {i} e =
       let z : i - pairFrom rules a ≡ 0 = omega arith in
       record {
         from = omega arith;
         to = omega (arith, d .table .pair-rises a (d .inside));
-        due = rw z (omega (arith, rw (pairs-ruled rules a) at (T-more (ruled rules) a m more)));
+        due = rw z (omega (arith, rw (pairs-ruled rules a) at (by-more (ruled rules) u a m more)));
       }
 
-  module _ {i sum : ℕ} (w : Summing rules a m i sum) where
-    pub summing-end : pairFrom rules (a + 1) ≤ i → sum ≡ T (ruled rules) a m
+  module _ {i sum : ℕ} (w : Summing rules u a m i sum) where
+    pub summing-end : pairFrom rules (a + 1) ≤ i → sum ≡ totalBy (ruled rules) u a m
     summing-end l =
         let z : i - pairFrom rules a ≡ length (pairsIn rules a) = omega (arith, pair-count rules a) in
         omega (arith, rw (z, drop-length (pairsIn rules a)) at (w .due))
@@ -75,30 +77,70 @@ module _ {rules totals : List (List ℕ)} {m a : ℕ} (d : Deriving rules totals
       listed : (B, C) ∈ pairsIn rules a
       listed = rw (← here) (getD-∈ (pairsIn rules a) (i - pairFrom rules a) (0, 0) there)
 
-      step : sum + partSum (countAt totals) B C m (m - 1) + sumOver (pairTotal (λ p. T (ruled rules)) 0 m) (drop (i + 1 - pairFrom rules a) (pairsIn rules a)) ≡ T (ruled rules) a m
+      step : sum + partSum (countAt totals) B C m (m - 1) + sumOver (pairTotal (λ p. totalBy (ruled rules) u) 0 m) (drop (i + 1 - pairFrom rules a) (pairsIn rules a)) ≡ totalBy (ruled rules) u a m
       step =
           let z : i + 1 - pairFrom rules a ≡ suc (i - pairFrom rules a) = omega arith in
-          let added : partSum (countAt totals) B C m (m - 1) ≡ pairTotal (λ p. T (ruled rules)) 0 m rule
+          let added : partSum (countAt totals) B C m (m - 1) ≡ pairTotal (λ p. totalBy (ruled rules) u) 0 m rule
           = part-counts d listed {k = m - 1} (omega arith) ∙ rw here in
           rw z (omega (arith, rw (drop-cons (pairsIn rules a) (i - pairFrom rules a) (0, 0) there) at (w .due), added))
 
       pub summing-asks : {to : ℕ} → to ≡ m - 1 → Halves totals B C m to
       summing-asks e = halves-asked d listed (omega arith)
 
-      pub summing-step : {v : ℕ} {t : Tally} → t ≡ Fits v → TalliedAs (sum + partSum (countAt totals) B C m (m - 1)) t → Summing rules a m (i + 1) v
+      pub summing-step : {v : ℕ} {t : Tally} → t ≡ Fits v → TalliedAs (sum + partSum (countAt totals) B C m (m - 1)) t → Summing rules u a m (i + 1) v
       summing-step e f = record { from = omega arith; to = omega arith; due = omega (arith, step, says-fits e f) }
 
-      pub summing-over : {t : Tally} → t ≡ Over → TalliedAs (sum + partSum (countAt totals) B C m (m - 1)) t → most < T (ruled rules) a m
+      pub summing-over : {t : Tally} → t ≡ Over → TalliedAs (sum + partSum (countAt totals) B C m (m - 1)) t → most < totalBy (ruled rules) u a m
       summing-over e f = omega (arith, step, says-over e f)
 
--- ---- the length 1
+-- ---- the loop over a nonterminal's words
 
--- the word rules are as many as T says
-pub words-count : {rules totals : List (List ℕ)} {m a from to : ℕ} → Deriving rules totals m a → m ≡ 1 → from ≡ wordFrom rules a → to ≡ wordFrom rules (a + 1)
-    → (from ≤ to) × (to - from ≡ T (ruled rules) a m)
-words-count {rules} {a = a} d e u v =
-    let s = d .table .word-rises a (d .inside) in
-    (omega arith, rw e (omega (arith, T-one (ruled rules) a, ap length (words-ruled rules a), word-count rules a)))
+-- before the word at i of the table: the sum so far, with what the words from there on count for, is what all do; each counts for 255 at most
+pub record Wording (rules : List (List ℕ)) (u : ℕ → ℕ) (a i sum : ℕ) : Type 0 where
+  pub from : wordFrom rules a ≤ i
+  pub to : i ≤ wordFrom rules (a + 1)
+  pub due : sum + sumOver u (drop (i - wordFrom rules a) (wordsIn rules a)) ≡ sumOver u (wordsIn rules a)
+  pub low : sum ≤ 255 * (i - wordFrom rules a)
+
+module _ {rules : List (List ℕ)} {letter a : ℕ} (d : WordsBy rules letter a) where
+  abbrev by : ℕ → ℕ
+  by = byLetter rules letter
+
+  pub words-few : (a < 32) × (wordFrom rules a ≤ wordFrom rules (a + 1)) × (wordFrom rules (a + 1) ≤ 255)
+  words-few = (omega (arith, d .table .few, d .inside), d .table .word-rises a (d .inside), d .table .word-low (a + 1) (omega (arith, d .inside)))
+
+  -- by `any` they count for as many as they are
+  pub words-any : letter ≡ any → {from to : ℕ} → from ≡ wordFrom rules a → to ≡ wordFrom rules (a + 1) → to - from ≡ sumOver by (wordsIn rules a)
+  words-any e f t = omega (arith, letter-ones rules letter e (wordsIn rules a), word-count rules a)
+
+  pub wording-start : {i : ℕ} → i ≡ wordFrom rules a → Wording rules by a i 0
+  wording-start {i} e =
+      let z : i - wordFrom rules a ≡ 0 = omega arith in
+      record { from = omega arith; to = omega (arith, words-few); due = rw z (omega arith); low = omega arith }
+
+  module _ {i sum : ℕ} (w : Wording rules by a i sum) where
+    pub wording-end : wordFrom rules (a + 1) ≤ i → sum ≡ sumOver by (wordsIn rules a)
+    wording-end l =
+        let z : i - wordFrom rules a ≡ length (wordsIn rules a) = omega (arith, word-count rules a, w .to) in
+        omega (arith, rw (z, drop-length (wordsIn rules a)) at (w .due))
+
+    module _ (l : i < wordFrom rules (a + 1)) {x v : ℕ} (ex : x ≡ wordAt rules i) (ev : v ≡ by x) (small : v ≤ 255) where
+      pub wording-room : sum + v ≤ 65280
+      wording-room = omega (arith, w .low, w .from, words-few)
+
+      pub wording-step : Wording rules by a (i + 1) (sum + v)
+      wording-step =
+          let k = i - wordFrom rules a in
+          let s : i + 1 - wordFrom rules a ≡ suc k = omega (arith, w .from) in
+          let z : wordFrom rules a + k ≡ i = omega (arith, w .from) in
+          let there : k < length (wordsIn rules a) = omega (arith, word-count rules a, w .from) in
+          let here : getD (wordsIn rules a) k 0 ≡ x = rw z at (word-here rules a k (omega (arith, w .from))) ∙ sym ex in
+          let due = rw (drop-cons (wordsIn rules a) k 0 there, here) at (w .due) in
+          record { from = omega (arith, w .from); to = omega arith; due = rw s (omega (arith, due)); low = omega (arith, w .low, w .from) }
+
+-- and are the total of the length 1
+pub words-total : {rules totals : List (List ℕ)} {u : ℕ → ℕ} {m a v : ℕ} → Deriving rules u totals m a → m ≡ 1 → v ≡ sumOver u (wordsIn rules a) → v ≡ totalBy (ruled rules) u a m
+words-total {rules} {u = u} {a = a} d e s = rw e (s ∙ sym (by-one (ruled rules) u a ∙ ap (sumOver u) (words-ruled rules a)))
 
 -- ---- what a store leaves
 
@@ -143,9 +185,9 @@ longer-past {old} {m} {v} {k} l u =
       | no n ↦ let q : m < k = rw (ne-eqb v 0 n) at l in absurd (omega arith)
     ]
 
-module _ {rules start : List (List ℕ)} {m set : ℕ} (f : RowFilling rules start m set) where
+module _ {rules start : List (List ℕ)} {u : ℕ → ℕ} {m set : ℕ} (f : RowFilling rules u start m set) where
   -- at first all members are left
-  pub row-start : RowTo rules start start m set set
+  pub row-start : RowTo rules u start start m set set
   row-start = record {
     right = λ A i o. absurd (false≢true (sym o ∙ i .1));
     fits = λ A i o. absurd (false≢true (sym o ∙ i .1));
@@ -156,26 +198,26 @@ module _ {rules start : List (List ℕ)} {m set : ℕ} (f : RowFilling rules sta
     kept = kept-same (f .wide);
   }
 
-  module _ {totals : List (List ℕ)} {left : ℕ} (w : RowTo rules start totals m set left) where
+  module _ {totals : List (List ℕ)} {left : ℕ} (w : RowTo rules u start totals m set left) where
     pub row-long : 17 ≤ length totals
     row-long = omega (arith, w .kept .long, f .long)
 
     -- counts below m are there as they were
-    below-still : {X : ℕ} → Below rules start m X → Below rules totals m X
+    below-still : {X : ℕ} → Below rules u start m X → Below rules u totals m X
     below-still {X} b = record {
       inside = b .inside;
       right = λ k l u. ap (λ (r : List ℕ). getD r X 0) (w .others k l (λ e. omega arith)) ∙ b .right k l u;
       longest = λ k l u o. b .longest k l u (w .risen X k (omega arith) o);
     }
 
-    pub row-end : left ≡ 0 → RowFilledAs rules start totals m set true
+    pub row-end : left ≡ 0 → RowFilledAs rules u start totals m set true
     row-end e = record { row = λ _. rw e at w; over = λ z. absurd (false≢true (sym z)); kept = w .kept }
 
     module _ {a : ℕ} (first : members left ≡ a ∷ drop 1 (members left)) (among : (A : ℕ) → MemberOf left A → MemberOf set A) where
       chosen : MemberOf set a
       chosen = among a (lowest-low left a first, first-member left a (drop 1 (members left)) first)
 
-      pub row-asks : Deriving rules totals m a
+      pub row-asks : Deriving rules u totals m a
       row-asks = record {
         table = f .owners .table;
         some = f .some;
@@ -185,7 +227,7 @@ module _ {rules start : List (List ℕ)} {m set : ℕ} (f : RowFilling rules sta
         halves = λ x i. let h = f .halves a chosen x i in (below-still (h .0), below-still (h .1));
       }
 
-      pub row-over : {t : Tally} → t ≡ Over → TalliedAs (T (ruled rules) a m) t → RowFilledAs rules start totals m set false
+      pub row-over : {t : Tally} → t ≡ Over → TalliedAs (totalBy (ruled rules) u a m) t → RowFilledAs rules u start totals m set false
       row-over e s = record { row = λ z. absurd (false≢true z); over = λ _. (a, chosen, says-over e s); kept = w .kept }
 
       abbrev wide : Wide totals 32
@@ -205,9 +247,9 @@ module _ {rules start : List (List ℕ)} {m set : ℕ} (f : RowFilling rules sta
         past-own l u = longer-past (rw (low-same totals m a v row-long wide (chosen .0) (f .some) (f .short)) at l) u
 
       pub row-step : (next : ℕ) → members next ≡ drop 1 (members left) → {after : List (List ℕ)} {v : ℕ} {t : Tally} → after ≡ stored totals a m v → v ≤ most
-          → t ≡ Fits v → TalliedAs (T (ruled rules) a m) t → RowTo rules start after m set next
-      row-step next rest {v = v} s u e says =
-          let is : v ≡ T (ruled rules) a m = says-fits e says in
+          → t ≡ Fits v → TalliedAs (totalBy (ruled rules) u a m) t → RowTo rules u start after m set next
+      row-step next rest {v = v} s small e says =
+          let is : v ≡ totalBy (ruled rules) u a m = says-fits e says in
           let turned = turn left a first next rest in
           rw s
           (record {
@@ -238,18 +280,21 @@ module _ {rules start : List (List ℕ)} {m set : ℕ} (f : RowFilling rules sta
 -- ---- the loop over the rows
 
 -- before the row m: those below it have their counts where they are asked for, and these fit; nothing else has one, and the others are all 0
-pub record Rising (rules start totals : List (List ℕ)) (n m : ℕ) : Type 0 where
+pub record Rising (rules : List (List ℕ)) (u : ℕ → ℕ) (start totals : List (List ℕ)) (n m : ℕ) : Type 0 where
   pub some : 1 ≤ m
-  pub right : (A k : ℕ) → Asked rules n A k → k < m → countAt totals A k ≡ T (ruled rules) A k
-  pub fits : (A k : ℕ) → Asked rules n A k → k < m → T (ruled rules) A k ≤ most
-  pub longest : (A k : ℕ) → Asked rules n A k → k < m → longestAt totals A < k → T (ruled rules) A k ≡ 0
+  pub right : (A k : ℕ) → Asked rules n A k → k < m → countAt totals A k ≡ totalBy (ruled rules) u A k
+  pub fits : (A k : ℕ) → Asked rules n A k → k < m → totalBy (ruled rules) u A k ≤ most
+  pub longest : (A k : ℕ) → Asked rules n A k → k < m → longestAt totals A < k → totalBy (ruled rules) u A k ≡ 0
   pub only : (A k : ℕ) → A < 32 → 1 ≤ k → k < m → 1 ≤ countAt totals A k → Asked rules n A k
   pub zeros : (k A : ℕ) → m ≤ k → k ≤ 16 → countAt totals A k ≡ 0
   pub kept : Kept 17 32 start totals
 
-module _ {rules start : List (List ℕ)} {n : ℕ} (f : Filling rules n start) where
+module _ {rules start : List (List ℕ)} {letter n : ℕ} (f : Filling rules letter n start) where
+  abbrev u : ℕ → ℕ
+  u = byLetter rules letter
+
   -- at first no row is there
-  pub rising-start : Rising rules start start n 1
+  pub rising-start : Rising rules u start start n 1
   rising-start = record {
     some = omega arith;
     right = λ A k a l. absurd (omega (arith, a .some));
@@ -260,12 +305,12 @@ module _ {rules start : List (List ℕ)} {n : ℕ} (f : Filling rules n start) w
     kept = kept-same (f .wide);
   }
 
-  module _ {totals : List (List ℕ)} {m : ℕ} (r : Rising rules start totals n m) where
+  module _ {totals : List (List ℕ)} {m : ℕ} (r : Rising rules u start totals n m) where
     module _ (short : m ≤ n) {needs : List ℕ} (found : FoundAs rules n needs) {set : ℕ} (e : set ≡ needsAt needs m) where
       found-here : NeedsAs rules n m set
       found-here = rw e (found .each m (r .some) short)
 
-      pub rising-asks : RowFilling rules totals m set
+      pub rising-asks : RowFilling rules u totals m set
       rising-asks = record {
         owners = record { table = f .table; inside = λ A i. found-here A (i .0) .0 (i .1) .inside };
         some = r .some;
@@ -276,19 +321,19 @@ module _ {rules start : List (List ℕ)} {n : ℕ} (f : Filling rules n start) w
         halves = λ A i. halves-below (f .table) (found-here A (i .0) .0 (i .1)) (λ B k a l. (r .right B k a l, r .longest B k a l));
       }
 
-      pub rising-over : {after : List (List ℕ)} {b : Bool} → b ≡ false → RowFilledAs rules totals after m set b → FilledAs rules n start after false
+      pub rising-over : {after : List (List ℕ)} {b : Bool} → b ≡ false → RowFilledAs rules u totals after m set b → FilledAs rules u n start after false
       rising-over z d =
           let q = d .over z in
           let kept = kept-then (r .kept) (d .kept) in
           record {
-            says = ap not (sym (overflows-needed (ruled rules) (λ p w. 1) .1 (q .0, m, found-here (q .0) (q .1 .0) .0 (q .1 .1) .needed, q .2)));
+            says = ap not (sym (overflows-needed (ruled rules) (λ p w. u w) .1 (q .0, m, found-here (q .0) (q .1 .0) .0 (q .1 .1) .needed, q .2)));
             counted = λ z. absurd (false≢true z);
             long = kept .long;
             wide = kept .wide;
             rest = kept .rest;
           }
 
-      module _ {after : List (List ℕ)} (d : RowTo rules totals after m set 0) where
+      module _ {after : List (List ℕ)} (d : RowTo rules u totals after m set 0) where
         member-here : {A k : ℕ} → Asked rules n A k → k ≡ m → MemberOf set A
         member-here {A} a z =
             let l : A < 32 = omega (arith, a .inside, f .table .few) in
@@ -297,7 +342,7 @@ module _ {rules start : List (List ℕ)} {n : ℕ} (f : Filling rules n start) w
         row-still : (A k : ℕ) → 1 ≤ k → k < m → countAt after A k ≡ countAt totals A k
         row-still A k l u = ap (λ (r : List ℕ). getD r A 0) (d .others k l (λ z. omega arith))
 
-        pub rising-step : Rising rules start after n (m + 1)
+        pub rising-step : Rising rules u start after n (m + 1)
         rising-step = record {
           some = omega arith;
           right = λ A k a u. elim (ℕ-discrete k m) [
@@ -320,13 +365,13 @@ module _ {rules start : List (List ℕ)} {n : ℕ} (f : Filling rules n start) w
           kept = kept-then (r .kept) (d .kept);
         }
 
-    pub rising-end : n < m → FilledAs rules n start totals true
+    pub rising-end : n < m → FilledAs rules u n start totals true
     rising-end h =
         let kept = r .kept in
-        let fit : (A k : ℕ) → Needed (ruled rules) (startIn rules) n A k → T (ruled rules) A k ≤ most
+        let fit : (A k : ℕ) → Needed (ruled rules) (startIn rules) n A k → totalBy (ruled rules) u A k ≤ most
         = λ A k a. let q = asked-of (f .table) (f .some) a in r .fits A k q (omega (arith, q .short)) in
         record {
-          says = ap not (sym (overflows-fit (ruled rules) (λ p w. 1) .1 fit));
+          says = ap not (sym (overflows-fit (ruled rules) (λ p w. u w) .1 fit));
           counted = λ _. record {
             table = f .table;
             some = f .some;

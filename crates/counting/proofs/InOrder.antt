@@ -23,7 +23,7 @@ use Rattle.counting.proofs.Totals.{productAt, sums}
 use Rattle.counting.proofs.Tabled.{tabled-alike, tabled-T, tabled-asked}
 use Rattle.counting.proofs.PairSums.{says-all, halves-asked, part-counts, halves-below}
 
-module _ {g : List ℕ} {rules totals : List (List ℕ)} {A m : ℕ} (h : Holds g rules) (d : Deriving rules totals m A) (more : 2 ≤ m) where
+module _ {g : List ℕ} {rules totals : List (List ℕ)} {A m : ℕ} (h : Holds g rules) (d : Deriving rules (λ w. 1) totals m A) (more : 2 ≤ m) where
   module _ (earlier later : List (ℕ × ℕ)) (B C k : ℕ) (rule : pairsOf (chain g A) ≡ earlier ++ (B, C) ∷ later) (l : k < m) where
     in-N : A < nonterminals g
     in-N = omega (arith, h .count-is, d .inside)

@@ -1,6 +1,7 @@
 -- The laws of totals, for the crates above. In the proof of a function a need that is plain arithmetic, or a fact at hand, has no name: it is answered
 -- where the needs come together.
 pub mod Totals
+pub mod Lettered
 pub mod Needed
 pub mod Sentences
 pub mod Counts

@@ -1,5 +1,5 @@
 -- One pair rule's sum, with the steps of 001's formula 4a: a product more, the loop over the left lengths, and what the rule has added after
--- each of them, with T in place of the table's counts. The halves of what is asked for are asked for, so their counts are in the table.
+-- each of them, with the totals in place of the table's entries. The halves of what is asked for are asked for, so their counts are in the table.
 -- Assumes nothing.
 use mathlib.Core.Path.{_≡_, ap, _∙_}
 use mathlib.Core.List.{List}
@@ -11,7 +11,7 @@ use Rattle.lists.specs.Joined.{_∈_}
 use Rattle.lists.proofs.Runs.{run-ext, run-last, run-le, run-none, run-same}
 use Rattle.grammar.specs.Inner.Rules.{pairsIn, ruled, Ruled}
 use Rattle.grammar.proofs.Ruling.{pair-inside}
-use Rattle.counting.specs.Totals.{T, addedAfter}
+use Rattle.counting.specs.Totals.{totalBy}
 use Rattle.counting.specs.Refusals.{most}
 use Rattle.counting.specs.Inner.Counted.{countAt, longestAt, Asked}
 use Rattle.counting.specs.Inner.Filling.{TalliedAs, partSum, Halves, Below, HalvesBelow, Deriving}
@@ -94,13 +94,13 @@ module _ {totals : List (List ℕ)} {B C m to before : ℕ} (h : Halves totals B
       pub adding-over : {t : Tally} → t ≡ Over → TalliedAs (sum + x * y) t → most < before + partSum (countAt totals) B C m to
       adding-over e f = omega (arith, w .added, one-more, run-le (product totals B C m) 1 (k + 1) to l, says-over e f)
 
--- ---- T in place of the table's counts
+-- ---- totals in place of the table's entries
 
-module _ {rules totals : List (List ℕ)} {m a : ℕ} (d : Deriving rules totals m a) {B C : ℕ} (i : (B, C) ∈ pairsIn rules a) {k : ℕ} (l : k < m) where
-  abbrev left : Below rules totals m B
+module _ {rules totals : List (List ℕ)} {u : ℕ → ℕ} {m a : ℕ} (d : Deriving rules u totals m a) {B C : ℕ} (i : (B, C) ∈ pairsIn rules a) {k : ℕ} (l : k < m) where
+  abbrev left : Below rules u totals m B
   left = d .halves (B, C) i .0
 
-  abbrev right : Below rules totals m C
+  abbrev right : Below rules u totals m C
   right = d .halves (B, C) i .1
 
   -- where the shorter lengths' counts are in the table, a pair rule can be added up to every left length
@@ -116,15 +116,15 @@ module _ {rules totals : List (List ℕ)} {m a : ℕ} (d : Deriving rules totals
   }
 
   -- and has then added the sum of its products for the left lengths up to there
-  pub part-counts : partSum (countAt totals) B C m k ≡ addedAfter (ruled rules) B C m k
+  pub part-counts : partSum (countAt totals) B C m k ≡ partSum (totalBy (ruled rules) u) B C m k
   part-counts =
-      run-ext (product totals B C m) (productAt (λ p. T (ruled rules)) B C 0 m) 1 k
+      run-ext (product totals B C m) (productAt (λ p. totalBy (ruled rules) u) B C 0 m) 1 k
       (λ i u v. rw (left .right i u (omega arith), right .right (m - i) (omega arith) (omega arith)))
 
 -- the halves of what is asked for have their counts, where the counts of what is asked for are there below the length m
-pub halves-below : {rules totals : List (List ℕ)} {n A m : ℕ} → Ruled rules → Asked rules n A m
-    → ((B k : ℕ) → Asked rules n B k → k < m → (countAt totals B k ≡ T (ruled rules) B k) × (longestAt totals B < k → T (ruled rules) B k ≡ 0))
-    → HalvesBelow rules totals m A
+pub halves-below : {rules totals : List (List ℕ)} {u : ℕ → ℕ} {n A m : ℕ} → Ruled rules → Asked rules n A m
+    → ((B k : ℕ) → Asked rules n B k → k < m → (countAt totals B k ≡ totalBy (ruled rules) u B k) × (longestAt totals B < k → totalBy (ruled rules) u B k ≡ 0))
+    → HalvesBelow rules u totals m A
 halves-below {A = A} t a there x i =
     let few = t .few in
     let in-N = pair-inside t A x (a .inside) i in (

@@ -29,6 +29,7 @@ use Rattle.counting.specs.Totals.{T}
 use Rattle.counting.specs.Refusals.{tooLarge, openRows, preparedRows}
 use Rattle.lists.specs.Inner.Tables.{Kept}
 use Rattle.counting.specs.Inner.Counted.{countAt}
+use Rattle.counting.specs.Inner.Letters.{any}
 use Rattle.counting.specs.Inner.Filling.{Filling, FilledAs}
 use Rattle.counting.specs.Inner.Preparing.{OpenedAs, Lent, Tabled, PreparedAs}
 use Rattle.counting.specs.Answers.{countOf}
@@ -106,12 +107,12 @@ module _ {g : List ℕ} {n : ℕ} {rules₀ rules totals₀ : List (List ℕ)} {
         let k : firstThatApplies (openRows g n) ≡ 0 = sym (o .refusal) ∙ rw e in
         rows-pass (openRows g n) ((tooLarge g n, 10) ∷ []) refl k
 
-    pub prepare-asks : Filling rules n totals₀
+    pub prepare-asks : Filling rules any n totals₀
     prepare-asks =
         let q = o .ready e in
-        record { table = q .holds .table; some = q .some; short = q .short; long = lent .long; wide = lent .wide; zeros = lent .zeros }
+        record { table = q .holds .table; weights = λ z. absurd (omega arith); some = q .some; short = q .short; long = lent .long; wide = lent .wide; zeros = lent .zeros }
 
-    module _ {totals : List (List ℕ)} {fits : Bool} (f : FilledAs rules n totals₀ totals fits) where
+    module _ {totals : List (List ℕ)} {fits : Bool} (f : FilledAs rules (λ w. 1) n totals₀ totals fits) where
       fits-says : fits ≡ not (tooLarge g n)
       fits-says = f .says ∙ sym (ap not (tabled-large (o .ready e .holds) n))
 

@@ -119,9 +119,12 @@ module _ {g : List ℕ} {rules : List (List ℕ)} (h : Holds g rules) where
   tabled-sentences A m l = sentences-alike tabled-alike A m l
 
   -- 10, of the table
+  pub tabled-overflows : (v : ℕ → ℕ → ℕ) (n : ℕ) → overflows (chain g) v (start g) n ≡ overflows (ruled rules) v (startIn rules) n
+  tabled-overflows v n = rw (h .start-is) (overflows-alike tabled-alike (rw (← h .start-is, ← h .count-is) (h .table .starts)) v n)
+
   pub tabled-large : (n : ℕ) → tooLarge g n ≡ overflows (ruled rules) (λ p w. 1) (startIn rules) n
   unfolding tooLarge
-  tabled-large n = rw (h .start-is) (overflows-alike tabled-alike (rw (← h .start-is, ← h .count-is) (h .table .starts)) (λ p w. 1) n)
+  tabled-large n = tabled-overflows (λ p w. 1) n
 
   -- the needed pairs of the grammar are asked for
   pub tabled-asked : {n A m : ℕ} → 1 ≤ n → Needed (chain g) (start g) n A m → Asked rules n A m

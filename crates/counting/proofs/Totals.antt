@@ -11,7 +11,7 @@ use Rattle.lists.proofs.Sums.{sum-ext, sum-one}
 use Rattle.lists.proofs.Runs.{run-ext, run-same, run-later}
 use lib.ListN.{length}
 use Rattle.grammar.specs.Chains.{Rule, word, pair, wordsOf, pairsOf}
-use Rattle.counting.specs.Totals.{ruleTotal, totalTo, total, T, addedAfter, Sums}
+use Rattle.counting.specs.Totals.{ruleTotal, totalTo, total, totalBy, T, addedAfter, Sums}
 
 -- ---- a pair rule's products
 
@@ -115,19 +115,31 @@ module _ (chain : ℕ → List Rule) where
   pub total-within : (v u : ℕ → ℕ → ℕ) (p A m : ℕ) → ((q w : ℕ) → p ≤ q → q < p + m → v q w ≡ u q w) → total chain v p A m ≡ total chain u p A m
   total-within v u p A m e = moved-below v u (suc m) p p A m (omega arith) (λ i w h. e (p + i) w (omega arith) (omega arith))
 
-  -- T is the same at every position
-  pub T-anywhere : (p A m : ℕ) → total chain (λ q w. 1) p A m ≡ T chain A m
-  T-anywhere p A m = moved-below (λ q w. 1) (λ q w. 1) (suc m) p 0 A m (omega arith) (λ i w h. refl)
+  -- ---- a weight that is the same at every position: so is the total
 
-  -- T by its rules
+  module _ (u : ℕ → ℕ) where
+    pub by-anywhere : (p A m : ℕ) → total chain (λ q w. u w) p A m ≡ totalBy chain u A m
+    by-anywhere p A m = moved-below (λ q w. u w) (λ q w. u w) (suc m) p 0 A m (omega arith) (λ i w h. refl)
+
+    -- by its rules
+    pub by-one : (A : ℕ) → totalBy chain u A 1 ≡ sumOver u (wordsOf (chain A))
+    by-one A = total-one (λ q w. u w) 0 A
+
+    pub by-more : (A m : ℕ) → 2 ≤ m → totalBy chain u A m ≡ sumOver (pairTotal (λ q. totalBy chain u) 0 m) (pairsOf (chain A))
+    by-more A m h =
+        total-more (λ q w. u w) 0 A m h
+        ∙ sum-ext (pairTotal (total chain (λ q w. u w)) 0 m) (pairTotal (λ q. totalBy chain u) 0 m) (pairsOf (chain A))
+        (λ x i. pair-ext (total chain (λ q w. u w)) (λ q. totalBy chain u) 0 m x (λ q B k l r. by-anywhere q B k))
+
+  -- T is
+  pub T-anywhere : (p A m : ℕ) → total chain (λ q w. 1) p A m ≡ T chain A m
+  T-anywhere = by-anywhere (λ w. 1)
+
   pub T-one : (A : ℕ) → T chain A 1 ≡ length (wordsOf (chain A))
-  T-one A = total-one (λ q w. 1) 0 A ∙ sum-one (wordsOf (chain A))
+  T-one A = by-one (λ w. 1) A ∙ sum-one (wordsOf (chain A))
 
   pub T-more : (A m : ℕ) → 2 ≤ m → T chain A m ≡ sumOver (pairTotal (λ q. T chain) 0 m) (pairsOf (chain A))
-  T-more A m h =
-      total-more (λ q w. 1) 0 A m h
-      ∙ sum-ext (pairTotal (total chain (λ q w. 1)) 0 m) (pairTotal (λ q. T chain) 0 m) (pairsOf (chain A))
-      (λ x i. pair-ext (total chain (λ q w. 1)) (λ q. T chain) 0 m x (λ q B k l u. T-anywhere q B k))
+  T-more = by-more (λ w. 1)
 
   -- formula 4a's first and last product are 0
   all-lengths : (B C m : ℕ) → addedAfter chain B C m (m - 1) ≡ sumOver (λ k. T chain B k * T chain C (m - k)) (upFrom 0 (m + 1))

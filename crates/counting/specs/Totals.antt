@@ -28,6 +28,10 @@ module _ (chain : ℕ → List Rule) where
   unfoldable pub total : (v : ℕ → ℕ → ℕ) (p A m : ℕ) → ℕ
   total v p A m = totalTo v (suc m) p A m
 
+  -- every word counts for u, wherever it stands
+  abbrev pub totalBy : (u : ℕ → ℕ) → ℕ → ℕ → ℕ
+  totalBy u A m = total (λ p w. u w) 0 A m
+
   -- every word counts for 1
   abbrev pub T : ℕ → ℕ → ℕ
   T A m = total (λ p w. 1) 0 A m

@@ -1,6 +1,7 @@
 // What the calls with a grammar and a length share: the refusals 1 to 8 and 9 with the table of rules, and 10 with the table of totals.
 ghost use Rattle.grammar.specs.Inner.Rules.{Roomy};
 ghost use Rattle.counting.specs.Inner.Preparing.{OpenedAs, Lent, PreparedAs};
+use crate::letters::ANY;
 use crate::tallies;
 use answers::refusal::Refusal;
 use grammar::checks;
@@ -43,7 +44,7 @@ pub fn prepare(g: &[u8], n: u64, rules: &mut [[u8; 256]], totals: &mut [[u64; 32
         Prepared::Refused(r) => return Prepared::Refused(r),
         Prepared::Ready => {}
     }
-    if tallies::fill(rules, n as usize, totals) {
+    if tallies::fill(rules, ANY, n as usize, totals) {
         return Prepared::Ready;
     }
     Prepared::Refused(Refusal::TooManyDerivations)

@@ -1,12 +1,17 @@
-// The table of totals by the names of its rows: the counts T of the length m at `totals[m][a]` where they are needed, or that one of them is above 2^64 - 1.
+// The table of totals by the names of its rows: those of the length m at `totals[m][a]` where they are needed, or that one of them is above 2^64 - 1.
+// A letter says what the words count for: by ANY the totals are the counts T.
 ghost use mathlib.Core.Path.{_≡_};
-ghost use Prim.Native.Nat.{_+_, _*_, _-_, _≤_, _<_};
+ghost use Prim.Native.Nat.{ℕ, _+_, _*_, _-_, _≤_, _<_};
 ghost use lib.ListN.{length};
+ghost use Rattle.lists.specs.Joined.{sumOver};
 ghost use Rattle.lists.specs.Inner.Tables.{CopiedAs};
-ghost use Rattle.grammar.specs.Inner.Rules.{ruled};
-ghost use Rattle.counting.specs.Totals.{T};
+ghost use Rattle.grammar.specs.Inner.Rules.{ruled, wordsIn};
+ghost use Rattle.counting.specs.Totals.{totalBy};
 ghost use Rattle.counting.specs.Inner.Counted.{countAt, longestAt};
-ghost use Rattle.counting.specs.Inner.Filling.{TalliedAs, partSum, Halves, Deriving, longer, stored, RowFilling, RowFilledAs, Filling, FilledAs};
+ghost use Rattle.counting.specs.Inner.Letters.{byLetter, weighed};
+ghost use Rattle.counting.specs.Inner.Filling.{TalliedAs, partSum, Halves, Deriving, WordsBy, longer, stored, RowFilling, RowFilledAs, Filling, FilledAs};
+use crate::letters;
+use crate::letters::ANY;
 use crate::needs;
 use grammar::rules;
 
@@ -21,7 +26,7 @@ pub enum Tally {
 
 const MOST: u64 = 18446744073709551615;
 
-// T(a, m), where it is needed; else 0.
+// The total of a and m, where it is needed; else 0.
 pub fn count_at(totals: &[[u64; 32]], a: usize, m: usize) -> u64
     requires { ⌜ (17 ≤ length (now totals)) × (a < 32) × (m ≤ 16) ⌝ }
     ensures { λ r. ⌜ r ≡ countAt (now (totals .entry)) a m ⌝ }
@@ -104,10 +109,10 @@ fn add_pair(totals: &[[u64; 32]], b: usize, c: usize, m: usize, to: usize, befor
     Tally::Fits(sum)
 }
 
-// T(a, m) for m of 2 or more, by the pair rules of a.
+// The total of a and m for m of 2 or more, by the pair rules of a.
 fn derive(rules: &[[u8; 256]], totals: &[[u64; 32]], a: usize, m: usize) -> Tally
-    requires { ⌜ Deriving (now rules) (now totals) m a × (2 ≤ m) ⌝ }
-    ensures { λ r. ⌜ TalliedAs (T (ruled (now (rules .entry))) a m) r ⌝ }
+    requires { ⌜ ((u : ℕ → ℕ) × Deriving (now rules) u (now totals) m a) × (2 ≤ m) ⌝ }
+    ensures { λ r. ⌜ ((u : ℕ → ℕ) → Deriving (now (rules .entry)) u (now (totals .entry)) m a → TalliedAs (totalBy (ruled (now (rules .entry))) u a m) r) ⌝ }
 {
     let end = rules::pairs_from(rules, a + 1);
     let mut i = rules::pairs_from(rules, a);
@@ -132,26 +137,44 @@ fn derive(rules: &[[u8; 256]], totals: &[[u64; 32]], a: usize, m: usize) -> Tall
     Tally::Fits(sum)
 }
 
-// T(a, m): by the word rules of a for the length 1, by its pair rules for a greater one.
-fn derivations(rules: &[[u8; 256]], totals: &[[u64; 32]], a: usize, m: usize) -> Tally
-    requires { ⌜ Deriving (now rules) (now totals) m a ⌝ }
-    ensures { λ r. ⌜ TalliedAs (T (ruled (now (rules .entry))) a m) r ⌝ }
+// What the words of a count for together: by ANY as many as they are.
+fn words(rules: &[[u8; 256]], letter: u16, a: usize) -> u64
+    requires { ⌜ WordsBy (now rules) letter a ⌝ }
+    ensures { λ r. ⌜ r ≡ sumOver (byLetter (now (rules .entry)) letter) (wordsIn (now (rules .entry)) a) ⌝ }
+{
+    let end = rules::words_from(rules, a + 1);
+    let mut i = rules::words_from(rules, a);
+    if letter == ANY {
+        return (end - i) as u64;
+    }
+    let mut sum: u64 = 0;
+    while i < end {
+        let w = rules::word_at(rules, i);
+        sum += letters::weight(rules, letter, w);
+        i += 1;
+    }
+    sum
+}
+
+// The total of a and m: by the word rules of a for the length 1, by its pair rules for a greater one.
+fn derivations(rules: &[[u8; 256]], letter: u16, totals: &[[u64; 32]], a: usize, m: usize) -> Tally
+    requires { ⌜ Deriving (now rules) (byLetter (now rules) letter) (now totals) m a × (letter ≡ weighed → 14 ≤ length (now rules)) ⌝ }
+    ensures { λ r. ⌜ TalliedAs (totalBy (ruled (now (rules .entry))) (byLetter (now (rules .entry)) letter) a m) r ⌝ }
 {
     if m == 1 {
-        let words = rules::words_from(rules, a + 1) - rules::words_from(rules, a);
-        return Tally::Fits(words as u64);
+        return Tally::Fits(words(rules, letter, a));
     }
     derive(rules, totals, a, m)
 }
 
-// The longest length with a derivation, once v derivations of the length m are found.
+// The longest length with a derivation, once the total v of the length m is found.
 fn longer_of(old: u64, m: usize, v: u64) -> u64
     ensures { λ r. ⌜ r ≡ longer old m v ⌝ }
 {
     if v == 0 { old } else { m as u64 }
 }
 
-// T(a, m) is v.
+// The total of a and m is v.
 fn put(totals: &mut [[u64; 32]], a: usize, m: usize, v: u64)
     requires { ⌜ (17 ≤ length (now totals)) × (a < 32) × (m ≤ 16) ⌝ }
     ensures { λ _. ⌜ now (totals .exit) ≡ stored (now (totals .entry)) a m v ⌝ }
@@ -161,15 +184,15 @@ fn put(totals: &mut [[u64; 32]], a: usize, m: usize, v: u64)
     totals[LONGEST][a] = longest;
 }
 
-// The row m, which is all 0, for a set of nonterminals; false where some T in it is above 2^64 - 1.
-fn row(rules: &[[u8; 256]], set: u32, m: usize, totals: &mut [[u64; 32]]) -> bool
-    requires { ⌜ RowFilling (now rules) (now totals) m set ⌝ }
-    ensures { λ r. ⌜ RowFilledAs (now (rules .entry)) (now (totals .entry)) (now (totals .exit)) m set r ⌝ }
+// The row m, which is all 0, for a set of nonterminals; false where some total in it is above 2^64 - 1.
+fn row(rules: &[[u8; 256]], letter: u16, set: u32, m: usize, totals: &mut [[u64; 32]]) -> bool
+    requires { ⌜ RowFilling (now rules) (byLetter (now rules) letter) (now totals) m set × (letter ≡ weighed → 14 ≤ length (now rules)) ⌝ }
+    ensures { λ r. ⌜ RowFilledAs (now (rules .entry)) (byLetter (now (rules .entry)) letter) (now (totals .entry)) (now (totals .exit)) m set r ⌝ }
 {
     let mut left = set;
     while left != 0 {
         let a = sets::lowest(left);
-        let s = derivations(rules, totals, a, m);
+        let s = derivations(rules, letter, totals, a, m);
         match s {
             Tally::Over => return false,
             Tally::Fits(v) => {
@@ -181,17 +204,17 @@ fn row(rules: &[[u8; 256]], set: u32, m: usize, totals: &mut [[u64; 32]]) -> boo
     true
 }
 
-// The rows from 1 to n, in a table whose rows up to 16 are all 0: T of the needed pairs; false where T of one of them is above 2^64 - 1. What no sentence
-// reaches may be above it: it isn't computed.
-pub fn fill(rules: &[[u8; 256]], n: usize, totals: &mut [[u64; 32]]) -> bool
-    requires { ⌜ Filling (now rules) n (now totals) ⌝ }
-    ensures { λ r. ⌜ FilledAs (now (rules .entry)) n (now (totals .entry)) (now (totals .exit)) r ⌝ }
+// The rows from 1 to n, in a table whose rows up to 16 are all 0: the totals of the needed pairs; false where one of them is above 2^64 - 1. What no
+// sentence reaches may be above it: it isn't computed.
+pub fn fill(rules: &[[u8; 256]], letter: u16, n: usize, totals: &mut [[u64; 32]]) -> bool
+    requires { ⌜ Filling (now rules) letter n (now totals) ⌝ }
+    ensures { λ r. ⌜ FilledAs (now (rules .entry)) (byLetter (now (rules .entry)) letter) n (now (totals .entry)) (now (totals .exit)) r ⌝ }
 {
     let mut needs = [0u32; 17];
     needs::find(rules, n, &mut needs);
     let mut m = 1;
     while m <= n {
-        if !row(rules, needs[m], m, totals) {
+        if !row(rules, letter, needs[m], m, totals) {
             return false;
         }
         m += 1;

@@ -4,6 +4,7 @@
 mod meanings;
 
 ghost use mathlib.Core.Path.{_≡_};
+ghost use mathlib.Core.List.{[]};
 ghost use Prim.Native.Nat.{_+_, _≤_, _<_};
 ghost use lib.ListN.{length};
 ghost use Rattle.charts.specs.Inner.Maps.{countsMap};
@@ -139,7 +140,7 @@ fn put_drawn(
     out: &mut [u8; 4096],
     at: usize,
 ) -> usize
-    requires { ⌜ DrawSought (now rules) (now totals) countsMap n (now heard) × (at ≤ 3584) ⌝ }
+    requires { ⌜ DrawSought (now rules) (now totals) countsMap n (now heard) [] × (at ≤ 3584) ⌝ }
     ensures { λ r. ⌜ r ≤ 4096 ⌝ }
 {
     let mut words = [0u8; 16];
@@ -158,7 +159,7 @@ fn print_draws(
     heard: &[u64],
     count: u64,
 ) -> bool
-    requires { ⌜ DrawSought (now rules) (now totals) countsMap n (now heard) ⌝ }
+    requires { ⌜ DrawSought (now rules) (now totals) countsMap n (now heard) [] ⌝ }
 {
     let mut out = [0u8; 4096];
     let mut at = 0;
@@ -178,7 +179,7 @@ fn print_draws(
 
 // The figures, and a line for each draw, none past draw 999.
 fn print_list(rules: &[[u8; 256]], totals: &[[u64; 32]], n: usize, heard: &[u64]) -> bool
-    requires { ⌜ DrawSought (now rules) (now totals) countsMap n (now heard) ⌝ }
+    requires { ⌜ DrawSought (now rules) (now totals) countsMap n (now heard) [] ⌝ }
 {
     let total = unrank::count(rules, totals, n);
     let count = heard.len() as u64;

@@ -61,5 +61,11 @@ pub fn explain(r: Refusal) {
         Refusal::BadPlayed => say(
             b"listing: refused: the count of words played is the sentence's length or more\n",
         ),
+        Refusal::BadWeights => say(
+            b"listing: refused: the weights are not W bytes, or one of them is 0\n",
+        ),
+        Refusal::TooManyTickets => say(
+            b"listing: refused: a total weight that the length needs is above 2^64 - 1\n",
+        ),
     }
 }

@@ -5,7 +5,7 @@
 use mathlib.Core.Path.{_≡_, refl, sym, ap, _∙_}
 use mathlib.Core.Bool.{Bool, true, false, cond}
 use mathlib.Core.List.{List, [], _∷_, _++_, map, append-assoc, List·Memᴰ·head, List·Memᴰ·tail, Memᴰ·append-left, Memᴰ·append-right}
-use Prim.Native.Nat.{ℕ, _+_, _-_, _≤_, _<_}
+use Prim.Native.Nat.{ℕ, zero, suc, _+_, _-_, _≤_, _<_}
 use native.Mathlib.Omega.{arith}
 use native.Mathlib.Decide.{decLt}
 use borrow.Author.Tests.{lt-ltb, le-ltb}
@@ -209,3 +209,16 @@ module _ {X : Type 0} where
   pub tickets-plain : (l : List X) → tickets (λ x. 1) l ≡ l
   tickets-plain [] = refl
   tickets-plain (x ∷ l) = rw (tickets-plain l)
+
+module _ {X Y : Type 0} (f : X → Y) where
+  map-replicate : (n : ℕ) (x : X) → replicate n (f x) ≡ map f (replicate n x)
+  map-replicate zero x = refl
+  map-replicate (suc n) x = ap (λ (l : List Y). f x ∷ l) (map-replicate n x)
+
+  -- the tickets stay where each element is turned into another
+  pub tickets-map : (v : Y → ℕ) (l : List X) → tickets v (map f l) ≡ map f (tickets (λ x. v (f x)) l)
+  tickets-map v [] = refl
+  tickets-map v (x ∷ l) =
+      ap (λ (m : List Y). replicate (v (f x)) (f x) ++ m) (tickets-map v l)
+      ∙ ap (λ (m : List Y). m ++ map f (tickets (λ y. v (f y)) l)) (map-replicate (v (f x)) x)
+      ∙ sym (map-append f (replicate (v (f x)) x) (tickets (λ y. v (f y)) l))

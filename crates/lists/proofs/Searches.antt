@@ -13,7 +13,7 @@ use lib.ListN.{length, getD, set, take, drop}
 use lib.Seq.{getD-set-same, getD-set-other, split-at, length-take-le}
 use Rattle.lists.specs.Joined.{_∈_, sumOver, concatMap, upFrom}
 use Rattle.lists.specs.Ordered.{Distinct, none, more}
-use Rattle.lists.specs.Inner.Tickets.{ahead, owner, place, Owns}
+use Rattle.lists.specs.Inner.Tickets.{ahead, owner, place, firstTicket, Owns}
 use Rattle.lists.specs.Searched.{bit, howMany, firstPlace, times}
 use Rattle.lists.proofs.Sums.{sum-append, sum-plus, sum-const, sum-one, sum-le, sum-single, length-upFrom}
 use Rattle.lists.proofs.Tests.{bit-le}
@@ -35,15 +35,32 @@ bit-true true h = refl
 bit-true false h = absurd (omega arith)
 
 module _ {X : Type 0} (P : X → Bool) where
-  -- it is that of the owner of ticket 0, where each that passes has a ticket
-  place-first : (l : List X) → place (λ x. bit (P x)) (λ x. 1) l 0 ≡ firstPlace P l
-  place-first [] = refl
-  place-first (x ∷ l) = go (P x) (place-first l)
+  -- its first ticket by u is the place, by u, of the owner of ticket 0, where each that passes has a ticket
+  first-place : (u : X → ℕ) (l : List X) → place (λ x. bit (P x)) u l 0 ≡ firstTicket u P l
+  first-place u [] = refl
+  first-place u (x ∷ l) = go (P x) (first-place u l)
     where
-      go : (b : Bool) → place (λ x. bit (P x)) (λ x. 1) l 0 ≡ firstPlace P l
-          → sumOver (λ (y : X). 1) (cond (ltb 0 (bit b)) [] (x ∷ ahead (λ x. bit (P x)) l (0 - bit b))) ≡ cond b 0 (suc (firstPlace P l))
+      go : (b : Bool) → place (λ x. bit (P x)) u l 0 ≡ firstTicket u P l
+          → sumOver u (cond (ltb 0 (bit b)) [] (x ∷ ahead (λ x. bit (P x)) l (0 - bit b))) ≡ cond b 0 (u x + firstTicket u P l)
       go true e = refl
       go false e = omega (arith, e)
+
+  -- where every element weighs 1, a ticket is a place
+  pub first-one : (l : List X) → firstTicket (λ x. 1) P l ≡ firstPlace P l
+  first-one [] = refl
+  first-one (x ∷ l) = rw (first-one l) (go (P x))
+    where
+      go : (b : Bool) → cond b 0 (1 + firstPlace P l) ≡ cond b 0 (suc (firstPlace P l))
+      go true = refl
+      go false = omega arith
+
+  place-first : (l : List X) → place (λ x. bit (P x)) (λ x. 1) l 0 ≡ firstPlace P l
+  place-first l = first-place (λ x. 1) l ∙ first-one l
+
+  -- weights that are equal on the list
+  pub first-ext : (u v : X → ℕ) (l : List X) → ((x : X) → x ∈ l → u x ≡ v x) → firstTicket u P l ≡ firstTicket v P l
+  first-ext u v [] h = refl
+  first-ext u v (x ∷ l) h = rw (h x (List·Memᴰ·head refl), first-ext u v l (λ y m. h y (List·Memᴰ·tail m)))
 
   pub place-lt : (l : List X) → 0 < howMany P l → firstPlace P l < length l
   place-lt [] h = absurd (omega arith)
@@ -80,12 +97,16 @@ pub place-map : {X Y : Type 0} (P : Y → Bool) (f : X → Y) (l : List X) → f
 place-map P f [] = refl
 place-map P f (x ∷ l) = rw (place-map P f l)
 
+pub first-map : {X Y : Type 0} (u : Y → ℕ) (P : Y → Bool) (f : X → Y) (l : List X) → firstTicket u P (map f l) ≡ firstTicket (λ x. u (f x)) (λ x. P (f x)) l
+first-map u P f [] = refl
+first-map u P f (x ∷ l) = rw (first-map u P f l)
+
 -- ---- owners where an element weighs 1 if it passes, and else 0
 
 module _ {X : Type 0} {v u : X → ℕ} {l : List X} {x : X} {n o : ℕ} (r : Owns v u l 0 x n o) (P : X → Bool) (h : (y : X) → y ∈ l → v y ≡ bit (P y)) where
-  -- where every element measures 1, the owner of ticket 0 is the first that passes
-  pub by-index : ((y : X) → y ∈ l → u y ≡ 1) → n ≡ firstPlace P l
-  by-index k = sym (owns-place (owns-ext (λ y. bit (P y)) (λ y. 1) h k r)) ∙ place-first P l
+  -- the owner of ticket 0 is the first that passes: its place is its first ticket
+  pub by-first : n ≡ firstTicket u P l
+  by-first = sym (owns-place (owns-ext (λ y. bit (P y)) u h (λ y m. refl) r)) ∙ first-place P u l
 
 -- ---- a list of numbers, counted by its values
 

@@ -12,13 +12,13 @@ use lib.ListN.{length, getD, take, drop, length-map, length-append, List·getD-m
 use Rattle.lists.specs.Joined.{_∈_, sumOver, upFrom}
 use Rattle.lists.specs.Ordered.{Pairwise, more, Distinct, Exactly}
 use Rattle.lists.specs.Searched.{bit, howMany, keep}
-use Rattle.lists.specs.Inner.Tickets.{Owns, place, struckFrom, skipOver}
+use Rattle.lists.specs.Inner.Tickets.{Owns, place, firstTicket, struckFrom, skipOver, Apart, gone}
 use Rattle.lists.specs.Inner.Struck.{struck, numbered, skip}
 use Rattle.lists.proofs.Sums.{sum-ext, sum-one, sum-map, map-ext}
 use Rattle.lists.proofs.Members.{∈-place, At-getD, upFrom-∈}
 use Rattle.lists.proofs.Orders.{pairwise-map, order-unique}
 use Rattle.lists.proofs.Owners.{owns-∈, before-∈, owner-at, place-plain, tickets-plain, tickets-length}
-use Rattle.lists.proofs.Struck.{unstruck-sum, skip-over-lt, tickets-keep, tickets-keep-at, struck-alike, numbered-sum, drawn, drawn-at, Apart, Below, struck-∈, struck-below, gone, apart-gap, skip-over-at}
+use Rattle.lists.proofs.Struck.{unstruck-sum, skip-over-lt, tickets-keep, tickets-keep-at, struck-alike, numbered-sum, drawn, drawn-at, Below, struck-∈, struck-below, apart-gap, skip-over-at}
 use Rattle.lists.proofs.Struck as all
 
 abbrev single : ℕ → ℕ × ℕ
@@ -131,21 +131,15 @@ module _ {X : Type 0} where
         all = λ u. (λ q. ∈-keep P l u (q .0) (q .1), keep-∈ P l u);
       }
 
-module _ {X : Type 0} {v u : X → ℕ} {l : List X} {t : ℕ} {x : X} {n o : ℕ} (P : X → Bool) where
-  -- where what fails weighs nothing, and what passes alone is measured, the owner is that among what is kept, by its place there
-  pub owns-keep : Owns v u l t x n o → ((y : X) → y ∈ l → P y ≡ false → v y ≡ 0) → ((y : X) → y ∈ l → u y ≡ bit (P y)) → Owns v (λ y. 1) (keep P l) t x n o
-  owns-keep r h k = record {
-    before = keep P (r .before);
-    after = keep P (r .after);
-    list = ap (keep P) (r .list) ∙ keep-append P (r .before) (x ∷ r .after) ∙ rw (passes (P x) refl);
-    ticket = omega (arith, r .ticket, sum-keep P v (r .before) (λ y m. h y (before-∈ r y m)));
-    own = r .own;
-    place = r .place ∙ sum-ext u (λ y. bit (P y)) (r .before) (λ y m. k y (before-∈ r y m)) ∙ sym (keep-many P (r .before)) ∙ sym (sum-one (keep P (r .before)));
-  }
+  -- what fails weighs nothing and isn't sought: the first ticket sought is that among what is kept
+  pub first-keep : (P Q : X → Bool) (v : X → ℕ) (l : List X) → ((x : X) → x ∈ l → P x ≡ false → (v x ≡ 0) × (Q x ≡ false)) → firstTicket v Q l ≡ firstTicket v Q (keep P l)
+  first-keep P Q v [] h = refl
+  first-keep P Q v (x ∷ l) h = go (P x) (h x (List·Memᴰ·head refl)) (first-keep P Q v l (λ y m. h y (List·Memᴰ·tail m)))
     where
-      passes : (b : Bool) → P x ≡ b → P x ≡ true
-      passes true e = e
-      passes false e = absurd (omega (arith, r .own, h x (owns-∈ r) e))
+      go : (b : Bool) → (b ≡ false → (v x ≡ 0) × (Q x ≡ false)) → firstTicket v Q l ≡ firstTicket v Q (keep P l)
+          → cond (Q x) 0 (v x + firstTicket v Q l) ≡ firstTicket v Q (cond b (x ∷ keep P l) (keep P l))
+      go true z e = rw e
+      go false z e = let q = z refl in rw (q .0, q .1) (omega arith)
 
 -- the numbers of a run, each one more
 pub keep-later : (P : ℕ → Bool) (k n : ℕ) → keep P (upFrom (suc k) n) ≡ map suc (keep (λ a. P (suc a)) (upFrom k n))
@@ -159,7 +153,7 @@ keep-later P k (suc n) = go (P (suc k)) _ _ (keep-later P (suc k) n)
 -- ---- the skip over the struck places
 
 module _ {X : Type 0} (P : X → Bool) where
-  singles : (k : ℕ) (l : List X) → struckFrom P (λ x. 1) k l ≡ map single (map (λ (e : ℕ × ℕ). e .0) (struckFrom P (λ x. 1) k l))
+  pub singles : (k : ℕ) (l : List X) → struckFrom P (λ x. 1) k l ≡ map single (map (λ (e : ℕ × ℕ). e .0) (struckFrom P (λ x. 1) k l))
   singles k [] = refl
   singles k (x ∷ l) = go (P x) (struckFrom P (λ y. 1) (k + 1) l) (singles (k + 1) l)
     where

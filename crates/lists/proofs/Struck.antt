@@ -5,23 +5,24 @@
 -- Assumes nothing.
 use mathlib.Core.Path.{_≡_, refl, sym, ap, _∙_}
 use mathlib.Core.Logic.{_↔_, inl, inr}
-use mathlib.Core.Bool.{Bool, true, false, cond}
-use mathlib.Core.List.{List, [], _∷_, _++_, map, List·Memᴰ·head, List·Memᴰ·tail, List·Memᴰ·not-nil, List·Memᴰ·cases-cons, Memᴰ·append-right}
+use mathlib.Core.Bool.{Bool, true, false, cond, _||_}
+use mathlib.Core.List.{List, [], _∷_, _++_, map, List·Memᴰ·head, List·Memᴰ·tail, List·Memᴰ·not-nil, List·Memᴰ·cases-cons, Memᴰ·append-right, Memᴰ·map, Memᴰ·of-map}
 use Prim.Native.Nat.{ℕ, zero, suc, _+_, _-_, _≤_, _<_}
 use native.Mathlib.Omega.{arith}
-use native.Mathlib.Decide.{decLt}
-use borrow.Author.Tests.{le-leb, lt-leb}
+use native.Mathlib.Decide.{decLt, ℕ-discrete}
+use borrow.Author.Tests.{le-leb, lt-leb, ne-eqb}
+use lib.Dec.{eqb}
 use lib.Seq.{ext-getD}
 use lib.ListN.{length, getD, replicate, take, length-map, List·getD-eq-default}
 use Rattle.lists.specs.Joined.{_∈_, At, sumOver, upFrom}
 use Rattle.lists.specs.Ordered.{Pairwise, none, more}
-use Rattle.lists.specs.Inner.Tickets.{ahead, owner, place, tickets, Owns, unstruck, struckFrom, skipOver, StruckAs}
-use Rattle.lists.specs.Searched.{keep}
+use Rattle.lists.specs.Inner.Tickets.{ahead, owner, place, tickets, Owns, unstruck, struckFrom, spans, skipOver, StruckAs, Apart, gone}
+use Rattle.lists.specs.Searched.{bit, keep}
 use Rattle.lists.specs.Inner.Struck.{numbered}
 use Rattle.lists.proofs.Sums.{sum-one, sum-map, concat-ext, length-upFrom}
 use Rattle.lists.proofs.Members.{getD-∈}
 use Rattle.lists.proofs.Places.{getD-map, getD-upFrom}
-use Rattle.lists.proofs.Orders.{order-unique}
+use Rattle.lists.proofs.Orders.{pairwise-map, order-unique}
 use Rattle.lists.proofs.Owners.{owned, owns-owner, owns-place, owns-inside, place-inside, owns-ext, ahead-map, tickets-length, tickets-at, tickets-plain}
 
 -- ---- the skip
@@ -137,6 +138,79 @@ module _ {X : Type 0} (P Q : X → Bool) (v : X → ℕ) where
       ∙ concat-ext (λ x. replicate (unstruck P v x) x) (λ x. replicate (unstruck Q v x) x) l (λ x m. ap (λ (n : ℕ). replicate n x) (h x m))
       ∙ sym (tickets-keep Q v l)
 
+-- ---- elements that fail and weigh something
+
+module _ {X : Type 0} (P : X → Bool) (v : X → ℕ) where
+  -- the test by which the others are struck
+  abbrev heavy : X → Bool
+  heavy x = P x || eqb (v x) 0
+
+  light : (x : X) → unstruck P v x ≡ unstruck heavy v x
+  light x = elim (ℕ-discrete (v x) 0) [
+    | yes e ↦ none (P x) (heavy x) e
+    | no e ↦ rw (ne-eqb (v x) 0 e) (same (P x))
+  ]
+    where
+      none : (b c : Bool) → v x ≡ 0 → cond b (v x) 0 ≡ cond c (v x) 0
+      none true true e = refl
+      none true false e = e
+      none false true e = sym e
+      none false false e = refl
+
+      same : (b : Bool) → cond b (v x) 0 ≡ cond (b || false) (v x) 0
+      same true = refl
+      same false = refl
+
+  -- ticket t of what is kept is that of all at the skip over them
+  pub tickets-spans-at : (l : List X) (t : ℕ) (z : X) → getD (tickets v (keep P l)) t z ≡ getD (tickets v l) (skipOver t (spans P v l)) z
+  tickets-spans-at l t z =
+      ap (λ (m : List X). getD m t z) (tickets-alike P heavy v l (λ x m. light x))
+      ∙ tickets-keep-at heavy v l t z
+
+  -- they and what is kept make the whole
+  pub tickets-spans : (l : List X) → length (tickets v (keep P l)) + sumOver (λ (e : ℕ × ℕ). e .1) (spans P v l) ≡ sumOver v l
+  tickets-spans l =
+      omega (
+        arith,
+        unstruck-sum heavy v 0 l,
+        ap length (tickets-alike P heavy v l (λ x m. light x) ∙ tickets-keep heavy v l),
+        tickets-length (unstruck heavy v) l,
+      )
+
+  -- so the skip of a ticket of what is kept is one of all
+  pub spans-lt : (l : List X) (t : ℕ) → t < length (tickets v (keep P l)) → skipOver t (spans P v l) < sumOver v l
+  spans-lt l t h =
+      skip-over-lt heavy v l t
+      (omega (arith, ap length (tickets-alike P heavy v l (λ x m. light x) ∙ tickets-keep heavy v l), tickets-length (unstruck heavy v) l))
+
+-- weights that are equal on the list
+module _ {X : Type 0} (v w : X → ℕ) where
+  pub struck-weighs : (P : X → Bool) (k : ℕ) (l : List X) → ((x : X) → x ∈ l → v x ≡ w x) → struckFrom P v k l ≡ struckFrom P w k l
+  struck-weighs P k [] h = refl
+  struck-weighs P k (x ∷ l) h = rw (h x (List·Memᴰ·head refl), struck-weighs P (k + w x) l (λ y m. h y (List·Memᴰ·tail m)))
+
+  pub spans-ext : (P : X → Bool) (l : List X) → ((x : X) → x ∈ l → v x ≡ w x) → spans P v l ≡ spans P w l
+  spans-ext P l h =
+      struck-alike (λ x. P x || eqb (v x) 0) (λ x. P x || eqb (w x) 0) v 0 l (λ x m. ap (λ (n : ℕ). P x || eqb n 0) (h x m))
+      ∙ struck-weighs (λ x. P x || eqb (w x) 0) 0 l h
+
+  pub tickets-ext : (l : List X) → ((x : X) → x ∈ l → v x ≡ w x) → tickets v l ≡ tickets w l
+  tickets-ext l h = concat-ext (λ x. replicate (v x) x) (λ x. replicate (w x) x) l (λ x m. ap (λ (n : ℕ). replicate n x) (h x m))
+
+-- where what fails a second test weighs nothing, they are those among what passes it
+module _ {X : Type 0} (P Q : X → Bool) where
+  pub spans-keep : (k : ℕ) (l : List X) → struckFrom (λ x. P x || eqb (bit (Q x)) 0) (λ x. bit (Q x)) k l ≡ struckFrom P (λ x. 1) k (keep Q l)
+  spans-keep k [] = refl
+  spans-keep k (x ∷ l) = go (Q x) (P x) refl (λ j. spans-keep j l)
+    where
+      go : (q p : Bool) → P x ≡ p → ((j : ℕ) → struckFrom (λ x. P x || eqb (bit (Q x)) 0) (λ x. bit (Q x)) j l ≡ struckFrom P (λ x. 1) j (keep Q l))
+          → cond (p || eqb (bit q) 0) (struckFrom (λ x. P x || eqb (bit (Q x)) 0) (λ x. bit (Q x)) (k + bit q) l) ((k, bit q) ∷ struckFrom (λ x. P x || eqb (bit (Q x)) 0) (λ x. bit (Q x)) (k + bit q) l)
+          ≡ struckFrom P (λ x. 1) k (cond q (x ∷ keep Q l) (keep Q l))
+      go true true e ih = rw e (ih (k + 1))
+      go true false e ih = rw e (ap (λ (s : List (ℕ × ℕ)). (k, 1) ∷ s) (ih (k + 1)))
+      go false true e ih = let z : k + 0 ≡ k = omega arith in rw z (ih k)
+      go false false e ih = let z : k + 0 ≡ k = omega arith in rw z (ih k)
+
 module _ {X Y : Type 0} (f : X → Y) (P : Y → Bool) (v : Y → ℕ) where
   pub struck-map : (k : ℕ) (l : List X) → struckFrom P v k (map f l) ≡ struckFrom (λ x. P (f x)) (λ x. v (f x)) k l
   struck-map k [] = refl
@@ -188,20 +262,17 @@ pub numbered-map : {X Y : Type 0} (f : X → Y) (k : ℕ) (l : List X) → numbe
 numbered-map f k [] = refl
 numbered-map f k (x ∷ l) = rw (numbered-map f (suc k) l)
 
-module _ {X : Type 0} {v u : X → ℕ} {l : List X} {t : ℕ} {x : X} {n o : ℕ} (P : X → Bool) where
-  -- where what passes weighs 1 and what fails nothing, and each measures 1, the owner of t with its place is entry t of what is kept
-  pub owns-kept : Owns v u l t x n o → ((y : X) → y ∈ l → v y ≡ unstruck P (λ y. 1) y) → ((y : X) → y ∈ l → u y ≡ 1) → (z : X)
-      → getD (keep (λ (e : ℕ × X). P (e .1)) (numbered 0 l)) t (0, z) ≡ (n, x)
-  owns-kept r h k z =
-      let q = owns-ext (unstruck P (λ y. 1)) (λ y. 1) h k r in
-      let i : length (ahead (unstruck P (λ y. 1)) l t) < length l = omega (arith, owns-place q, place-inside q, sum-one l, sum-one (ahead (unstruck P (λ y. 1)) l t)) in
-      let e : 0 + length (ahead (unstruck P (λ y. 1)) l t) ≡ n = omega (arith, sum-one (ahead (unstruck P (λ y. 1)) l t), owns-place q) in
-      ap (λ (m : List (ℕ × X)). getD m t (0, z))
-      (sym (tickets-plain (keep (λ (e : ℕ × X). P (e .1)) (numbered 0 l))) ∙ tickets-keep (λ (e : ℕ × X). P (e .1)) (λ (e : ℕ × X). 1) (numbered 0 l))
-      ∙ tickets-at (λ (e : ℕ × X). unstruck P (λ y. 1) (e .1)) (numbered 0 l) t (0, z)
-      ∙ ap (λ (j : ℕ). getD (numbered 0 l) j (0, z)) (numbered-ahead (unstruck P (λ y. 1)) 0 l t)
-      ∙ numbered-at 0 l (length (ahead (unstruck P (λ y. 1)) l t)) z (0, z) i
-      ∙ ap (λ (j : ℕ). (j, owner (unstruck P (λ y. 1)) l t z)) e
+module _ {X : Type 0} {v u : X → ℕ} {l : List X} {t : ℕ} {x : X} {n o : ℕ} where
+  -- where each element measures 1, the owner of t with its place is entry t of the ticket list
+  pub owns-ticket : Owns v u l t x n o → ((y : X) → y ∈ l → u y ≡ 1) → (z : X) → getD (tickets (λ (e : ℕ × X). v (e .1)) (numbered 0 l)) t (0, z) ≡ (n, x)
+  owns-ticket r k z =
+      let q = owns-ext v (λ y. 1) (λ y m. refl) k r in
+      let i : length (ahead v l t) < length l = omega (arith, owns-place q, place-inside q, sum-one l, sum-one (ahead v l t)) in
+      let e : 0 + length (ahead v l t) ≡ n = omega (arith, sum-one (ahead v l t), owns-place q) in
+      tickets-at (λ (e : ℕ × X). v (e .1)) (numbered 0 l) t (0, z)
+      ∙ ap (λ (j : ℕ). getD (numbered 0 l) j (0, z)) (numbered-ahead v 0 l t)
+      ∙ numbered-at 0 l (length (ahead v l t)) z (0, z) i
+      ∙ ap (λ (j : ℕ). (j, owner v l t z)) e
       ∙ ap (λ (y : X). (n, y)) (owns-owner q z)
 
 module _ {X : Type 0} (P : X → Bool) (v : X → ℕ) (l : List X) (z : X) where
@@ -247,10 +318,6 @@ module _ {X : Type 0} (P : X → Bool) (v : X → ℕ) (l : List X) (z : X) wher
       size = omega (arith, length-map (upFrom 0 (length kept)) drawn, length-upFrom 0 (length kept))
 
 -- ---- the struck entries
-
--- a ends before b begins
-abbrev pub Apart : ℕ × ℕ → ℕ × ℕ → Type 0
-Apart a b = a .0 + a .1 ≤ b .0
 
 -- a begins before b
 abbrev pub Below : ℕ × ℕ → ℕ × ℕ → Type 0
@@ -324,6 +391,16 @@ module _ {X : Type 0} (P : X → Bool) (v : X → ℕ) where
       positive : (e : ℕ × ℕ) → StruckAs P v l e → 0 < e .1
       positive e q = omega (arith, some (q .at) (struck-at-∈ q) (q .fails), ap (λ (c : ℕ × ℕ). c .1) (q .entry))
 
+  -- any rising list of just their first tickets is the list of these
+  pub struck-firsts : (l : List X) (bad : List ℕ) → ((x : X) → x ∈ l → P x ≡ false → 0 < v x) → Pairwise _<_ bad
+      → ((d : ℕ) → d ∈ bad → (e : ℕ × ℕ) × StruckAs P v l e × (e .0 ≡ d)) → ((e : ℕ × ℕ) → StruckAs P v l e → e .0 ∈ bad)
+      → bad ≡ map (λ (e : ℕ × ℕ). e .0) (struckFrom P v 0 l)
+  struck-firsts l bad some rising from into =
+      order-unique _<_ (λ x y a b. omega arith) (λ x y a e. omega arith) bad (map (λ (e : ℕ × ℕ). e .0) (struckFrom P v 0 l)) rising
+      (pairwise-map Below _<_ (λ (e : ℕ × ℕ). e .0) (struckFrom P v 0 l) (struck-below l some) (λ a b h. h))
+      (λ d m. let q = from d m in rw (← q .2) (Memᴰ·map (λ (e : ℕ × ℕ). e .0) (struck-∈ l (q .0) .1 (q .1))))
+      (λ d m. let q = Memᴰ·of-map (λ (e : ℕ × ℕ). e .0) (struckFrom P v 0 l) m in rw (← q .2) (into (q .0) (struck-∈ l (q .0) .0 (q .1))))
+
   -- any rising list of just these is the list of them
   pub struck-unique : (l : List X) (bad : List (ℕ × ℕ)) → ((x : X) → x ∈ l → P x ≡ false → 0 < v x) → Pairwise Below bad
       → ((e : ℕ × ℕ) → e ∈ bad ↔ StruckAs P v l e) → bad ≡ struckFrom P v 0 l
@@ -337,10 +414,6 @@ module _ {X : Type 0} {v u : X → ℕ} {l : List X} {t : ℕ} {x : X} {n o : �
   by-strike P e r = record { before = r .before; at = x; after = r .after; list = r .list; fails = e; entry = rw (r .place) }
 
 -- ---- the skip, as a search by halves meets it
-
--- what the first k entries weigh
-abbrev pub gone : ℕ → List (ℕ × ℕ) → ℕ
-gone k l = sumOver (λ (e : ℕ × ℕ). e .1) (take k l)
 
 -- the first tickets, each less what the entries before it weigh, rise
 pub apart-gap : (l : List (ℕ × ℕ)) (z : ℕ × ℕ) (i j : ℕ) → Pairwise Apart l → i ≤ j → j < length l → getD l i z .0 + gone j l ≤ getD l j z .0 + gone i l

@@ -1,5 +1,5 @@
 -- The demands hold. Demand 1's part on refusals is how every answer is made; demands 2 and 3 and the examples stand in the crates `ranking`
--- and `sampling`.
+-- and `sampling`, the draw by weights in `weighing`.
 -- Assumes nothing.
 use mathlib.Core.Path.{_≡_, refl, sym, ap, _∙_}
 use mathlib.Core.Logic.{_≢_}
@@ -38,6 +38,11 @@ use Rattle.sampling.proofs.Premises.{premises, fifteen}
 use Rattle.sampling.proofs.Demand3.{demand-3, once, alike}
 use Rattle.sampling.proofs.Examples.{examples, example-premises, example-voiced, example-broken, example-matched, logged-twice}
 use Rattle.sampling.proofs.Blanks.{unpatterned, all-blank, no-blank}
+use Rattle.weighing.specs.Weights.{ticketsOf}
+use Rattle.weighing.specs.Weighted.{ownerOf, drawWeightedRows, drawWeighted}
+use Rattle.weighing.proofs.Weighing.{twenty-five}
+use Rattle.weighing.proofs.Laws.{weighted, holding, weighted-alike, all-ones}
+use Rattle.weighing.proofs.Examples.{instance-drawn}
 use Rattle.matrix.specs.Table.{table}
 use Rattle.matrix.proofs.Rules.{is-accepted}
 use Rattle.matrix.proofs.Counts.{sentences-of-five, no-others}
@@ -59,7 +64,7 @@ refuses rows figures before after =
     }
 
 demand-1 : Demand1
-unfolding checkGrammar checkHistory countOf unrankOf rankOf remainingTo drawTo appendOf
+unfolding checkGrammar checkHistory countOf unrankOf rankOf remainingTo drawTo appendOf drawWeighted
 demand-1 = record {
   check-bank = λ g. refuses (grammarRows g) (nonterminals g ∷ words g ∷ []) [] [];
   check-diary = λ h. refuses (historyRows h) (recordsOf h ∷ []) [] [];
@@ -68,6 +73,9 @@ demand-1 = record {
   number = λ g s. refuses (rankRows g s) (numberOf g s ∷ totalOf g (length s) ∷ readingsOf g s ∷ []) [] [];
   left = λ g h a. refuses (remainingRows g h a) (totalFor g a ∷ heardOf g h a ∷ leftOf g h a ∷ []) [] [];
   draw = λ g h a q out. refuses (drawRows g h a q out) (leftOf g h a ∷ drawn g h a q .number ∷ []) out (sentence (drawn g h a q .tree) ++ drop (a .length) out);
+  draw-weighted = λ g h n v weights t out.
+      let owner = ownerOf g h n v weights t in
+      refuses (drawWeightedRows g h n v weights t out) (length (ticketsOf g h n v weights) ∷ owner .number ∷ []) out (sentence (owner .tree) ++ drop n out);
   log = λ h p. refuses (appendRows h p) (suc (recordsOf h) ∷ []) h (appended h p);
 }
 
@@ -113,6 +121,11 @@ demands = record {
   premises = premises;
   unpatterned = unpatterned;
   all-blank = all-blank;
+  weighted = weighted;
+  holding = holding;
+  weighted-alike = weighted-alike;
+  all-ones = all-ones;
+  twenty-five = twenty-five;
   no-blank = no-blank;
   logged = logged;
   broken-off = broken-off;
@@ -130,6 +143,7 @@ demands = record {
   voiced = example-voiced;
   broken = example-broken;
   matched = example-matched;
+  weighed = instance-drawn;
   met = met;
   logged-twice = logged-twice;
   house = record { accepted = is-accepted; five = sentences-of-five; others = no-others; single = house-single };

@@ -52,7 +52,8 @@ use Rattle.sampling.specs.Answers.{remainingRows, drawn, remainingTo, drawTo}
 use Rattle.sampling.specs.Demand3.{Single, Premises, Worded, Shown, shown, asShown, Demand3}
 use Rattle.sampling.proofs.Barred.{entry, no-entry, heard-left, left-length}
 use Rattle.sampling.proofs.Premises.{length-within, heard-single, pass-premises, premises}
-use Rattle.sampling.proofs.Demand3.{entryAt, drawFrom, from-beyond, from-accepted, from-passed, from-short, draw-is, draw-accepted, draw-shown, entry-long, demand-3}
+use Rattle.sampling.proofs.Listed.{entryAt, drawFrom, from-beyond, from-accepted, from-passed, from-short}
+use Rattle.sampling.proofs.Demand3.{draw-is, draw-accepted, draw-shown, entry-long, demand-3}
 use Rattle.sampling.specs.Examples.{F}
 use Rattle.sampling.proofs.Examples.{F-accepted, F-fits, premised}
 use Rattle.pumpfennel.specs.OneMore.{logOf, roomy, Met, Round, SameRoom, AsBefore, OneMore, Rounds, stop, next, afterAll, InOrder}

@@ -29,6 +29,8 @@ use Rattle.sampling.specs.Answers.{remainingRows, remainingTo, remainingMatchin
 use Rattle.sampling.specs.Blanks.{AllBlank, NoBlank, Full, Unpatterned}
 use Rattle.sampling.specs.Demand3.{Single, Premises, Worded, Shown, shown, asShown, Demand3, Once, SameBarred, Alike}
 use Rattle.sampling.specs.Examples.{Examples, Matched, F, G, heard01, heardTwice, heardInFive, brokenOff}
+use Rattle.weighing.specs.Weights.{TwentyFive}
+use Rattle.weighing.specs.Weighted.{drawWeightedRows, drawWeighted, Holding, NotRefused, Weighted, AllOnes, Instance}
 use Rattle.matrix.specs.Table.{table}
 use Rattle.pumpfennel.specs.Former.{FormerVoices, FormerPlaybacks, FormerNumbers, FormerAnswers}
 use Rattle.pumpfennel.specs.OneMore.{logOf, Round, OneMore, Rounds, InOrder, Met}
@@ -49,6 +51,8 @@ pub record Demand1 : Type 0 where
   pub number : (g s : List ℕ) → Refuses (rankRows g s) 3 [] (rankOf g s)
   pub left : (g h : List ℕ) (a : Question) → Refuses (remainingRows g h a) 3 [] (remainingTo g h a)
   pub draw : (g h : List ℕ) (a : Question) (q : ℕ) (out : List ℕ) → Refuses (drawRows g h a q out) 2 out (drawTo g h a q out)
+  pub draw-weighted : (g h : List ℕ) (n v : ℕ) (weights : List ℕ) (t : ℕ) (out : List ℕ)
+      → Refuses (drawWeightedRows g h n v weights t out) 2 out (drawWeighted g h n v weights t out)
   pub log : (h : List ℕ) (p : Playback) → Refuses (appendRows h p) 1 h (appendOf h p)
 
 -- ---- the house matrix bank: "It has 100,000 sentences of length 5 and none of another length."
@@ -79,6 +83,14 @@ pub record Demands : Type 0 where
   pub unpatterned : (g h : List ℕ) (n v : ℕ) → Unpatterned g h n v
   pub all-blank : (g h : List ℕ) (n v : ℕ) → AllBlank g h n v
   pub no-blank : (g h pattern : List ℕ) (v : ℕ) → Full pattern → remainingMatching g h pattern v .refusal ≡ 0 → NoBlank g h pattern v
+  -- "Every unheard derivation must own exactly its weight in tickets. All weights 1 means the plain draw." (document 02, U7) What is supposed is no more
+  -- than that the call isn't refused, but by 16 or 20; histories that bar the same sentences have the same tickets; 25 is about needed pairs
+  pub weighted : (g h : List ℕ) (n v : ℕ) (weights : List ℕ) → Holding g h n v weights → Weighted g h n v weights
+  pub holding : (g h : List ℕ) (n v : ℕ) (weights : List ℕ) (t : ℕ) (out : List ℕ) → Holding g h n v weights ↔ NotRefused (drawWeighted g h n v weights t out)
+  pub weighted-alike : (g h h′ : List ℕ) (n v : ℕ) (weights : List ℕ) → history.Accepted h → history.Accepted h′ → SameBarred g h h′ (plainly n v)
+      → (t : ℕ) (out : List ℕ) → drawWeighted g h n v weights t out ≡ drawWeighted g h′ n v weights t out
+  pub all-ones : (g h : List ℕ) (n v : ℕ) → AllOnes g h n v
+  pub twenty-five : (g : List ℕ) (n : ℕ) (weights : List ℕ) → TwentyFive g n weights
   -- what an accepted *Log* does to the history's meaning: the sentence, if it was played in full, is heard in its voice then, and what was heard in any
   -- voice still is. One that was broken off leaves every answer of *Left* and *Draw* as it was (document 02, U5).
   pub logged : (h : List ℕ) (p : Playback) → appendOf h p .refusal ≡ 0 → Logged h p
@@ -104,12 +116,13 @@ pub record Demands : Type 0 where
   pub numbers : FormerNumbers
   pub fifteen : (g h : List ℕ) (a : Question) → countOf g (a .length) .refusal ≡ 0 → history.Accepted h → Fifteen g h a
   -- there is such a grammar, history and length, one with a record in another voice, one with a sentence of two derivations broken off, which isn't
-  -- heard, and one with a pattern; there are draws that U14 speaks of; there are two histories that bar the same; and the house bank is as document 01
+  -- heard, one with a pattern and one with weights; there are draws that U14 speaks of; there are two histories that bar the same; and the house bank is as document 01
   -- says, so that with every accepted history and in every voice each of its unheard sentences comes exactly once
   pub instance : Premises F heard01 (plainly 2 0)
   pub voiced : Premises F heardInFive (plainly 2 5) × (heard heardInFive 5 (0 ∷ 1 ∷ []) ≡ true)
   pub broken : Premises G brokenOff (plainly 3 0) × (heard brokenOff 0 (0 ∷ 0 ∷ 0 ∷ []) ≡ false)
   pub matched : Matched
+  pub weighed : Instance
   pub met : Met
   pub logged-twice : history.Accepted heard01 × history.Accepted heardTwice × SameBarred F heard01 heardTwice (plainly 2 0)
   pub house : House

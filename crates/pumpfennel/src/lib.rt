@@ -10,6 +10,7 @@ ghost use Rattle.history.specs.Playback.{playback};
 ghost use Rattle.ranking.specs.Answers.{unrankOf, rankOf};
 ghost use Rattle.sampling.specs.Answers.{remainingOf, remainingMatching, drawOf, drawMatching};
 ghost use Rattle.sampling.specs.Inner.Says.{remainingSays, drawSays};
+ghost use Rattle.weighing.specs.Weighted.{drawWeighted};
 ghost use Rattle.pumpfennel.specs.Calls.{gives};
 use answers::refusal;
 use counting::count;
@@ -264,6 +265,32 @@ pub extern "C" fn pumpfennel_draw_matching(
 {
     let a = draw::draw_matching(grammar, history, pattern, voice, DrawNumber(draw), sentence);
     hand_drawn(a, remaining, number)
+}
+
+// *Draw* by weights, one for each word: a ticket in place of the draw number.
+#[no_mangle]
+pub extern "C" fn pumpfennel_draw_weighted(
+    grammar: &[u8],
+    history: &[u8],
+    length: u64,
+    voice: u64,
+    weights: &[u8],
+    ticket: u64,
+    sentence: &mut [u8],
+    tickets: &mut u64,
+    number: &mut u64,
+) -> u8
+    ensures { λ r. ⌜ gives r (now (tickets .exit) ∷ now (number .exit) ∷ []) (now (sentence .exit)) ≡ drawWeighted (now (grammar .entry)) (now (history .entry)) length voice (now (weights .entry)) ticket (now (sentence .entry)) ⌝ }
+{
+    let a = weighing::draw::draw_weighted(
+        grammar,
+        history,
+        Question { length, voice },
+        weights,
+        DrawNumber(ticket),
+        sentence,
+    );
+    hand_drawn(a, tickets, number)
 }
 
 // *Log*.

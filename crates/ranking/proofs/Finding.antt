@@ -1,5 +1,5 @@
--- What the calls ask of the chart and the walk, and what these then say: by a choice how many derivations stand and entry d of these, by a sentence's
--- letters how many derivations it has and, by a measure, the place of the first.
+-- What the calls ask of the chart and the walk, and what these then say: by a choice how many tickets there are and entry d of these, by a sentence's
+-- letters how many derivations it has and, by a measure, the first ticket of the first.
 -- Assumes nothing.
 use mathlib.Core.Path.{_≡_, refl, sym, ap, _∙_}
 use mathlib.Core.Bool.{Bool, true}
@@ -10,7 +10,8 @@ use native.Mathlib.Nat.{sub-zero}
 use lib.ListN.{length, getD, drop, replicate, length-replicate}
 use borrow.Rule.Slice.PartMut.{postOf}
 use Rattle.lists.specs.Inner.Tables.{entry}
-use Rattle.lists.specs.Searched.{firstPlace, same}
+use Rattle.lists.specs.Searched.{same}
+use Rattle.lists.proofs.Searches.{first-ext, first-one}
 use Rattle.lists.proofs.Struck.{numbered-at}
 use Rattle.lists.proofs.Tables.{wide-made, made-entry}
 use Rattle.grammar.specs.Inner.Rules.{startIn, ruled}
@@ -24,7 +25,8 @@ use Rattle.counting.specs.declared.prepare.Prepared.the-variants.{Ready as Pass
 use Rattle.counting.proofs.Asking.{asked-whole}
 use Rattle.counting.proofs.Counts.{T-sentences}
 use Rattle.charts.proofs.Placing.{room-short, room-low}
-use Rattle.charts.specs.Inner.Letters.{any, letterAt, weightBy, stands}
+use Rattle.counting.specs.Inner.Letters.{any, weighed}
+use Rattle.charts.specs.Inner.Letters.{letterAt, weightBy}
 use Rattle.charts.specs.Inner.Maps.{totalAt, Span, Mapped, Everywhere, LetteredAs}
 use Rattle.charts.specs.Inner.Plan.{lengthIn, needed}
 use Rattle.charts.specs.Inner.Chart.{Fills, Filled, ChartedAs}
@@ -32,9 +34,9 @@ use Rattle.charts.specs.Inner.Ready.{Ready}
 use Rattle.charts.proofs.Mapping.{everywhere-mapped, all-closed, planned-closed, planned-same, filled-blank, letter-itself}
 use Rattle.walk.specs.Inner.Sought.{WalkTables, Sought}
 use Rattle.walk.specs.Inner.Steps.{Placed}
-use Rattle.ranking.specs.Inner.Inside.{fullIn, totalIn, entryIn, numberIn, rankIn, standing, standingAt, placeIn, Chooses, WriteSought, WrittenAs}
+use Rattle.ranking.specs.Inner.Inside.{fullIn, totalIn, entryIn, numberIn, rankIn, weighs, weighIn, ticketsAt, placeIn, Chooses, WriteSought, WrittenAs}
 use Rattle.ranking.specs.Inner.Ranking.{FindSought, FoundAs, PlaceSought, Roomy, NumberSought}
-use Rattle.ranking.proofs.Weighing.{any-stands, standing-weigh, counts-standing, counts-standing-at, chosen, readings-weigh, placed}
+use Rattle.ranking.proofs.Weighing.{whole-weigh, counts-weight, counts-weigh, counts-tickets, chosen, readings-weigh, placed}
 
 -- ---- the start symbol over all positions
 
@@ -61,8 +63,8 @@ module _ {rules totals : List (List ℕ)} {n : ℕ} (c : Counted rules totals n)
         known = λ p m. true;
         closed = all-closed rules n;
         mapped = everywhere-mapped rules e c (λ p m. true);
-        letters = λ p h. omega (arith, letter p h);
         linked = λ p h l. absurd (omega (arith, letter p h));
+        weights = λ p h l. absurd (omega (arith, letter p h));
       }
 
 -- ---- by a map
@@ -84,12 +86,12 @@ module _ {rules totals choice : List (List ℕ)} {n : ℕ} (w : Chooses rules to
   pub total-asks : Placed totals choice a 0 n
   total-asks = whole-placed (w .counted) (w .mapped) a e
 
-  pub total-given : (x : ℕ) → x ≡ totalAt totals choice 0 a n → x ≡ length (standing rules choice n)
+  pub total-given : (x : ℕ) → x ≡ totalAt totals choice 0 a n → x ≡ weighIn rules choice n
   total-given x h =
       h
       ∙ ap (λ (b : ℕ). totalAt totals choice 0 b n) e
       ∙ w .mapped .right 0 (startIn rules) n (start-asked (w .counted)) (whole (w .counted)) (w .closed .whole)
-      ∙ standing-weigh rules choice n (w .letters)
+      ∙ whole-weigh rules choice n
 
 -- what follows the part that was lent
 pub rest-kept : (n : ℕ) (out : List ℕ) → postOf 0 (n - 0) out ≡ drop n out
@@ -110,7 +112,7 @@ module _ {rules totals choice counts : List (List ℕ)} {n d : ℕ} {out : List 
         by = t .mapped;
         to = everywhere-mapped rules e c (t .known);
         linked = t .linked;
-        weights = λ p h l. absurd (omega (arith, t .letters p h));
+        weights = t .weights;
         measures = λ p h l. absurd (omega (arith, e .letter p (omega (arith, c .short))));
       }
 
@@ -123,15 +125,19 @@ module _ {rules totals choice counts : List (List ℕ)} {n d : ℕ} {out : List 
         asked = start-asked (w .chooses .counted);
         span = whole (w .chooses .counted);
         known = w .chooses .closed .whole;
-        inside = rw (standing-weigh rules choice n (w .chooses .letters)) (w .inside);
+        inside = rw (whole-weigh rules choice n) (w .inside);
       })
 
   pub written : (s : ℕ) → s ≡ startIn rules → {words : List ℕ} {place measured weight offset : ℕ}
       → OwnedAs (ruled rules) (weightBy rules choice) (weightBy rules counts) s 0 n d words place measured weight offset
-      → WrittenAs rules choice n d out (words ++ postOf 0 (n - 0) out) place
+      → WrittenAs rules choice n d out (words ++ postOf 0 (n - 0) out) place weight
   written s q {words} {place} r =
-      let f = chosen rules e n (w .chooses .counted .short) choice (w .chooses .letters) (rw q at r) in
-      record { words = ap (λ (l : List ℕ). words ++ l) (rest-kept n out) ∙ ap (λ (x : ℕ × List ℕ). x .1 ++ drop n out) (sym f); number-is = sym (ap (λ (x : ℕ × List ℕ). x .0) f) }
+      let f = chosen rules e n (w .chooses .counted .short) choice (rw q at r) in
+      record {
+        words = ap (λ (l : List ℕ). words ++ l) (rest-kept n out) ∙ ap (λ (x : ℕ × List ℕ). x .1 ++ drop n out) (sym f);
+        number-is = sym (ap (λ (x : ℕ × List ℕ). x .0) f);
+        weight-is = r .weighs-is ∙ ap (λ (x : ℕ × List ℕ). weighs rules choice (x .1)) (sym f);
+      }
 
 -- ---- the derivations of a sentence
 
@@ -203,12 +209,11 @@ module _ {rules plan map : List (List ℕ)} {first : ℕ} {s sets : List ℕ} {t
 -- a sentence with derivations, once its chart is filled, and a measure whose totals the table has over the same spans
 module _ {rules plan map : List (List ℕ)} {first : ℕ} {s : List ℕ} {before : List (List ℕ)} {sets : List ℕ} {totals : List (List ℕ)} {k : ℕ}
     (f : FoundAs rules plan map first s before sets totals k) (some : 1 ≤ k) {measure : List (List ℕ)} where
-  pub place-asks : Mapped rules totals measure (length s) (needed plan) → ((p : ℕ) → p < length s → letterAt measure p ≤ any) → stands measure 0 s ≡ true
+  pub place-asks : Mapped rules totals measure (length s) (needed plan) → ((p : ℕ) → p < length s → letterAt measure p ≡ weighed → 14 ≤ length rules)
       → PlaceSought rules totals map measure (length s) s
-  place-asks m letters stand = record {
+  place-asks m measures = record {
     long = refl;
     some = omega (arith, f .derivations);
-    stand = stand;
     counted = f .ready .blank .counted;
     linked = f .ready .linked;
     known = needed plan;
@@ -217,7 +222,7 @@ module _ {rules plan map : List (List ℕ)} {first : ℕ} {s : List ℕ} {before
     measured = m;
     letters = f .letters;
     small = f .small;
-    measure-letters = letters;
+    measures = measures;
   }
 
   -- the counts measure every sentence
@@ -225,7 +230,7 @@ module _ {rules plan map : List (List ℕ)} {first : ℕ} {s : List ℕ} {before
   place-asks-counts e =
       let c = f .ready .blank .counted in
       let letter : (p : ℕ) → p < length s → letterAt measure p ≡ any = λ p h. e .letter p (omega (arith, c .short)) in
-      place-asks (everywhere-mapped rules e c (needed plan)) (λ p h. omega (arith, letter p h)) (any-stands measure 0 s (λ i h. letter (0 + i) (omega arith)))
+      place-asks (everywhere-mapped rules e c (needed plan)) (λ p h l. absurd (omega (arith, letter p h)))
 
 module _ {rules totals letters measure : List (List ℕ)} {n : ℕ} {s : List ℕ} (w : PlaceSought rules totals letters measure n s) (a : ℕ) (e : a ≡ startIn rules) where
   abbrev place-tables : WalkTables rules totals letters measure n
@@ -237,7 +242,7 @@ module _ {rules totals letters measure : List (List ℕ)} {n : ℕ} {s : List �
     to = w .measured;
     linked = λ i h l. w .linked;
     weights = λ i h l. absurd (omega (arith, w .small i h));
-    measures = λ i h l. absurd (omega (arith, w .measure-letters i h));
+    measures = w .measures;
   }
 
   -- what is asked of s, by its own length
@@ -262,23 +267,24 @@ module _ {rules totals letters measure : List (List ℕ)} {n : ℕ} {s : List �
       → OwnedAs (ruled rules) (weightBy rules letters) (weightBy rules measure) a 0 n 0 words place measured weight offset → place ≡ placeIn rules measure s
   place-found {words} {place} {measured} {weight} {offset} r =
       let q : OwnedAs (ruled rules) (weightBy rules letters) (weightBy rules measure) (startIn rules) 0 (length s) 0 words place measured weight offset = rw (w .long, ← e) r in
-      placed rules letters s (λ i h. w .letters i (own i h)) (λ i h. w .small i (own i h)) measure (λ i h. w .measure-letters i (own i h)) (w .stand)
-      q
+      placed rules letters s (λ i h. w .letters i (own i h)) (λ i h. w .small i (own i h)) measure q
 
--- ---- *Give* and *Number*: by the counts every sentence stands
+-- ---- *Give* and *Number*: by the counts every sentence weighs 1
 
 module _ (rules : List (List ℕ)) {counts : List (List ℕ)} (e : Everywhere counts) where
-  pub counts-total : (n : ℕ) → n ≤ 16 → length (standing rules counts n) ≡ totalIn rules n
-  counts-total n short = ap length (counts-standing rules e n short) ∙ sym (T-sentences (ruled rules) (startIn rules) n)
+  pub counts-total : (n : ℕ) → n ≤ 16 → weighIn rules counts n ≡ totalIn rules n
+  counts-total n short = counts-weigh rules e n short ∙ sym (T-sentences (ruled rules) (startIn rules) n)
 
-  pub counts-entry : (n d : ℕ) → n ≤ 16 → d < totalIn rules n → getD (standingAt rules counts n) d (0, []) ≡ (d, entryIn rules n d)
+  pub counts-entry : (n d : ℕ) → n ≤ 16 → d < totalIn rules n → getD (ticketsAt rules counts n) d (0, []) ≡ (d, entryIn rules n d)
   counts-entry n d short h =
-      ap (λ (l : List (ℕ × List ℕ)). getD l d (0, [])) (counts-standing-at rules e n short)
+      ap (λ (l : List (ℕ × List ℕ)). getD l d (0, [])) (counts-tickets rules e n short)
       ∙ numbered-at 0 (fullIn rules n) d [] (0, []) (omega (arith, T-sentences (ruled rules) (startIn rules) n))
       ∙ ap (λ (i : ℕ). (i, entryIn rules n d)) (omega arith)
 
   pub counts-place : (s : List ℕ) → length s ≤ 16 → placeIn rules counts s ≡ numberIn rules s
-  counts-place s short = ap (firstPlace (λ u. same u s)) (counts-standing rules e (length s) short)
+  counts-place s short =
+      first-ext (λ u. same u s) (weighs rules counts) (λ u. 1) (fullIn rules (length s)) (counts-weight rules e (length s) short)
+      ∙ first-one (λ u. same u s) (fullIn rules (length s))
 
 -- ---- the tables, once 1 to 10 are passed
 

@@ -4,7 +4,7 @@ ghost use lib.ListN.{length};
 ghost use Rattle.counting.specs.Inner.Counted.{Counted};
 ghost use Rattle.ranking.specs.Answers.{unrankOf};
 ghost use Rattle.ranking.specs.Inner.Says.{unrankSays};
-ghost use Rattle.ranking.specs.Inner.Inside.{totalIn, standing, Chooses, WriteSought, WrittenAs, unrankIn};
+ghost use Rattle.ranking.specs.Inner.Inside.{totalIn, weighIn, Chooses, WriteSought, WrittenAs, unrankIn};
 use answers::refusal::Refusal;
 use charts::maps;
 use counting::prepare;
@@ -16,6 +16,12 @@ use walk::nodes::Node;
 
 // How many derivations stand before one (document 01: derivation number). No draw number is one.
 pub struct DerivationNumber(pub u64);
+
+// The owner of a ticket: its number, and how many tickets it has.
+pub struct Owner {
+    pub number: DerivationNumber,
+    pub weight: u64,
+}
 
 pub enum UnrankAnswer {
     Given(u64),
@@ -30,10 +36,10 @@ pub fn count(rules: &[[u8; 256]], totals: &[[u64; 32]], n: usize) -> u64
     tallies::count_at(totals, rules::start(rules), n)
 }
 
-// How many derivations there are whose words stand where the choice's letters ask for them; by the counts T(S, n).
+// What all derivations weigh by the choice: how many tickets there are. By the counts it is T(S, n).
 pub fn total(rules: &[[u8; 256]], totals: &[[u64; 32]], choice: &[[u16; 16]; 17], n: usize) -> u64
     requires { ⌜ Chooses (now rules) (now totals) (now choice) n ⌝ }
-    ensures { λ t. ⌜ t ≡ length (standing (now (rules .entry)) (now (choice .entry)) n) ⌝ }
+    ensures { λ t. ⌜ t ≡ weighIn (now (rules .entry)) (now (choice .entry)) n ⌝ }
 {
     let node = Node {
         a: rules::start(rules),
@@ -43,8 +49,8 @@ pub fn total(rules: &[[u8; 256]], totals: &[[u64; 32]], choice: &[[u16; 16]; 17]
     nodes::total(totals, choice, node)
 }
 
-// Of these derivations the one with so many of them before it: its sentence into the first bytes of `out`, and its number among all, which the counts
-// measure. Where the counts choose too, that is the number given.
+// Of the tickets the one with so many of them before it: its owner's sentence into the first bytes of `out`, its owner's number among all, which the
+// counts measure, and what its owner weighs. Where the counts choose too, each derivation has one ticket, and the number is the one given.
 pub fn write(
     rules: &[[u8; 256]],
     totals: &[[u64; 32]],
@@ -53,9 +59,9 @@ pub fn write(
     n: usize,
     number: DerivationNumber,
     out: &mut [u8],
-) -> DerivationNumber
+) -> Owner
     requires { ⌜ WriteSought (now rules) (now totals) (now choice) (now counts) n (number .0) (now out) ⌝ }
-    ensures { λ d. ⌜ WrittenAs (now (rules .entry)) (now (choice .entry)) n (number .0) (now (out .entry)) (now (out .exit)) (d .0) ⌝ }
+    ensures { λ d. ⌜ WrittenAs (now (rules .entry)) (now (choice .entry)) n (number .0) (now (out .entry)) (now (out .exit)) (d .number .0) (d .weight) ⌝ }
 {
     let node = Node {
         a: rules::start(rules),
@@ -71,7 +77,10 @@ pub fn write(
         number.0,
         &mut out[0..n],
     );
-    DerivationNumber(f.place)
+    Owner {
+        number: DerivationNumber(f.place),
+        weight: f.weight,
+    }
 }
 
 // With the tables at hand.

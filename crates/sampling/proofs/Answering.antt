@@ -2,7 +2,7 @@
 -- walk.
 -- Assumes nothing.
 use mathlib.Core.Path.{_≡_, refl, sym, ap, _∙_}
-use mathlib.Core.Bool.{Bool, true, false, not, cond, _&&_}
+use mathlib.Core.Bool.{Bool, true, not, _||_}
 use mathlib.Core.List.{List, [], _∷_, _++_, map, List·Memᴰ·head, List·Memᴰ·not-nil, List·Memᴰ·eq-of-singleton}
 use mathlib.Core.Logic.{_↔_}
 use Prim.Native.Nat.{ℕ, zero, _+_, _-_, _≤_, _<_}
@@ -12,24 +12,23 @@ use borrow.Author.Tests.{eqb-true, eq-eqb, le-leb, lt-leb, lt-ltb, le-ltb}
 use lib.ListN.{length, getD, take, drop, replicate, length-replicate, length-take, length-map}
 use lib.Seq.{length-take-le, take-append-le}
 use lib.Dec.{ltb, leb, eqb, lit<}
-use Rattle.lists.specs.Joined.{_∈_, concatMap}
+use Rattle.lists.specs.Joined.{_∈_, sumOver, concatMap}
 use Rattle.lists.specs.Ordered.{Pairwise}
-use Rattle.lists.specs.Searched.{firstPlace, same, keep}
+use Rattle.lists.specs.Searched.{bit, keep}
+use Rattle.lists.specs.Inner.Tickets.{tickets, struckFrom, skipOver, gone}
 use Rattle.lists.specs.Inner.Tables.{Kept}
-use Rattle.lists.specs.Inner.Struck.{struck, numbered, skip}
-use Rattle.lists.proofs.Sums.{concat-ext}
-use Rattle.lists.proofs.Members.{At-∈, ∈-concat, concat-∈}
-use Rattle.lists.proofs.Places.{getD-map}
-use Rattle.lists.proofs.Tests.{and-left, and-right, some-ext}
-use Rattle.lists.proofs.Searches.{place-map}
-use Rattle.lists.proofs.Struck.{struck-map, numbered-∈, numbered-map, unnumbered}
+use Rattle.lists.specs.Inner.Struck.{numbered}
+use Rattle.lists.proofs.Sums.{sum-ext, sum-map, concat-ext}
+use Rattle.lists.proofs.Tests.{some-ext}
+use Rattle.lists.proofs.Struck.{numbered-sum, struck-apart, tickets-spans, spans-lt, spans-keep}
 use Rattle.lists.proofs.Tables.{wide-made, made-entry}
-use Rattle.lists.proofs.Strikes.{keep-length, keep-∈, ∈-keep, keep-map, keep-ext, keep-numbered, struck-rising, skip-lt}
+use Rattle.lists.proofs.Strikes.{singles}
 use Rattle.answers.specs.Answer.{Row, Answer, firstThatApplies, given, refused, answerOf, answer}
 use Rattle.answers.specs.Inner.Refusals.{refusalNumber}
 use Rattle.answers.specs.declared.refusal.Refusal.{Refusal}
 use Rattle.answers.proofs.Numbers.{number-some}
 use Rattle.answers.proofs.Refusals.{row-applies, row-passed, rows-stop, rows-pass, answer-accepted, answer-refused}
+use Rattle.answers.proofs.Refusals.{numbered as numbered-rows}
 use Rattle.grammar.specs.Trees.{Tree, sentence}
 use Rattle.grammar.specs.Inner.Rules as grammar
 use Rattle.counting.specs.Refusals.{most}
@@ -40,29 +39,31 @@ use Rattle.charts.specs.Inner.Plan.{spansOf}
 use Rattle.charts.specs.Inner.Maps.{countsMap, Everywhere}
 use Rattle.charts.proofs.Mapping.{counts-map}
 use Rattle.ranking.specs.Answers.{fullList, readingsOf}
-use Rattle.ranking.specs.Inner.Inside.{fullIn, readingsIn, standing, standingAt, WriteSought, WrittenAs}
+use Rattle.ranking.specs.Inner.Inside.{fullIn, readingsIn, weighs, weighIn, ticketsAt, Chooses, WriteSought, WrittenAs}
 use Rattle.ranking.proofs.Inside.{full-is, readings-are}
-use Rattle.ranking.proofs.Answering.{total-fits}
-use Rattle.ranking.proofs.Finding.{counts-choose}
+use Rattle.ranking.proofs.Weighing.{whole-weigh}
+use Rattle.ranking.proofs.Finding.{start-asked, whole, counts-choose}
 use Rattle.history.specs.Refusals as history
 use Rattle.history.specs.Layout.{recordsOf, headOf, recordWords}
 use Rattle.history.specs.Heard.{makesHeard, sentencesIn, heard}
 use Rattle.history.proofs.Acceptance.{known}
 use Rattle.history.proofs.Chain.{numbers-zero}
 use Rattle.sorting.specs.Inner.Sorted.{SortedAs}
-use Rattle.sampling.specs.Pattern.{matches}
 use Rattle.sampling.specs.Question.{Question, plainly}
-use Rattle.sampling.specs.Unheard.{Entry, suits, ofLength, totalFor, heardOf, leftOf, ambiguous}
-use Rattle.sampling.specs.Inner.Collect.{fittingAt, barred, numbersIn, ambiguousIn, allNumbersIn, CollectedIs}
+use Rattle.sampling.specs.Unheard.{suits, ofLength, unheard, totalFor, heardOf, leftOf, ambiguous}
+use Rattle.sampling.specs.Inner.Collect.{fittingAt, barred, spansBy, fitting, numbersIn, ambiguousIn, allNumbersIn, CollectedIs}
 use Rattle.sampling.specs.Inner.Patterns.{behindOf, Choice}
-use Rattle.sampling.specs.Answers.{askedRows, remainingRows, remainingTo, drawn, drawTo}
-use Rattle.sampling.specs.Inner.Skipping.{Skips}
-use Rattle.sampling.specs.Inner.Preparing.{Room, Lent, Tables, LentMatching, Heard, Hold, NumbersAs, FittedAs, RecordsSought, MatchingSought, RecordedAs, Drawable, SampledIs, SampledAs}
+use Rattle.sampling.specs.Answers.{remainingRows, remainingTo, drawn, drawTo}
+use Rattle.sampling.specs.Inner.Skipping.{heardSpans, passedBy, Skips}
+use Rattle.sampling.specs.Inner.Preparing.{Room, Lent, Tables, LentMatching, Heard, Hold, NumbersAs, HeardBy, RecordsSought, MatchingSought, RecordedBy, RecordedAs, DrawableBy, Drawable, SampledIs, SampledBy}
 use Rattle.sampling.specs.declared.heard.Collected.the-variants.{Numbers}
 use Rattle.sampling.specs.declared.prepare.Sampled.{Sampled}
 use Rattle.sampling.specs.declared.prepare.Sampled.the-variants.{Ready, Refused as NotReady}
-use Rattle.sampling.specs.Inner.Drawing.{DrawSought, drawSkipping}
-use Rattle.sampling.proofs.Barred.{listed-length, no-entry, free, fitting-length, placeOf, collected, heard-length, unheard-at, unheard-all}
+use Rattle.sampling.specs.Inner.Drawing.{spansIn, DrawSought, drawSkipping}
+use Rattle.sampling.proofs.Barred.{listed-length, free, few-readings, ∈-heard, ∈-length, heard-length, unheard-all, left-length}
+use Rattle.sampling.proofs.Spans.{numbersBy, collected}
+use Rattle.sampling.proofs.Listed.{drawFrom, spans-told, drawn-listed, list-plain}
+use Rattle.sampling.proofs.Skipping.{spans-plain, passed-plain, told-plain, gone-all}
 use Rattle.sampling.proofs.Readying.{counts-agree, full-same}
 
 -- ---- the tables that a call makes
@@ -114,9 +115,9 @@ pub part-few : (k n : ℕ) (l : List ℕ) → k ≤ n → length (take (k - 0) l
 part-few k n l h = omega (arith, length-take (k - 0) l)
 
 -- the places stand then at the front of the whole
-pub heard-sorted : (rules : List (List ℕ)) (P : List ℕ → Bool) (h : List ℕ) (n v : ℕ) (before part rest : List ℕ) (k m : ℕ) → CollectedIs rules P h n v before (Numbers k)
-    → SortedAs (take (k - 0) before) part m → Hold rules P h n v (part ++ rest) (Ready m)
-heard-sorted rules P h n v before part rest k m c s =
+pub heard-sorted : (rules : List (List ℕ)) (u : List ℕ → ℕ) (h : List ℕ) (n v : ℕ) (before part rest : List ℕ) (k m : ℕ) → CollectedIs rules u h n v before (Numbers k)
+    → SortedAs (take (k - 0) before) part m → Hold rules u h n v (part ++ rest) (Ready m)
+heard-sorted rules u h n v before part rest k m c s =
     let z : k - 0 ≡ k = omega arith in
     let s′ = rw z at s in
     let e = take-append-le m part rest (omega (arith, s .few, s .long)) in (
@@ -125,102 +126,65 @@ heard-sorted rules P h n v before part rest k m c s =
     )
 
 -- a history without records has no heard place
-pub none-heard : (rules : List (List ℕ)) (P : List ℕ → Bool) (h : List ℕ) (n v : ℕ) (numbers : List ℕ) → history.Accepted h → recordsOf h ≡ 0
-    → Hold rules P h n v numbers (Ready 0)
-none-heard rules P h n v numbers diary none =
+pub none-heard : (rules : List (List ℕ)) (u : List ℕ → ℕ) (h : List ℕ) (n v : ℕ) (numbers : List ℕ) → history.Accepted h → recordsOf h ≡ 0
+    → Hold rules u h n v numbers (Ready 0)
+none-heard rules u h n v numbers diary none =
     let z = numbers-zero h diary (headOf h) (omega (arith, known h diary .head, none)) in
     let e : sentencesIn h v ≡ [] = ap (λ (l : List ℕ). map (recordWords h) (keep (makesHeard h v) l)) z in
     (omega arith, record { clear = rw e refl; rising = Pairwise.none; just = λ d. rw e ((λ m. m), λ m. m) })
 
 -- ---- 11 to 15, by the tables
 
-module _ (rules₀ : List (List ℕ)) (h : List ℕ) (a : Question) {rules totals choice : List (List ℕ)} {numbers : List ℕ} where
-  pub unaccepted : (r : Refusal) → history.historyRefusal h ≡ refusalNumber r → RecordedAs rules₀ h a rules totals choice numbers (NotReady r)
+module _ (rules₀ : List (List ℕ)) (h : List ℕ) (a : Question) {u : List ℕ → ℕ} {rules totals choice : List (List ℕ)} {numbers : List ℕ} where
+  pub unaccepted : (r : Refusal) → history.historyRefusal h ≡ refusalNumber r → RecordedBy rules₀ h a u rules totals choice numbers (NotReady r)
   unaccepted r e =
       record { recorded = sym (rows-stop (history.historyRows h) ((ambiguousIn rules₀ h (a .length) (a .voice), 15) ∷ []) (omega (arith, number-some r)) ∙ e) }
 
-  heard-recorded : {s : Sampled} → history.Accepted h → Hold rules₀ (matches (a .pattern)) h (a .length) (a .voice) numbers s → Choice rules₀ a rules totals choice
-      → RecordedAs rules₀ h a rules totals choice numbers s
+  heard-recorded : {s : Sampled} → history.Accepted h → Hold rules₀ u h (a .length) (a .voice) numbers s → Choice rules₀ a u rules totals choice
+      → RecordedBy rules₀ h a u rules totals choice numbers s
   heard-recorded {s = Ready k} ok q c = record { recorded = (ok, q .0, q .1, c) }
   heard-recorded {s = NotReady r} ok q c = record {
     recorded = q .1
         ∙ sym (rows-pass (history.historyRows h) ((ambiguousIn rules₀ h (a .length) (a .voice), 15) ∷ []) refl ok ∙ row-applies 15 [] (q .0));
   }
 
-  pub fitted-recorded : {s : Sampled} → history.Accepted h → FittedAs rules₀ h a rules totals choice numbers s → RecordedAs rules₀ h a rules totals choice numbers s
+  pub fitted-recorded : {s : Sampled} → history.Accepted h → HeardBy rules₀ h a u rules totals choice numbers s → RecordedBy rules₀ h a u rules totals choice numbers s
   fitted-recorded ok q = heard-recorded ok (q .hold) (q .chosen)
 
 -- without a pattern the counts choose, and the rules are as they were
 module _ {rules totals : List (List ℕ)} {h : List ℕ} {n : ℕ} {numbers₀ : List ℕ} (w : RecordsSought rules totals h n numbers₀) (v : ℕ) where
-  chosen-plain : Choice rules (plainly n v) rules totals countsMap
-  chosen-plain = record { kept = λ r l. refl; chooses = counts-choose (w .counted) counts-map; stand = λ s e. counts-agree n (w .counted .short) s e }
+  chosen-plain : Choice rules (plainly n v) (fitting (plainly n v)) rules totals countsMap
+  chosen-plain = record { kept = λ r l. refl; chooses = counts-choose (w .counted) counts-map; weigh = λ s e. counts-agree rules n v (w .counted .short) s e }
 
   pub plain-recorded : {numbers : List ℕ} {s : Sampled} → history.Accepted h → NumbersAs rules h (plainly n v) numbers s
       → RecordedAs rules h (plainly n v) rules totals countsMap numbers s
   plain-recorded ok q = heard-recorded rules h (plainly n v) ok (q .hold) chosen-plain
 
   pub plain-none : {numbers : List ℕ} → history.Accepted h → recordsOf h ≡ 0 → RecordedAs rules h (plainly n v) rules totals countsMap numbers (Ready 0)
-  plain-none {numbers} ok none = heard-recorded rules h (plainly n v) ok (none-heard rules (matches []) h n v numbers ok none) chosen-plain
+  plain-none {numbers} ok none = heard-recorded rules h (plainly n v) ok (none-heard rules (fitting (plainly n v)) h n v numbers ok none) chosen-plain
 
--- ---- the places of the grammar
-
--- the place of a sentence with n words and one derivation that fits; of any other none
-abbrev numbersOf : (g : List ℕ) (a : Question) (s : List ℕ) → List ℕ
-numbersOf g a s = cond (eqb (length s) (a .length) && (eqb (readingsOf g s) 1 && matches (a .pattern) s)) (placeOf g a s ∷ []) []
-
--- the place that a sentence adds
-adds-∈ : (g : List ℕ) (a : Question) (s : List ℕ) (d : ℕ) → d ∈ numbersOf g a s
-    → (length s ≡ a .length) × (matches (a .pattern) s ≡ true) × (readingsOf g s ≡ 1) × (placeOf g a s ≡ d)
-adds-∈ g a s d m = go (eqb (length s) (a .length) && rest) refl m
-  where
-    rest : Bool
-    rest = eqb (readingsOf g s) 1 && matches (a .pattern) s
-
-    go : (b : Bool) → (eqb (length s) (a .length) && rest) ≡ b → d ∈ cond b (placeOf g a s ∷ []) []
-        → (length s ≡ a .length) × (matches (a .pattern) s ≡ true) × (readingsOf g s ≡ 1) × (placeOf g a s ≡ d)
-    go true e k =
-        let r = and-right (eqb (length s) (a .length)) rest e in (
-          eqb-true (length s) (a .length) (and-left (eqb (length s) (a .length)) rest e),
-          and-right (eqb (readingsOf g s) 1) (matches (a .pattern) s) r,
-          eqb-true (readingsOf g s) 1 (and-left (eqb (readingsOf g s) 1) (matches (a .pattern) s) r),
-          sym (List·Memᴰ·eq-of-singleton k),
-        )
-    go false e k = absurd (List·Memᴰ·not-nil k)
-
-∈-adds : (g : List ℕ) (a : Question) (s : List ℕ) → length s ≡ a .length → matches (a .pattern) s ≡ true → readingsOf g s ≡ 1 → placeOf g a s ∈ numbersOf g a s
-∈-adds g a s e fit one = rw (eq-eqb (length s) (a .length) e, eq-eqb (readingsOf g s) 1 one, fit) (List·Memᴰ·head refl)
+-- ---- the tickets of the grammar
 
 module _ {g : List ℕ} {rules : List (List ℕ)} (t : grammar.Holds g rules) (h : List ℕ) (a : Question) where
   ambiguous-is : ambiguousIn rules h (a .length) (a .voice) ≡ ambiguous g h a
   unfolding ambiguous
   ambiguous-is = some-ext (λ s. leb 2 (readingsIn rules s)) (λ s. leb 2 (readingsOf g s)) (ofLength h a) (λ s m. ap (leb 2) (readings-are t s))
 
-  -- a place among the sentences that fit is that among the derivations
-  place-is : (s : List ℕ) → firstPlace (λ u. same u s) (keep (matches (a .pattern)) (fullIn rules (a .length))) ≡ placeOf g a s
-  place-is s =
-      ap (λ (l : List (List ℕ)). firstPlace (λ u. same u s) (keep (matches (a .pattern)) l)) (full-is t (a .length))
-      ∙ ap (firstPlace (λ u. same u s)) (keep-map sentence (matches (a .pattern)) (fullList g (a .length)))
-      ∙ place-map (λ u. same u s) sentence (keep (suits a) (fullList g (a .length)))
-      ∙ ap (λ (l : List Tree). firstPlace (λ u. same (sentence u) s) (keep (suits a) l)) (sym (unnumbered 0 (fullList g (a .length))))
-      ∙ ap (firstPlace (λ u. same (sentence u) s)) (keep-map (λ (e : ℕ × Tree). e .1) (suits a) (numbered 0 (fullList g (a .length))))
-      ∙ place-map (λ u. same (sentence u) s) (λ (e : ℕ × Tree). e .1) (fittingAt g a)
+  numbers-are : (u : List ℕ → ℕ) → allNumbersIn rules u h (a .length) (a .voice) ≡ concatMap (numbersBy g (a .length) u) (sentencesIn h (a .voice))
+  numbers-are u =
+      concat-ext (numbersIn rules u (a .length)) (numbersBy g (a .length) u) (sentencesIn h (a .voice)) (λ s m. rw (readings-are t s, full-is t (a .length)))
 
-  numbers-are : allNumbersIn rules (matches (a .pattern)) h (a .length) (a .voice) ≡ concatMap (numbersOf g a) (sentencesIn h (a .voice))
-  numbers-are =
-      concat-ext (numbersIn rules (matches (a .pattern)) (a .length)) (numbersOf g a) (sentencesIn h (a .voice)) (λ s m. rw (readings-are t s, place-is s))
+  -- a rising list of just the first tickets that the records add is that of what is struck
+  pub heard-spans : (u : List ℕ → ℕ) → history.Accepted h → (l : List ℕ) → Heard rules u h (a .length) (a .voice) l
+      → l ≡ map (λ (e : ℕ × ℕ). e .0) (spansBy g h (a .length) (a .voice) u)
+  heard-spans u diary l q =
+      collected g h (a .length) (a .voice) u diary
+      (λ s m e. few-readings g h a diary (sym ambiguous-is ∙ q .clear) s (∈-length g h a diary s (∈-heard g h a diary s m) e))
+      l (q .rising) (λ d. rw (← numbers-are u) (q .just d))
 
-  -- a rising list of just the places that the records add is that of the struck ones
-  heard-barred : history.Accepted h → (l : List ℕ) → Heard rules (matches (a .pattern)) h (a .length) (a .voice) l → l ≡ barred g h a
-  heard-barred diary l q =
-      let same : (x : ℕ) → (x ∈ l) ↔ (x ∈ concatMap (numbersOf g a) (sentencesIn h (a .voice))) = λ x. rw (← numbers-are) (q .just x) in
-      collected g h a diary (sym ambiguous-is ∙ q .clear) l (q .rising)
-      (λ d m.
-      let z = concat-∈ (numbersOf g a) (sentencesIn h (a .voice)) (same d .0 m) in
-      let b = adds-∈ g a (z .0) d (z .2) in
-      (z .0, ∈-keep (λ s. eqb (length s) (a .length)) (sentencesIn h (a .voice)) (z .0) (z .1) (eq-eqb (length (z .0)) (a .length) (b .0)), b .1, b .2, b .3))
-      (λ s m fit one.
-      let z = keep-∈ (λ s. eqb (length s) (a .length)) (sentencesIn h (a .voice)) s m in
-      same (placeOf g a s) .1 (∈-concat (numbersOf g a) s (sentencesIn h (a .voice)) (z .0) (∈-adds g a s (eqb-true (length s) (a .length) (z .1)) fit one)))
+-- what fits weighs 1: by it the places of what is struck are told
+fitting-spans : (g h : List ℕ) (a : Question) → spansBy g h (a .length) (a .voice) (fitting a) ≡ struckFrom (free g h a) (λ e. 1) 0 (fittingAt g a)
+fitting-spans g h a = spans-keep (free g h a) (λ (e : ℕ × Tree). suits a (e .1)) 0 (numbered 0 (fullList g (a .length)))
 
 -- ---- all lines
 
@@ -242,69 +206,66 @@ asked-sought lent k l t =
       choice-wide = lent .choice-wide;
     }
 
-module _ (g h : List ℕ) (a : Question) {rules totals choice : List (List ℕ)} where
-  pub unprepared : (r : Refusal) → refusalNumber r ≡ firstThatApplies (askedRows g a) → {numbers : List ℕ} → Room h numbers
-      → SampledAs g h a rules totals choice numbers (NotReady r)
-  unprepared r e room = record { prepared = sym (rows-stop (askedRows g a) (history.historyRows h ++ ((ambiguous g h a, 15) ∷ [])) (omega (arith, number-some r)) ∙ sym e); room = room }
+module _ (g h : List ℕ) (a : Question) (u : List ℕ → ℕ) (asked : List Row) where
+  -- the lines 11 to 15
+  abbrev later : List Row
+  later = history.historyRows h ++ ((ambiguous g h a, 15) ∷ [])
 
-module _ (g h : List ℕ) (a : Question) (none : firstThatApplies (askedRows g a) ≡ 0) {rules₀ totals₀ : List (List ℕ)} (t : Tabled g (a .length) rules₀ totals₀) where
-  past-grammar : firstThatApplies (remainingRows g h a) ≡ firstThatApplies (history.historyRows h ++ ((ambiguousIn rules₀ h (a .length) (a .voice), 15) ∷ []))
-  past-grammar = rw (ambiguous-is (t .holds) h a) (rows-pass (askedRows g a) (history.historyRows h ++ ((ambiguous g h a, 15) ∷ [])) refl none)
+  pub unprepared : {rules totals choice : List (List ℕ)} (r : Refusal) → refusalNumber r ≡ firstThatApplies asked → {numbers : List ℕ} → Room h numbers
+      → SampledBy g h a u asked rules totals choice numbers (NotReady r)
+  unprepared r e room = record { prepared = sym (rows-stop asked later (omega (arith, number-some r)) ∙ sym e); room = room }
 
-  pub recorded-prepared : {rules totals choice : List (List ℕ)} {numbers : List ℕ} {s : Sampled} → Room h numbers → RecordedAs rules₀ h a rules totals choice numbers s → SampledAs g h a rules totals choice numbers s
-  unfolding firstThatApplies
-  recorded-prepared {rules} {numbers = numbers} {s = Ready k} room q =
-      let x = q .recorded in
-      record {
-        prepared = record {
-          passed = past-grammar ∙ rows-pass (history.historyRows h) ((ambiguousIn rules₀ h (a .length) (a .voice), 15) ∷ []) refl (x .0) ∙ row-passed 15 [] (x .2 .clear);
-          diary = x .0;
-          clear = sym (ambiguous-is (t .holds) h a) ∙ x .2 .clear;
-          few = x .1;
-          heard = heard-barred (t .holds) h a (x .0) (take k numbers) (x .2);
-          full = full-same rules₀ rules (x .3 .kept) (a .length) ∙ full-is (t .holds) (a .length);
-          chooses = x .3 .chooses;
-          stand = x .3 .stand;
-        };
-        room = room;
-      }
-  recorded-prepared {s = NotReady r} room q = record { prepared = q .recorded ∙ sym past-grammar; room = room }
+  module _ (above : numbered-rows asked ≡ true) (none : firstThatApplies asked ≡ 0) {rules₀ : List (List ℕ)} (t : grammar.Holds g rules₀) where
+    past-grammar : firstThatApplies (asked ++ later) ≡ firstThatApplies (history.historyRows h ++ ((ambiguousIn rules₀ h (a .length) (a .voice), 15) ∷ []))
+    past-grammar = rw (ambiguous-is t h a) (rows-pass asked later above none)
 
-pub prepared-case : {g h : List ℕ} {a : Question} {rules totals choice : List (List ℕ)} {numbers : List ℕ} {s u : Sampled} → SampledAs g h a rules totals choice numbers s → s ≡ u
-    → SampledIs g h a rules totals choice numbers u
+    pub recorded-prepared : {rules totals choice : List (List ℕ)} {numbers : List ℕ} {s : Sampled} → Room h numbers → RecordedBy rules₀ h a u rules totals choice numbers s
+        → SampledBy g h a u asked rules totals choice numbers s
+    unfolding firstThatApplies
+    recorded-prepared {rules} {numbers = numbers} {s = Ready k} room q =
+        let x = q .recorded in
+        record {
+          prepared = record {
+            passed = past-grammar ∙ rows-pass (history.historyRows h) ((ambiguousIn rules₀ h (a .length) (a .voice), 15) ∷ []) refl (x .0) ∙ row-passed 15 [] (x .2 .clear);
+            diary = x .0;
+            clear = sym (ambiguous-is t h a) ∙ x .2 .clear;
+            few = x .1;
+            heard = heard-spans t h a u (x .0) (take k numbers) (x .2);
+            full = full-same rules₀ rules (x .3 .kept) (a .length) ∙ full-is t (a .length);
+            chooses = x .3 .chooses;
+            weigh = x .3 .weigh;
+          };
+          room = room;
+        }
+    recorded-prepared {s = NotReady r} room q = record { prepared = q .recorded ∙ sym past-grammar; room = room }
+
+pub prepared-case : {g h : List ℕ} {a : Question} {u : List ℕ → ℕ} {asked : List Row} {rules totals choice : List (List ℕ)} {numbers : List ℕ} {s s′ : Sampled}
+    → SampledBy g h a u asked rules totals choice numbers s → s ≡ s′ → SampledIs g h a u asked rules totals choice numbers s′
 prepared-case q e = (rw e at q) .prepared
 
--- ---- what stands by the choice is what fits
-
--- a derivation with its number, by its sentence
-abbrev told : ℕ × Tree → ℕ × List ℕ
-told e = (e .0, sentence (e .1))
+-- ---- what weighs something by the choice is what fits
 
 module _ {g h : List ℕ} {a : Question} {rules totals choice : List (List ℕ)} {numbers : List ℕ} {k : ℕ} (d : Drawable g h a rules totals choice numbers k) where
-  standing-at-is : standingAt rules choice (a .length) ≡ map told (fittingAt g a)
-  standing-at-is =
-      ap (λ (l : List (List ℕ)). keep (λ (e : ℕ × List ℕ). stands choice 0 (e .1)) (numbered 0 l)) (d .full)
-      ∙ ap (keep (λ (e : ℕ × List ℕ). stands choice 0 (e .1))) (numbered-map sentence 0 (fullList g (a .length)))
-      ∙ keep-map told (λ (e : ℕ × List ℕ). stands choice 0 (e .1)) (numbered 0 (fullList g (a .length)))
-      ∙ ap (map told)
-      (keep-ext (λ (e : ℕ × Tree). stands choice 0 (sentence (e .1))) (λ (e : ℕ × Tree). suits a (e .1)) (numbered 0 (fullList g (a .length)))
-      (λ e m. d .stand (sentence (e .1)) (listed-length g (a .length) (e .1) (At-∈ (fullList g (a .length)) (e .0 - 0) (numbered-∈ 0 (fullList g (a .length)) m .1)))))
+  weigh-total : weighIn rules choice (a .length) ≡ totalFor g a
+  unfolding totalFor
+  weigh-total =
+      ap (sumOver (weighs rules choice)) (d .full)
+      ∙ sum-map sentence (weighs rules choice) (fullList g (a .length))
+      ∙ sum-ext (λ t. weighs rules choice (sentence t)) (λ t. bit (suits a t)) (fullList g (a .length))
+      (λ t m. d .weigh (sentence t) (listed-length g (a .length) t m))
 
-  standing-total : length (standing rules choice (a .length)) ≡ totalFor g a
-  standing-total =
-      sym (keep-numbered (stands choice 0) 0 (fullIn rules (a .length)))
-      ∙ ap length standing-at-is
-      ∙ length-map (fittingAt g a) told
-      ∙ fitting-length g a
+  -- the first tickets are the places of what fits
+  heard-barred : take k numbers ≡ barred g h a
+  heard-barred = d .heard ∙ ap (map (λ (e : ℕ × ℕ). e .0)) (fitting-spans g h a)
 
   module _ (room : Room h numbers) where
     heard-count : k ≡ heardOf g h a
     heard-count =
-        sym (length-take-le k numbers (omega (arith, d .few, room (d .diary)))) ∙ ap length (d .heard) ∙ sym (heard-length g h a (d .diary) (d .clear))
+        sym (length-take-le k numbers (omega (arith, d .few, room (d .diary)))) ∙ ap length heard-barred ∙ sym (heard-length g h a (d .diary) (d .clear))
 
     -- there are no more of them than derivations
-    pub heard-few : (t : ℕ) → t ≡ length (standing rules choice (a .length)) → k ≤ t
-    heard-few t e = omega (arith, standing-total, heard-count, heard-length g h a (d .diary) (d .clear), unheard-all g h a)
+    pub heard-few : (t : ℕ) → t ≡ weighIn rules choice (a .length) → k ≤ t
+    heard-few t e = omega (arith, weigh-total, heard-count, heard-length g h a (d .diary) (d .clear), unheard-all g h a)
 
 -- ---- *Left*
 
@@ -315,108 +276,141 @@ module _ (g h : List ℕ) (a : Question) where
   left-refused k e l = rw (← e) (sym (answer-refused k (totalFor g a ∷ heardOf g h a ∷ leftOf g h a ∷ []) [] [] l))
 
   pub left-counted : {rules totals choice : List (List ℕ)} {numbers : List ℕ} {k : ℕ} → Drawable g h a rules totals choice numbers k → Room h numbers
-      → (t : ℕ) → t ≡ length (standing rules choice (a .length)) → given (t ∷ k ∷ (t - k) ∷ []) [] ≡ remainingTo g h a
+      → (t : ℕ) → t ≡ weighIn rules choice (a .length) → given (t ∷ k ∷ (t - k) ∷ []) [] ≡ remainingTo g h a
   unfolding remainingTo
   left-counted d room t e =
-      rw (e ∙ standing-total d, heard-count d room)
+      rw (e ∙ weigh-total d, heard-count d room)
       (sym (answer-accepted (totalFor g a ∷ heardOf g h a ∷ leftOf g h a ∷ []) [] [] (d .passed)))
 
--- ---- *Draw*, from the struck places
+-- ---- *Draw*, from the heard derivations' tickets
 
-module _ {rules totals choice : List (List ℕ)} {heard : List ℕ} {n : ℕ} (s : DrawSought rules totals choice n heard) where
-  -- what is struck and what isn't make what stands
-  kept-all : length (keep (λ (e : ℕ × List ℕ). s .unheard (e .1)) (standingAt rules choice n)) + length heard ≡ length (standing rules choice n)
-  kept-all =
+-- what is struck weighs no more than all
+pub parts-low : (rules choice : List (List ℕ)) (n : ℕ) (unheard : List ℕ → Bool) → sumOver (λ (e : ℕ × ℕ). e .1) (spansIn rules choice n unheard) ≤ weighIn rules choice n
+parts-low rules choice n unheard =
+    omega (
+      arith,
+      tickets-spans (λ (e : ℕ × List ℕ). unheard (e .1)) (λ (e : ℕ × List ℕ). weighs rules choice (e .1)) (numbered 0 (fullIn rules n)),
+      numbered-sum (weighs rules choice) 0 (fullIn rules n),
+    )
+
+-- all tickets together fit in 64 bits
+pub weigh-low : {rules totals choice : List (List ℕ)} {n : ℕ} → Chooses rules totals choice n → weighIn rules choice n ≤ most
+weigh-low {rules} {choice = choice} {n} w =
+    rw (← whole-weigh rules choice n) (w .mapped .fits 0 (grammar.startIn rules) n (start-asked (w .counted)) (whole (w .counted)))
+
+module _ {rules totals choice : List (List ℕ)} {heard sums : List ℕ} {n : ℕ} (s : DrawSought rules totals choice n heard sums) where
+  abbrev U : ℕ × List ℕ → Bool
+  U e = s .unheard (e .1)
+
+  abbrev W : ℕ × List ℕ → ℕ
+  W e = weighs rules choice (e .1)
+
+  abbrev all : List (ℕ × List ℕ)
+  all = numbered 0 (fullIn rules n)
+
+  -- what is struck and what isn't make the whole
+  parts : length (tickets W (keep U all)) + gone (length heard) (heardSpans heard sums) ≡ weighIn rules choice n
+  parts =
       omega (
         arith,
-        ap length (s .struck-are),
-        keep-length (λ (e : ℕ × List ℕ). s .unheard (e .1)) (standingAt rules choice n),
-        keep-numbered (stands choice 0) 0 (fullIn rules n),
+        tickets-spans U W all,
+        ap (sumOver (λ (e : ℕ × ℕ). e .1)) (s .spans-are),
+        gone-all heard sums,
+        numbered-sum (weighs rules choice) 0 (fullIn rules n),
       )
 
-  pub struck-few : length heard ≤ length (standing rules choice n)
-  struck-few = omega (arith, kept-all)
+  -- what the heard ones weigh
+  pub struck-sum : {x : ℕ} → x ≡ passedBy sums (length heard) → (x ≤ weighIn rules choice n) × (x ≡ sumOver (λ (e : ℕ × ℕ). e .1) (heardSpans heard sums))
+  struck-sum e =
+      let z = e ∙ s .told .passed-are (length heard) (omega arith) in
+      (omega (arith, parts), z ∙ gone-all heard sums)
 
-  standing-fits : length (standing rules choice n) ≤ most
-  standing-fits =
-      omega (
-        arith,
-        keep-length (stands choice 0) (fullIn rules n),
-        T-sentences (grammar.ruled rules) (grammar.startIn rules) n,
-        total-fits (s .chooses .counted),
-      )
+  weigh-fits : weighIn rules choice n ≤ most
+  weigh-fits = weigh-low (s .chooses)
 
-  pub skips : {q : ℕ} → q < length (standing rules choice n) - length heard → Skips q heard
+  abbrev rest : ℕ
+  rest = weighIn rules choice n - sumOver (λ (e : ℕ × ℕ). e .1) (heardSpans heard sums)
+
+  pub skips : {q : ℕ} → q < rest → Skips q heard sums
   skips l = record {
-    rising = rw (s .struck-are) (struck-rising (λ (e : ℕ × List ℕ). s .unheard (e .1)) (standingAt rules choice n));
+    told = s .told;
+    apart = rw (s .spans-are) (struck-apart (λ (e : ℕ × List ℕ). U e || eqb (W e) 0) W 0 all);
     few = s .few;
-    fits = omega (arith, standing-fits);
+    fits = omega (arith, weigh-fits, parts, gone-all heard sums);
   }
 
-  skip-inside : (q : ℕ) → q < length (standing rules choice n) - length heard → skip q heard < length (standing rules choice n)
+  skip-inside : (q : ℕ) → q < rest → skipOver q (heardSpans heard sums) < weighIn rules choice n
   skip-inside q l =
-      let k : q < length (keep (λ (e : ℕ × List ℕ). s .unheard (e .1)) (standingAt rules choice n)) = omega (arith, kept-all) in
-      rw (s .struck-are)
-      (omega (arith, keep-numbered (stands choice 0) 0 (fullIn rules n), skip-lt (λ (e : ℕ × List ℕ). s .unheard (e .1)) (standingAt rules choice n) q k))
+      rw (s .spans-are)
+      (omega (arith, spans-lt U W all q (omega (arith, parts, gone-all heard sums)), numbered-sum (weighs rules choice) 0 (fullIn rules n)))
 
-  pub skip-sought : {counts : List (List ℕ)} → Everywhere counts → (q d : ℕ) (out : List ℕ) → q < length (standing rules choice n) - length heard → d ≡ skip q heard → n ≤ length out
+  pub skip-sought : {counts : List (List ℕ)} → Everywhere counts → (q d : ℕ) (out : List ℕ) → q < rest → d ≡ skipOver q (heardSpans heard sums) → n ≤ length out
       → WriteSought rules totals choice counts n d out
   skip-sought every q d out l e m = record { everywhere = every; chooses = s .chooses; inside = rw e (skip-inside q l); room = m }
 
-module _ (rules choice : List (List ℕ)) (n : ℕ) (heard : List ℕ) (q : ℕ) (out : List ℕ) where
+-- without sums they are no more than all
+pub struck-few : {rules totals choice : List (List ℕ)} {heard : List ℕ} {n : ℕ} → DrawSought rules totals choice n heard [] → length heard ≤ weighIn rules choice n
+struck-few {heard = heard} s = struck-sum s (passed-plain (length heard)) .0
+
+module _ (rules choice : List (List ℕ)) (n : ℕ) (heard sums : List ℕ) (q : ℕ) (out : List ℕ) where
   abbrev left : ℕ
-  left = length (standing rules choice n) - length heard
+  left = weighIn rules choice n - sumOver (λ (e : ℕ × ℕ). e .1) (heardSpans heard sums)
 
   abbrev found : ℕ × List ℕ
-  found = getD (standingAt rules choice n) (skip q heard) (0, [])
+  found = getD (ticketsAt rules choice n) (skipOver q (heardSpans heard sums)) (0, [])
 
-  pub skipping-beyond : left ≤ q → refused 16 2 out ≡ drawSkipping rules choice n heard q out
+  pub skipping-beyond : left ≤ q → refused 16 2 out ≡ drawSkipping rules choice n heard sums q out
   unfolding drawSkipping
   skipping-beyond l =
       let e : firstThatApplies ((leb left q, 16) ∷ (ltb (length out) n, 20) ∷ []) ≡ 16 = row-applies 16 _ (le-leb left q l) in
       rw e (sym (answer-refused 16 (left ∷ found .0 ∷ []) out (found .1 ++ drop n out) (lit< tt)))
 
-  pub skipping-short : q < left → length out < n → refused 20 2 out ≡ drawSkipping rules choice n heard q out
+  pub skipping-short : q < left → length out < n → refused 20 2 out ≡ drawSkipping rules choice n heard sums q out
   unfolding drawSkipping
   skipping-short l m =
       let e : firstThatApplies ((leb left q, 16) ∷ (ltb (length out) n, 20) ∷ []) ≡ 20
       = row-passed 16 _ (lt-leb left q l) ∙ row-applies 20 _ (lt-ltb (length out) n m) in
       rw e (sym (answer-refused 20 (left ∷ found .0 ∷ []) out (found .1 ++ drop n out) (lit< tt)))
 
-  pub skipping-written : (l d number : ℕ) (words : List ℕ) → q < left → n ≤ length out → l ≡ left → d ≡ skip q heard
-      → WrittenAs rules choice n d out words number → given (l ∷ number ∷ []) words ≡ drawSkipping rules choice n heard q out
+  pub skipping-written : (l d number weight : ℕ) (words : List ℕ) → q < left → n ≤ length out → l ≡ left → d ≡ skipOver q (heardSpans heard sums)
+      → WrittenAs rules choice n d out words number weight → given (l ∷ number ∷ []) words ≡ drawSkipping rules choice n heard sums q out
   unfolding drawSkipping firstThatApplies
-  skipping-written l d number words h k e f w =
-      let g : getD (standingAt rules choice n) d (0, []) ≡ found = ap (λ (i : ℕ). getD (standingAt rules choice n) i (0, [])) f in
+  skipping-written l d number weight words h k e f w =
+      let g : getD (ticketsAt rules choice n) d (0, []) ≡ found = ap (λ (i : ℕ). getD (ticketsAt rules choice n) i (0, [])) f in
       rw (w .words ∙ ap (λ (x : ℕ × List ℕ). x .1 ++ drop n out) g, e, w .number-is ∙ ap (λ (x : ℕ × List ℕ). x .0) g)
       (sym (answer-accepted (left ∷ found .0 ∷ []) out (found .1 ++ drop n out)
       (row-passed 16 ((ltb (length out) n, 20) ∷ []) (lt-leb left q h) ∙ row-passed 20 [] (le-ltb (length out) n k))))
 
 -- ---- *Draw*, whole
 
+-- without weights the places are the first tickets of what weighs 1
+spans-drawable : {g h : List ℕ} {rules totals choice : List (List ℕ)} {numbers : List ℕ} {a : Question} {k : ℕ} → Drawable g h a rules totals choice numbers k
+    → heardSpans (take k numbers) [] ≡ spansIn rules choice (a .length) (λ s. not (heard h (a .voice) s))
+spans-drawable {g} {h} {rules} {choice = choice} {numbers} {a} {k} d =
+    spans-plain 0 (take k numbers)
+    ∙ ap (map (λ (x : ℕ). (x, 1))) (heard-barred d)
+    ∙ sym (singles (free g h a) 0 (fittingAt g a))
+    ∙ sym (fitting-spans g h a)
+    ∙ sym (spans-told g h (a .length) (a .voice) (fitting a) rules choice (d .full) (d .weigh))
+
 -- the part with the places serves
 pub draw-sought : {g h : List ℕ} {rules totals choice : List (List ℕ)} {numbers : List ℕ} {a : Question} {k : ℕ} → Drawable g h a rules totals choice numbers k → Room h numbers
-    → DrawSought rules totals choice (a .length) (take (k - 0) numbers)
+    → DrawSought rules totals choice (a .length) (take (k - 0) numbers) []
 draw-sought {g} {h} {numbers = numbers} {a = a} {k = k} d room =
     let e : k - 0 ≡ k = omega arith in
     rw e
     (record {
       chooses = d .chooses;
       few = omega (arith, length-take-le k numbers (omega (arith, d .few, room (d .diary))), d .few, known h (d .diary) .sized .few);
+      told = told-plain (take k numbers);
       unheard = λ s. not (heard h (a .voice) s);
-      struck-are = d .heard
-          ∙ ap (map (λ (e : ℕ × ℕ). e .0)) (sym (struck-map told (λ (e : ℕ × List ℕ). not (heard h (a .voice) (e .1))) (λ e. 1) 0 (fittingAt g a)))
-          ∙ ap (struck (λ (e : ℕ × List ℕ). not (heard h (a .voice) (e .1)))) (sym (standing-at-is d));
+      spans-are = spans-drawable d;
     })
 
 module _ (g h : List ℕ) (a : Question) (q : ℕ) (out : List ℕ) where
   -- the lines 16 and 20
   abbrev last : List Row
   last = (leb (leftOf g h a) q, 16) ∷ (ltb (length out) (a .length), 20) ∷ []
-
-  -- an answer by these
-  abbrev drawnAs : ℕ → List ℕ → Answer
-  drawnAs number words = answer last (leftOf g h a ∷ number ∷ []) out (words ++ drop (a .length) out)
 
   pub draw-refused : (k : ℕ) → k ≡ firstThatApplies (remainingRows g h a) → 0 < k
       → refused k 2 out ≡ drawTo g h a q out
@@ -425,59 +419,21 @@ module _ (g h : List ℕ) (a : Question) (q : ℕ) (out : List ℕ) where
       let f : firstThatApplies (remainingRows g h a ++ last) ≡ k = rows-stop (remainingRows g h a) last (omega arith) ∙ sym e in
       rw f (sym (answer-refused k (leftOf g h a ∷ drawn g h a q .number ∷ []) out (sentence (drawn g h a q .tree) ++ drop (a .length) out) l))
 
-  module _ {rules totals choice : List (List ℕ)} {numbers : List ℕ} {k : ℕ} (d : Drawable g h a rules totals choice numbers k) where
-    -- what stands, of those that fit, at the skip
-    abbrev stood : ℕ × Tree
-    stood = getD (fittingAt g a) (skip q (barred g h a)) no-entry
+  -- where none of the lines up to 15 applies, the call reads its answer off the unheard list
+  pub draw-unheard : firstThatApplies (remainingRows g h a) ≡ 0 → leftOf g h a ≡ length (unheard g h a) → drawTo g h a q out ≡ drawFrom (a .length) q out (unheard g h a)
+  unfolding drawTo
+  draw-unheard passed left-is =
+      ap (λ (r : ℕ). answerOf r (leftOf g h a ∷ drawn g h a q .number ∷ []) out (sentence (drawn g h a q .tree) ++ drop (a .length) out))
+      (rows-pass (remainingRows g h a) last refl passed)
+      ∙ ap (λ (m : ℕ). answer ((leb m q, 16) ∷ (ltb (length out) (a .length), 20) ∷ []) (m ∷ drawn g h a q .number ∷ []) out (sentence (drawn g h a q .tree) ++ drop (a .length) out))
+      left-is
 
-    draw-is : drawTo g h a q out ≡ drawnAs (stood .0) (sentence (stood .1))
-    unfolding drawTo
-    draw-is =
-        ap (λ (r : ℕ). answerOf r (leftOf g h a ∷ drawn g h a q .number ∷ []) out (sentence (drawn g h a q .tree) ++ drop (a .length) out))
-        (rows-pass (remainingRows g h a) last refl (d .passed))
-        ∙ ap (λ (e : Entry). drawnAs (e .number) (sentence (e .tree))) (unheard-at g h a q)
-
-    -- what the code finds there
-    abbrev told-at : ℕ × List ℕ
-    told-at = getD (standingAt rules choice (a .length)) (skip q (barred g h a)) (0, [])
-
-    skipping-is : drawSkipping rules choice (a .length) (barred g h a) q out ≡ drawnAs (told-at .0) (told-at .1)
-    unfolding drawSkipping
-    skipping-is =
-        ap (λ (t : ℕ). answer ((leb (t - length (barred g h a)) q, 16) ∷ (ltb (length out) (a .length), 20) ∷ []) ((t - length (barred g h a)) ∷ told-at .0 ∷ []) out
-        (told-at .1 ++ drop (a .length) out))
-        (standing-total d)
-        ∙ ap (λ (c : ℕ). answer ((leb (totalFor g a - c) q, 16) ∷ (ltb (length out) (a .length), 20) ∷ []) ((totalFor g a - c) ∷ told-at .0 ∷ []) out
-        (told-at .1 ++ drop (a .length) out))
-        (sym (heard-length g h a (d .diary) (d .clear)))
-
-    -- past the end both are refused, and before it the unheard list's entry is what the skip finds
-    pub draw-skipping : drawSkipping rules choice (a .length) (take (k - 0) numbers) q out ≡ drawTo g h a q out
-    draw-skipping =
-        let e : k - 0 ≡ k = omega arith in
-        ap (λ (j : ℕ). drawSkipping rules choice (a .length) (take j numbers) q out) e
-        ∙ ap (λ (l : List ℕ). drawSkipping rules choice (a .length) l q out) (d .heard)
-        ∙ skipping-is
-        ∙ both
-        ∙ sym draw-is
-      where
-        inside : (leftOf g h a ≤ q → ⊥) → skip q (barred g h a) < length (fittingAt g a)
-        inside b =
-            let all = keep-length (free g h a) (fittingAt g a) in
-            let few = heard-length g h a (d .diary) (d .clear) in
-            let l : q < length (keep (free g h a) (fittingAt g a)) = omega (arith, fitting-length g a) in
-            skip-lt (free g h a) (fittingAt g a) q l
-
-        both : drawnAs (told-at .0) (told-at .1) ≡ drawnAs (stood .0) (sentence (stood .1))
-        both =
-            elim (decLe (leftOf g h a) q) [
-              | yes b ↦
-                  let e : firstThatApplies last ≡ 16 = row-applies 16 ((ltb (length out) (a .length), 20) ∷ []) (le-leb (leftOf g h a) q b) in
-                  rw e
-                  (answer-refused 16 (leftOf g h a ∷ told-at .0 ∷ []) out (told-at .1 ++ drop (a .length) out) (lit< tt)
-                  ∙ sym (answer-refused 16 (leftOf g h a ∷ stood .0 ∷ []) out (sentence (stood .1) ++ drop (a .length) out) (lit< tt)))
-              | no b ↦
-                  ap (λ (e : ℕ × List ℕ). drawnAs (e .0) (e .1))
-                  (ap (λ (l : List (ℕ × List ℕ)). getD l (skip q (barred g h a)) (0, [])) (standing-at-is d)
-                  ∙ getD-map told (fittingAt g a) (skip q (barred g h a)) no-entry (0, []) (inside b))
-            ]
+  -- and so does the code
+  pub draw-skipping : {rules totals choice : List (List ℕ)} {numbers : List ℕ} {k : ℕ} → Drawable g h a rules totals choice numbers k
+      → drawSkipping rules choice (a .length) (take (k - 0) numbers) [] q out ≡ drawTo g h a q out
+  draw-skipping {rules} {choice = choice} {numbers} {k} d =
+      let e : k - 0 ≡ k = omega arith in
+      ap (λ (j : ℕ). drawSkipping rules choice (a .length) (take j numbers) [] q out) e
+      ∙ drawn-listed g h (a .length) (a .voice) (fitting a) rules choice (d .full) (d .weigh) (take k numbers) [] (spans-drawable d) q out
+      ∙ ap (drawFrom (a .length) q out) (list-plain g h a)
+      ∙ sym (draw-unheard (d .passed) (left-length g h a (d .diary) (d .clear)))

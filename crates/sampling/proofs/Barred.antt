@@ -20,7 +20,7 @@ use Rattle.lists.proofs.Orders.{pairwise-distinct, distinct-le}
 use Rattle.lists.proofs.Tests.{some-∈, ∈-some, none-∈, same-eq, same-refl}
 use Rattle.lists.proofs.Searches.{many-at, place-lt, place-hit, place-only}
 use Rattle.lists.proofs.Struck.{numbered-∈, numbered-sum}
-use Rattle.lists.proofs.Strikes.{keep-∈, ∈-keep, keep-map, keep-keep, keep-many, keep-length, keep-at, sum-keep, keep-pairwise, struck-rising, struck-fails, fails-struck, struck-unique}
+use Rattle.lists.proofs.Strikes.{keep-∈, ∈-keep, keep-map, keep-keep, keep-many, keep-length, keep-at, sum-keep, keep-pairwise, struck-rising, struck-fails, fails-struck}
 use Rattle.grammar.specs.Layout.{start}
 use Rattle.grammar.specs.Chains.{chain}
 use Rattle.grammar.specs.Trees.{Tree, leaf, sentence}
@@ -81,7 +81,7 @@ listed-length g n t m = sentence-length (chain g) (start g) n (sentence t) (Mem�
 abbrev pub entry : ℕ × Tree → Entry
 entry e = record { number = e .0; tree = e .1 }
 
-entries-are : (d : ℕ) (l : List Tree) → entriesFrom d l ≡ map entry (numbered d l)
+pub entries-are : (d : ℕ) (l : List Tree) → entriesFrom d l ≡ map entry (numbered d l)
 entries-are d [] = refl
 entries-are d (t ∷ l) = rw (entries-are (suc d) l)
 
@@ -245,18 +245,6 @@ module _ (g h : List ℕ) (a : Question) (diary : history.Accepted h) where
         let m = ∈-length s (not-false (heard h (a .voice) s) e) (q .0) in
         let one : readingsOf g s ≡ 1 = omega (arith, few-readings s m, entry-read g a i l) in
         (s, m, q .1, one, sym (entry-only g a s (q .0) (q .1) one i l refl))
-
-    -- a rising list of just these places is that of the struck ones
-    pub collected : (l : List ℕ) → Pairwise _<_ l
-        → ((d : ℕ) → d ∈ l → (s : List ℕ) × (s ∈ ofLength h a) × (matches (a .pattern) s ≡ true) × (readingsOf g s ≡ 1) × (placeOf g a s ≡ d))
-        → ((s : List ℕ) → s ∈ ofLength h a → matches (a .pattern) s ≡ true → readingsOf g s ≡ 1 → placeOf g a s ∈ l)
-        → l ≡ barred g h a
-    collected l rising from into =
-        struck-unique (free g h a) (fittingAt g a) no-entry l rising
-        (λ d. (
-          λ m. let q = from d m in rw (← q .4) (place-fails (q .0) (q .1) (q .2) (q .3)),
-          λ p. let q = fails-place d (p .0) (p .1) in Memᴰ·cast (sym (q .4)) (into (q .0) (q .1) (q .2) (q .3)),
-        ))
 
     -- ---- what *Left* counts
 

@@ -34,20 +34,20 @@ use Rattle.sampling.proofs.Barred.{distinct-∈, listed-length, entry, 
 use Rattle.sampling.proofs.Premises.{premises}
 use Rattle.sampling.proofs.Demand3.{entries-∈, demand-3}
 
--- ---- byte after byte
+-- ---- byte after byte, by a test that each of a run of bytes has to fail
 
-module _ (W p : ℕ) (pattern : List ℕ) where
-  step : p < length pattern → someOf (neither W) (drop p pattern) ≡ (neither W (getD pattern p 0) || someOf (neither W) (drop (suc p) pattern))
-  step h = ap (someOf (neither W)) (drop-cons pattern p 0 h)
+module _ (P : ℕ → Bool) (p : ℕ) (bytes : List ℕ) where
+  step : p < length bytes → someOf P (drop p bytes) ≡ (P (getD bytes p 0) || someOf P (drop (suc p) bytes))
+  step h = ap (someOf P) (drop-cons bytes p 0 h)
 
-  pub bad-here : p < length pattern → neither W (getD pattern p 0) ≡ true → someOf (neither W) (drop p pattern) ≡ true
+  pub bad-here : p < length bytes → P (getD bytes p 0) ≡ true → someOf P (drop p bytes) ≡ true
   bad-here h e = step h ∙ rw e
 
-  pub bad-later : p < length pattern → neither W (getD pattern p 0) ≡ false → someOf (neither W) (drop (suc p) pattern) ≡ someOf (neither W) (drop p pattern)
+  pub bad-later : p < length bytes → P (getD bytes p 0) ≡ false → someOf P (drop (suc p) bytes) ≡ someOf P (drop p bytes)
   bad-later h e = sym (step h ∙ rw e)
 
-  pub bad-none : length pattern ≤ p → someOf (neither W) (drop p pattern) ≡ false
-  bad-none h = ap (someOf (neither W)) (drop-of-length-le pattern h)
+  pub bad-none : length bytes ≤ p → someOf P (drop p bytes) ≡ false
+  bad-none h = ap (someOf P) (drop-of-length-le bytes h)
 
 -- ---- two patterns that the same sentences of a length fit
 

@@ -3,21 +3,25 @@
 -- Assumes nothing.
 use mathlib.Core.Path.{_≡_, refl, sym, ap, _∙_}
 use mathlib.Core.Bool.{Bool, true, false, cond, _&&_, _||_}
-use mathlib.Core.List.{List, [], _∷_, _++_, map, append-nil, append-assoc}
+use mathlib.Core.List.{List, [], _∷_, _++_, map, append-nil, append-assoc, Memᴰ·cast}
 use Prim.Native.Nat.{ℕ, suc, _+_, _≤_, _<_}
 use native.Mathlib.Omega.{arith}
 use native.Mathlib.Numerals.{add-one}
 use borrow.Author.Tests.{eq-eqb, ne-eqb, le-leb, lt-leb}
-use lib.ListN.{length, set, take, length-set}
+use lib.ListN.{length, getD, set, take, length-set}
 use lib.Seq.{take-suc-set}
-use lib.Dec.{leb, eqb}
-use Rattle.lists.specs.Joined.{concatMap}
+use lib.Dec.{ltb, leb, eqb}
+use Rattle.lists.specs.Joined.{_∈_, concatMap}
 use Rattle.lists.specs.Searched.{someOf, firstPlace, same, keep}
+use Rattle.lists.specs.Inner.Tickets.{firstTicket}
+use Rattle.lists.proofs.Members.{getD-∈}
+use Rattle.lists.proofs.Tests.{same-eq}
+use Rattle.lists.proofs.Searches.{place-lt, place-hit}
 use Rattle.charts.specs.Inner.Letters.{stands}
 use Rattle.charts.specs.Inner.Maps.{Fitted}
 use Rattle.charts.specs.Inner.Plan.{lengthIn}
 use Rattle.charts.proofs.Mapping.{mapped-kept, clean-start}
-use Rattle.ranking.specs.Inner.Inside.{readingsIn, fullIn, placeIn}
+use Rattle.ranking.specs.Inner.Inside.{readingsIn, fullIn, weighs, placeIn}
 use Rattle.ranking.specs.Inner.Ranking.{FindSought, FoundAs, PlaceSought}
 use Rattle.ranking.proofs.Finding.{place-asks}
 use Rattle.history.specs.Layout.{recordsOf, headOf, recordWords}
@@ -37,21 +41,21 @@ use Rattle.sampling.specs.declared.heard.Collected.the-variants.{Numbers
 
 -- ---- what a sentence adds
 
-module _ (rules : List (List ℕ)) (P : List ℕ → Bool) (n : ℕ) (s : List ℕ) where
-  other-none : (length s ≡ n → ⊥) → Adds rules P n s Nothing
+module _ (rules : List (List ℕ)) (u : List ℕ → ℕ) (n : ℕ) (s : List ℕ) where
+  other-none : (length s ≡ n → ⊥) → Adds rules u n s Nothing
   other-none h = let e = ne-eqb (length s) n h in (rw e, rw e)
 
   module _ (e : length s ≡ n) where
     l : eqb (length s) n ≡ true
     l = eq-eqb (length s) n e
 
-    read-none : readingsIn rules s ≡ 0 → Adds rules P n s Nothing
+    read-none : readingsIn rules s ≡ 0 → Adds rules u n s Nothing
     read-none z =
         let m = lt-leb 2 (readingsIn rules s) (omega arith) in
         let o = ne-eqb (readingsIn rules s) 1 (λ f. omega arith) in
         (rw (l, m), rw (l, o))
 
-    read-many : 2 ≤ readingsIn rules s → Adds rules P n s Many
+    read-many : 2 ≤ readingsIn rules s → Adds rules u n s Many
     read-many h = rw (l, le-leb 2 (readingsIn rules s) h)
 
     module _ (z : readingsIn rules s ≡ 1) where
@@ -61,17 +65,25 @@ module _ (rules : List (List ℕ)) (P : List ℕ → Bool) (n : ℕ) (s : List �
       o : eqb (readingsIn rules s) 1 ≡ true
       o = eq-eqb (readingsIn rules s) 1 z
 
-      read-one : P s ≡ true → Adds rules P n s (Place (firstPlace (λ u. same u s) (keep P (fullIn rules n))))
+      read-one : ltb 0 (u s) ≡ true → Adds rules u n s (Place (firstTicket u (λ t. same t s) (fullIn rules n)))
       read-one p = (rw (l, m), rw (l, o, p))
 
-      read-unfit : P s ≡ false → Adds rules P n s Nothing
+      read-unfit : ltb 0 (u s) ≡ false → Adds rules u n s Nothing
       read-unfit p = (rw (l, m), rw (l, o, p))
 
 -- ---- one sentence
 
+-- a sentence with a derivation is listed
+listed-read : (rules : List (List ℕ)) (s : List ℕ) → 1 ≤ readingsIn rules s → s ∈ fullIn rules (length s)
+listed-read rules s h =
+    let f = fullIn rules (length s) in
+    let i = place-lt (λ t. same t s) f h in
+    let e = same-eq (getD f (firstPlace (λ t. same t s) f) []) s (place-hit (λ t. same t s) f [] h) in
+    Memᴰ·cast (sym e) (getD-∈ f (firstPlace (λ t. same t s) f) [] i)
+
 module _ {rules plan map measure : List (List ℕ)} {sets : List ℕ} {totals : List (List ℕ)} (w : Serves rules plan map measure sets totals) {s : List ℕ} where
   pub heard-other : (length s ≡ lengthIn plan → ⊥) → HeardFoundAs rules plan map measure s sets totals Nothing
-  heard-other f = record { adds = other-none rules (stands measure 0) (lengthIn plan) s f; serves = w }
+  heard-other f = record { adds = other-none rules (weighs rules measure) (lengthIn plan) s f; serves = w }
 
   module _ (e : length s ≡ lengthIn plan) where
     pub heard-sought : FindSought rules plan map (w .first) s sets totals
@@ -88,37 +100,42 @@ module _ {rules plan map measure : List (List ℕ)} {sets : List ℕ} {totals : 
           record {
             mapped = mapped-kept totals′ (q .filled .long) (λ p j c. q .filled .kept _ (λ l u. omega (arith, m .rows p j c))) (m .mapped);
             rows = m .rows;
-            letters = m .letters;
+            weights = m .weights;
+            stand = m .stand;
             plain = m .plain;
           }
 
       serves : Serves rules plan map′ measure sets′ totals′
       serves = record { first = w .first; ready = rw e at (q .ready); clean = rw e at (q .clean); measures = measures }
 
-      found : {f : Added} → Adds rules (stands measure 0) (lengthIn plan) s f → HeardFoundAs rules plan map′ measure s sets′ totals′ f
+      found : {f : Added} → Adds rules (weighs rules measure) (lengthIn plan) s f → HeardFoundAs rules plan map′ measure s sets′ totals′ f
       found adds = record { adds = adds; serves = serves }
 
       pub heard-many : 2 ≤ k → HeardFoundAs rules plan map′ measure s sets′ totals′ Many
-      heard-many h = found (read-many rules (stands measure 0) (lengthIn plan) s e (omega (arith, q .derivations)))
+      heard-many h = found (read-many rules (weighs rules measure) (lengthIn plan) s e (omega (arith, q .derivations)))
 
       pub heard-none : k ≡ 0 → HeardFoundAs rules plan map′ measure s sets′ totals′ Nothing
-      heard-none h = found (read-none rules (stands measure 0) (lengthIn plan) s e (sym (q .derivations) ∙ h))
+      heard-none h = found (read-none rules (weighs rules measure) (lengthIn plan) s e (sym (q .derivations) ∙ h))
 
       module _ (few : k < 2) (some : k ≡ 0 → ⊥) where
         one : readingsIn rules s ≡ 1
         one = omega (arith, q .derivations)
 
-        pub heard-unfit : stands measure 0 s ≡ false → HeardFoundAs rules plan map′ measure s sets′ totals′ Nothing
-        heard-unfit p = found (read-unfit rules (stands measure 0) (lengthIn plan) s e one p)
+        -- it is listed, and so weighs something if it stands
+        weigh : stands measure 0 s ≡ ltb 0 (weighs rules measure s)
+        weigh = w .measures .stand s (rw e at (listed-read rules s (omega (arith, one))))
 
-        pub heard-asks : stands measure 0 s ≡ true → PlaceSought rules totals′ map′ measure (length s) s
-        heard-asks p = place-asks q (omega arith) (rw e (measures .mapped)) (rw e (measures .letters)) p
+        pub heard-unfit : stands measure 0 s ≡ false → HeardFoundAs rules plan map′ measure s sets′ totals′ Nothing
+        heard-unfit p = found (read-unfit rules (weighs rules measure) (lengthIn plan) s e one (sym weigh ∙ p))
+
+        pub heard-asks : PlaceSought rules totals′ map′ measure (length s) s
+        heard-asks = place-asks q (omega arith) (rw e (measures .mapped)) (rw e (measures .weights))
 
         pub heard-place : stands measure 0 s ≡ true → {d : ℕ} → d ≡ placeIn rules measure s → HeardFoundAs rules plan map′ measure s sets′ totals′ (Place d)
         heard-place p {d} h =
-            let z : placeIn rules measure s ≡ firstPlace (λ u. same u s) (keep (stands measure 0) (fullIn rules (lengthIn plan)))
-            = ap (λ (n : ℕ). firstPlace (λ u. same u s) (keep (stands measure 0) (fullIn rules n))) e in
-            rw (h ∙ z) (found (read-one rules (stands measure 0) (lengthIn plan) s e one p))
+            let z : placeIn rules measure s ≡ firstTicket (weighs rules measure) (λ t. same t s) (fullIn rules (lengthIn plan))
+            = ap (λ (n : ℕ). firstTicket (weighs rules measure) (λ t. same t s) (fullIn rules n)) e in
+            rw (h ∙ z) (found (read-one rules (weighs rules measure) (lengthIn plan) s e one (sym weigh ∙ p)))
 
 -- ---- the whole chain
 
@@ -139,23 +156,23 @@ abbrev pub toCome : (h : List ℕ) (v : ℕ) (r : ℕ) → List (List ℕ)
 toCome h v r = map (recordWords h) (keep (makesHeard h v) (numbersFrom h r))
 
 -- the numbers that they add, and whether one of them has two or more derivations
-abbrev pub numbersDue : (rules : List (List ℕ)) (P : List ℕ → Bool) (h : List ℕ) (n v r : ℕ) → List ℕ
-numbersDue rules P h n v r = concatMap (numbersIn rules P n) (toCome h v r)
+abbrev pub numbersDue : (rules : List (List ℕ)) (u : List ℕ → ℕ) (h : List ℕ) (n v r : ℕ) → List ℕ
+numbersDue rules u h n v r = concatMap (numbersIn rules u n) (toCome h v r)
 
 abbrev pub manyDue : (rules : List (List ℕ)) (h : List ℕ) (n v r : ℕ) → Bool
 manyDue rules h n v r = someOf (manyIn rules n) (toCome h v r)
 
 -- before the record `at`, with the first `count` numbers found
-pub record Collecting (rules : List (List ℕ)) (P : List ℕ → Bool) (h : List ℕ) (n v : ℕ) (numbers : List ℕ) (at count : ℕ) : Type 0 where
-  pub due : take count numbers ++ numbersDue rules P h n v at ≡ allNumbersIn rules P h n v
+pub record Collecting (rules : List (List ℕ)) (u : List ℕ → ℕ) (h : List ℕ) (n v : ℕ) (numbers : List ℕ) (at count : ℕ) : Type 0 where
+  pub due : take count numbers ++ numbersDue rules u h n v at ≡ allNumbersIn rules u h n v
   pub many : manyDue rules h n v at ≡ ambiguousIn rules h n v
   pub room : count + length (numbersFrom h at) ≤ recordsOf h
   pub long : recordsOf h ≤ length numbers
   pub low : at ≤ recordsOf h
 
-pub collect-start : (rules : List (List ℕ)) (P : List ℕ → Bool) (h : List ℕ) (n v : ℕ) (numbers : List ℕ) → Accepted h → recordsOf h ≤ length numbers → {at : ℕ}
-    → at ≡ headOf h → Collecting rules P h n v numbers at 0
-collect-start rules P h n v numbers diary long e =
+pub collect-start : (rules : List (List ℕ)) (u : List ℕ → ℕ) (h : List ℕ) (n v : ℕ) (numbers : List ℕ) → Accepted h → recordsOf h ≤ length numbers → {at : ℕ}
+    → at ≡ headOf h → Collecting rules u h n v numbers at 0
+collect-start rules u h n v numbers diary long e =
     let all = chained h diary .many in
     rw e
     (record {
@@ -166,14 +183,14 @@ collect-start rules P h n v numbers diary long e =
       low = known h diary .head;
     })
 
-module _ {rules : List (List ℕ)} {P : List ℕ → Bool} {h : List ℕ} {n v : ℕ} {numbers : List ℕ} {at count : ℕ} (w : Collecting rules P h n v numbers at count) (diary : Accepted h) where
+module _ {rules : List (List ℕ)} {u : List ℕ → ℕ} {h : List ℕ} {n v : ℕ} {numbers : List ℕ} {at count : ℕ} (w : Collecting rules u h n v numbers at count) (diary : Accepted h) where
   -- at the end
-  pub collect-end : at ≡ 0 → CollectedIs rules P h n v numbers (Numbers count)
+  pub collect-end : at ≡ 0 → CollectedIs rules u h n v numbers (Numbers count)
   collect-end z =
       let e : toCome h v at ≡ [] = ap (λ (l : List ℕ). map (recordWords h) (keep (makesHeard h v) l)) (numbers-zero h diary at z) in (
         sym (w .many) ∙ ap (someOf (manyIn rules n)) e,
         omega (arith, w .room),
-        sym (append-nil (take count numbers)) ∙ ap (λ (l : List (List ℕ)). take count numbers ++ concatMap (numbersIn rules P n) l) (sym e) ∙ w .due,
+        sym (append-nil (take count numbers)) ∙ ap (λ (l : List (List ℕ)). take count numbers ++ concatMap (numbersIn rules u n) l) (sym e) ∙ w .due,
       )
 
   -- a record more
@@ -212,15 +229,15 @@ module _ {rules : List (List ℕ)} {P : List ℕ → Bool} {h : List ℕ} {n v :
         go false = refl
 
     -- the numbers that it adds stand behind those so far
-    behind : (k : List ℕ) → manyDue rules h n v at ≡ manyDue rules h n v (nextAt h at) → numbersDue rules P h n v at ≡ k ++ numbersDue rules P h n v (nextAt h at)
+    behind : (k : List ℕ) → manyDue rules h n v at ≡ manyDue rules h n v (nextAt h at) → numbersDue rules u h n v at ≡ k ++ numbersDue rules u h n v (nextAt h at)
         → length k ≤ 1 → {next count′ : ℕ} {numbers′ : List ℕ} → next ≡ nextAt h at → count′ ≡ count + length k
         → take count′ numbers′ ≡ take count numbers ++ k → length numbers′ ≡ length numbers
-        → Collecting rules P h n v numbers′ next count′
+        → Collecting rules u h n v numbers′ next count′
     behind k many adds few e c front kept =
         rw e
         (record {
-          due = ap (λ (l : List ℕ). l ++ numbersDue rules P h n v (nextAt h at)) front
-              ∙ append-assoc (take count numbers) k (numbersDue rules P h n v (nextAt h at))
+          due = ap (λ (l : List ℕ). l ++ numbersDue rules u h n v (nextAt h at)) front
+              ∙ append-assoc (take count numbers) k (numbersDue rules u h n v (nextAt h at))
               ∙ ap (λ (l : List ℕ). take count numbers ++ l) (sym adds)
               ∙ w .due;
           many = sym many ∙ w .many;
@@ -230,10 +247,10 @@ module _ {rules : List (List ℕ)} {P : List ℕ → Bool} {h : List ℕ} {n v :
         })
 
     -- it makes nothing heard
-    pub collect-unheard : {b : Bool} → b ≡ makesHeard h v at → b ≡ false → {next : ℕ} → next ≡ nextAt h at → Collecting rules P h n v numbers next count
+    pub collect-unheard : {b : Bool} → b ≡ makesHeard h v at → b ≡ false → {next : ℕ} → next ≡ nextAt h at → Collecting rules u h n v numbers next count
     collect-unheard makes fails e =
         let f = first (sym fails ∙ makes) in
-        behind [] (ap (someOf (manyIn rules n)) f) (ap (concatMap (numbersIn rules P n)) f) (omega arith) e (omega arith)
+        behind [] (ap (someOf (manyIn rules n)) f) (ap (concatMap (numbersIn rules u n)) f) (omega arith) e (omega arith)
         (sym (append-nil (take count numbers))) refl
 
     -- it makes its sentence heard, which was read
@@ -243,24 +260,24 @@ module _ {rules : List (List ℕ)} {P : List ℕ → Bool} {h : List ℕ} {n v :
           first (sym passes ∙ makes)
           ∙ ap (λ (x : List ℕ). x ∷ toCome h v (nextAt h at)) (sym (read ∙ read-words h at diary (collect-inside .low) (w .low)))
 
-      pub collect-many : Adds rules P n s Many → (numbers′ : List ℕ) → CollectedIs rules P h n v numbers′ Ambiguous
+      pub collect-many : Adds rules u n s Many → (numbers′ : List ℕ) → CollectedIs rules u h n v numbers′ Ambiguous
       collect-many adds numbers′ = sym (w .many) ∙ rw (comes, adds)
 
       -- the sentence adds these
-      added : (k : List ℕ) → manyIn rules n s ≡ false → numbersIn rules P n s ≡ k → length k ≤ 1
+      added : (k : List ℕ) → manyIn rules n s ≡ false → numbersIn rules u n s ≡ k → length k ≤ 1
           → {next count′ : ℕ} {numbers′ : List ℕ} → next ≡ nextAt h at → count′ ≡ count + length k
           → take count′ numbers′ ≡ take count numbers ++ k → length numbers′ ≡ length numbers
-          → Collecting rules P h n v numbers′ next count′
+          → Collecting rules u h n v numbers′ next count′
       added k single numbers-are few =
           behind k
           (ap (someOf (manyIn rules n)) comes ∙ ap (λ (b : Bool). b || manyDue rules h n v (nextAt h at)) single)
-          (ap (concatMap (numbersIn rules P n)) comes ∙ ap (λ (l : List ℕ). l ++ numbersDue rules P h n v (nextAt h at)) numbers-are)
+          (ap (concatMap (numbersIn rules u n)) comes ∙ ap (λ (l : List ℕ). l ++ numbersDue rules u h n v (nextAt h at)) numbers-are)
           few
 
-      pub collect-none : Adds rules P n s Nothing → {next : ℕ} → next ≡ nextAt h at → Collecting rules P h n v numbers next count
+      pub collect-none : Adds rules u n s Nothing → {next : ℕ} → next ≡ nextAt h at → Collecting rules u h n v numbers next count
       collect-none q e = added [] (q .0) (q .1) (omega arith) e (omega arith) (sym (append-nil (take count numbers))) refl
 
-      pub collect-one : {d : ℕ} → Adds rules P n s (Place d) → {next : ℕ} → next ≡ nextAt h at → Collecting rules P h n v (set numbers count d) next (count + 1)
+      pub collect-one : {d : ℕ} → Adds rules u n s (Place d) → {next : ℕ} → next ≡ nextAt h at → Collecting rules u h n v (set numbers count d) next (count + 1)
       collect-one {d} q e =
           added (d ∷ []) (q .0) (q .1) (omega arith) e refl (rw (add-one, take-suc-set numbers count d (omega (arith, collect-room, w .long))) refl) (length-set numbers count d)
 
@@ -274,11 +291,11 @@ serves-start {n = n} {totals = totals} w sets long =
 
 -- what a sentence adds, and what is collected, once its case is known
 pub added-case : {rules plan map measure : List (List ℕ)} {s sets : List ℕ} {totals : List (List ℕ)} {f d : Added} {n : ℕ} → lengthIn plan ≡ n
-    → HeardFoundAs rules plan map measure s sets totals f → f ≡ d → Adds rules (stands measure 0) n s d
+    → HeardFoundAs rules plan map measure s sets totals f → f ≡ d → Adds rules (weighs rules measure) n s d
 added-case long q e = rw (long, e) at (q .adds)
 
 pub collect-case : {rules plan measure : List (List ℕ)} {h : List ℕ} {n v : ℕ} {totals : List (List ℕ)} {numbers : List ℕ} {c d : Collected}
-    → CollectedAs rules plan measure h n v totals numbers c → c ≡ d → CollectedIs rules (stands measure 0) h n v numbers d
+    → CollectedAs rules plan measure h n v totals numbers c → c ≡ d → CollectedIs rules (weighs rules measure) h n v numbers d
 collect-case q e = (rw e at q) .holds
 
 -- the counts and the measure are served to the end

@@ -41,46 +41,9 @@ use Rattle.sampling.specs.Inner.Collect.{fittingAt, barred}
 use Rattle.sampling.specs.Answers.{askedRows, remainingRows, drawn, remainingTo, drawTo}
 use Rattle.sampling.specs.Demand3.{Single, Premises, Worded, shown, asShown, Demand3, Derivable, Once, SameBarred, Alike}
 use Rattle.sampling.proofs.Barred.{listed-length, entry, no-entry, fitting-∈, free, unheard-is, heard-length, heard-exactly, heard-left, left-length}
+use Rattle.sampling.proofs.Listed.{drawFrom, from-beyond, from-accepted, from-refusal, from-passed, from-short}
+use Rattle.sampling.proofs.Answering.{draw-unheard}
 use Rattle.sampling.proofs.Premises.{heard-single, premises-pass, pass-premises}
-
--- ---- what *Draw* reads off the unheard list
-
--- entry q of a list of entries
-abbrev pub entryAt : List Entry → ℕ → Entry
-entryAt l q = getD l q (entry no-entry)
-
--- the lines 16 and 20
-abbrev pub lastRows : (n q : ℕ) (out : List ℕ) (l : List Entry) → List Row
-lastRows n q out l = (leb (length l) q, 16) ∷ (ltb (length out) n, 20) ∷ []
-
--- where l is the unheard list and none of the lines 1 to 15 applies
-abbrev pub drawFrom : (n q : ℕ) (out : List ℕ) (l : List Entry) → Answer
-drawFrom n q out l = answer (lastRows n q out l) (length l ∷ entryAt l q .number ∷ []) out (sentence (entryAt l q .tree) ++ drop n out)
-
-module _ (n q : ℕ) (out : List ℕ) (l : List Entry) where
-  pub from-beyond : length l ≤ q → drawFrom n q out l ≡ refused 16 2 out
-  from-beyond h =
-      let e : firstThatApplies (lastRows n q out l) ≡ 16 = row-applies 16 ((ltb (length out) n, 20) ∷ []) (le-leb (length l) q h) in
-      rw e (answer-refused 16 (length l ∷ entryAt l q .number ∷ []) out (sentence (entryAt l q .tree) ++ drop n out) (omega arith))
-
-  pub from-accepted : firstThatApplies (lastRows n q out l) ≡ 0
-      → drawFrom n q out l ≡ given (length l ∷ entryAt l q .number ∷ []) (sentence (entryAt l q .tree) ++ drop n out)
-  from-accepted e = answer-accepted (length l ∷ entryAt l q .number ∷ []) out (sentence (entryAt l q .tree) ++ drop n out) e
-
-  from-refusal : drawFrom n q out l .refusal ≡ firstThatApplies (lastRows n q out l)
-  from-refusal =
-      answer-number (firstThatApplies (lastRows n q out l)) (length l ∷ entryAt l q .number ∷ []) out (sentence (entryAt l q .tree) ++ drop n out)
-
-  pub from-passed : q < length l → n ≤ length out → firstThatApplies (lastRows n q out l) ≡ 0
-  unfolding firstThatApplies
-  from-passed h k =
-      row-passed 16 ((ltb (length out) n, 20) ∷ []) (lt-leb (length l) q h) ∙ row-passed 20 [] (le-ltb (length out) n k)
-
-  pub from-short : q < length l → length out < n → drawFrom n q out l ≡ refused 20 2 out
-  from-short h k =
-      let e : firstThatApplies (lastRows n q out l) ≡ 20
-      = row-passed 16 ((ltb (length out) n, 20) ∷ []) (lt-leb (length l) q h) ∙ row-applies 20 [] (lt-ltb (length out) n k) in
-      rw e (answer-refused 20 (length l ∷ entryAt l q .number ∷ []) out (sentence (entryAt l q .tree) ++ drop n out) (omega arith))
 
 -- ---- the entries of the unheard list
 
@@ -212,12 +175,7 @@ module _ (g h : List ℕ) (a : Question) (p : Premises g h a) (fitted : Worded g
       ∙ ap (λ (m : ℕ). given (totalFor g a ∷ heardOf g h a ∷ m ∷ []) []) left-is
 
   pub draw-is : (q : ℕ) (out : List ℕ) → drawTo g h a q out ≡ drawFrom (a .length) q out (unheard g h a)
-  unfolding drawTo
-  draw-is q out =
-      ap (λ (r : ℕ). answerOf r (leftOf g h a ∷ drawn g h a q .number ∷ []) out (sentence (drawn g h a q .tree) ++ drop (a .length) out))
-      (rows-pass (remainingRows g h a) ((leb (leftOf g h a) q, 16) ∷ (ltb (length out) (a .length), 20) ∷ []) refl passed)
-      ∙ ap (λ (m : ℕ). answer ((leb m q, 16) ∷ (ltb (length out) (a .length), 20) ∷ []) (m ∷ drawn g h a q .number ∷ []) out (sentence (drawn g h a q .tree) ++ drop (a .length) out))
-      left-is
+  draw-is q out = draw-unheard g h a q out passed left-is
 
   pub draw-accepted : (q : ℕ) (out : List ℕ) → q < length (unheard g h a) → a .length ≤ length out
       → drawTo g h a q out ≡ given (length (unheard g h a) ∷ drawn g h a q .number ∷ []) (sentence (drawn g h a q .tree) ++ drop (a .length) out)
@@ -330,7 +288,7 @@ module _ (g h : List ℕ) (a : Question) (some : 0 < firstThatApplies (remaining
   left-refused =
       answer-refused (firstThatApplies (remainingRows g h a)) (totalFor g a ∷ heardOf g h a ∷ leftOf g h a ∷ []) [] [] some
 
-  draw-refused : (q : ℕ) (out : List ℕ) → drawTo g h a q out ≡ refused (firstThatApplies (remainingRows g h a)) 2 out
+  pub draw-refused : (q : ℕ) (out : List ℕ) → drawTo g h a q out ≡ refused (firstThatApplies (remainingRows g h a)) 2 out
   unfolding drawTo
   draw-refused q out =
       ap (λ (r : ℕ). answerOf r (leftOf g h a ∷ drawn g h a q .number ∷ []) out (sentence (drawn g h a q .tree) ++ drop (a .length) out))
@@ -350,7 +308,7 @@ module _ (g h h′ : List ℕ) (a : Question) (bars : SameBarred g h h′ a) whe
   barred-same : barred g h a ≡ barred g h′ a
   barred-same = struck-ext (free g h a) (free g h′ a) (fittingAt g a) (λ e m. outside-same (e .1) (fitting-∈ g a e m .1))
 
-  unheard-same : unheard g h a ≡ unheard g h′ a
+  pub unheard-same : unheard g h a ≡ unheard g h′ a
   unfolding unheard
   unheard-same =
       keep-ext (λ (e : Entry). wanted g h a (e .tree)) (λ (e : Entry). wanted g h′ a (e .tree)) (entriesFrom 0 (fullList g (a .length)))
@@ -365,7 +323,7 @@ module _ (g h h′ : List ℕ) (a : Question) (diary : history.Accepted h) (diar
   back s l = (bars s l .1, bars s l .0)
 
   -- line 15 applies to both or to neither
-  ambiguous-same : ambiguous g h a ≡ ambiguous g h′ a
+  pub ambiguous-same : ambiguous g h a ≡ ambiguous g h′ a
   ambiguous-same =
       let c = heard-single g h a diary in
       let b = heard-single g h′ a diary′ in

@@ -184,7 +184,7 @@ total-four = refl
 left-three : leftOf F heard01 (plainly 2 0) ≡ 3
 left-three = omega (arith, heard-one, total-four)
 
-unheard-three : unheard F heard01 (plainly 2 0)
+pub unheard-three : unheard F heard01 (plainly 2 0)
     ≡ record { number = 0; tree = node 0 (leaf 0 0) (leaf 0 0) }
     ∷ record { number = 2; tree = node 0 (leaf 1 1) (leaf 0 0) }
     ∷ record { number = 3; tree = node 0 (leaf 1 1) (leaf 1 1) }

@@ -1,5 +1,7 @@
 -- The laws of *Left* and *Draw*, and demand 3.
 pub mod Barred
+pub mod Spans
+pub mod Listed
 pub mod Skipping
 pub mod Collect
 pub mod Readying

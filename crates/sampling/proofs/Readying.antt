@@ -10,19 +10,22 @@ use native.Mathlib.Omega.{arith}
 use native.Mathlib.Decide.{ℕ-discrete, decLe}
 use borrow.Author.Tests.{eqb-true, eq-eqb, ne-eqb, le-leb, lt-leb}
 use lib.ListN.{length, getD, replicate, length-replicate}
-use lib.Dec.{leb, eqb}
-use Rattle.lists.specs.Searched.{firstPlace, same, keep}
+use lib.Dec.{ltb, leb, eqb}
+use Rattle.lists.specs.Joined.{_∈_}
+use Rattle.lists.specs.Searched.{bit, same}
+use Rattle.lists.specs.Inner.Tickets.{firstTicket}
 use Rattle.lists.specs.Inner.Tables.{entry, Wide, CopiedAs}
 use Rattle.lists.proofs.Sums.{concat-ext}
 use Rattle.lists.proofs.Tests.{some-ext}
-use Rattle.lists.proofs.Strikes.{keep-ext}
+use Rattle.lists.proofs.Searches.{first-ext}
 use Rattle.lists.proofs.Tables.{copied-wide, wide-made, made-entry}
 use Rattle.grammar.specs.Inner.Rules.{startIn, ruled}
 use Rattle.grammar.proofs.Kept.{ruled-same, ruled-kept}
 use Rattle.counting.specs.Inner.Counted.{Counted}
 use Rattle.counting.proofs.Asking.{counted-copied, counted-kept}
 use Rattle.counting.proofs.Sentences.{sentence-length}
-use Rattle.charts.specs.Inner.Letters.{any, letterAt, letterOf, stands}
+use Rattle.counting.specs.Inner.Letters.{any}
+use Rattle.charts.specs.Inner.Letters.{letterAt, letterOf, admits, stands}
 use Rattle.charts.specs.Inner.Maps.{rowAt, Span, countsMap, LetteredAs}
 use Rattle.charts.specs.Inner.Plan.{lengthIn, needed, chartRow, endOf, Planned}
 use Rattle.charts.specs.Inner.Planning.{PlacedAs}
@@ -30,20 +33,20 @@ use Rattle.charts.specs.Inner.Chart.{Fills, ChartedAs}
 use Rattle.charts.specs.Inner.Ready.{Ready as Readied, Readies, ReadiedAs}
 use Rattle.charts.proofs.Mapping.{counts-map, everywhere-mapped, planned-closed, planned-same, filled-blank, letter-low, clean-start}
 use Rattle.charts.proofs.Placing.{room-short, room-low, placed-rows}
-use Rattle.ranking.specs.Inner.Inside.{fullIn, readingsIn}
+use Rattle.ranking.specs.Inner.Inside.{fullIn, readingsIn, weighs}
 use Rattle.ranking.specs.Inner.Ranking.{Roomy}
-use Rattle.ranking.proofs.Weighing.{any-stands}
+use Rattle.ranking.proofs.Weighing.{any-stands, stands-is, listed-long}
 use Rattle.history.specs.Heard.{sentencesIn}
 use Rattle.sampling.specs.Pattern.{matches}
 use Rattle.sampling.specs.Question.{Question, plainly}
 use Rattle.sampling.specs.Unheard.{ofLength}
-use Rattle.sampling.specs.Inner.Collect.{numbersIn, ambiguousIn, allNumbersIn, Collects, Still}
+use Rattle.sampling.specs.Inner.Collect.{fitting, numbersIn, ambiguousIn, allNumbersIn, Collects, Still}
 use Rattle.sampling.specs.Inner.Patterns.{behindOf, ChartSought, PatternChartedAs, Choice}
 use Rattle.sampling.specs.Inner.Preparing.{Hold, NumbersBy, NumbersSought, NumbersAs, FittingSought, FittedAs}
 use Rattle.sampling.specs.declared.prepare.Sampled.{Sampled}
 use Rattle.sampling.specs.declared.prepare.Sampled.the-variants.{Ready, Refused}
 
--- ---- the same rules, and tests that agree
+-- ---- the same rules, and weights that agree
 
 module _ (rules after : List (List ℕ)) (same-rows : (q : ℕ) → q < 4 → getD after q [] ≡ getD rules q []) where
   pub full-same : (n : ℕ) → fullIn after n ≡ fullIn rules n
@@ -54,33 +57,33 @@ module _ (rules after : List (List ℕ)) (same-rows : (q : ℕ) → q < 4 → ge
   readings-same : (s : List ℕ) → readingsIn after s ≡ readingsIn rules s
   readings-same s = rw (full-same (length s))
 
-  module _ {P Q : List ℕ → Bool} {n : ℕ} (agree : (s : List ℕ) → length s ≡ n → P s ≡ Q s) where
-    kept-same : keep P (fullIn after n) ≡ keep Q (fullIn rules n)
-    kept-same =
-        ap (keep P) (full-same n)
-        ∙ keep-ext P Q (fullIn rules n) (λ s m. agree s (sentence-length (ruled rules) (startIn rules) n s m))
+  module _ {u w : List ℕ → ℕ} {n : ℕ} (agree : (s : List ℕ) → length s ≡ n → u s ≡ w s) where
+    first-same : (s : List ℕ) → firstTicket u (λ t. same t s) (fullIn after n) ≡ firstTicket w (λ t. same t s) (fullIn rules n)
+    first-same s =
+        ap (firstTicket u (λ t. same t s)) (full-same n)
+        ∙ first-ext (λ t. same t s) u w (fullIn rules n) (λ t m. agree t (sentence-length (ruled rules) (startIn rules) n t m))
 
-    added-same : (s : List ℕ) → numbersIn after P n s ≡ numbersIn rules Q n s
+    added-same : (s : List ℕ) → numbersIn after u n s ≡ numbersIn rules w n s
     added-same s =
-        ap (λ (l : List (List ℕ)). cond (eqb (length s) n && (eqb (readingsIn after s) 1 && P s)) (firstPlace (λ u. same u s) l ∷ []) []) kept-same
-        ∙ ap (λ (k : ℕ). cond (eqb (length s) n && (eqb k 1 && P s)) (firstPlace (λ u. same u s) (keep Q (fullIn rules n)) ∷ []) []) (readings-same s)
+        ap (λ (d : ℕ). cond (eqb (length s) n && (eqb (readingsIn after s) 1 && ltb 0 (u s))) (d ∷ []) []) (first-same s)
+        ∙ ap (λ (k : ℕ). cond (eqb (length s) n && (eqb k 1 && ltb 0 (u s))) (firstTicket w (λ t. same t s) (fullIn rules n) ∷ []) []) (readings-same s)
         ∙ go (eqb (length s) n) refl
       where
         go : (b : Bool) → eqb (length s) n ≡ b
-            → cond (b && (eqb (readingsIn rules s) 1 && P s)) (firstPlace (λ u. same u s) (keep Q (fullIn rules n)) ∷ []) []
-            ≡ cond (b && (eqb (readingsIn rules s) 1 && Q s)) (firstPlace (λ u. same u s) (keep Q (fullIn rules n)) ∷ []) []
+            → cond (b && (eqb (readingsIn rules s) 1 && ltb 0 (u s))) (firstTicket w (λ t. same t s) (fullIn rules n) ∷ []) []
+            ≡ cond (b && (eqb (readingsIn rules s) 1 && ltb 0 (w s))) (firstTicket w (λ t. same t s) (fullIn rules n) ∷ []) []
         go true e = rw (agree s (eqb-true (length s) n e))
         go false e = refl
 
     module _ (h : List ℕ) (v : ℕ) where
-      numbers-same : allNumbersIn after P h n v ≡ allNumbersIn rules Q h n v
-      numbers-same = concat-ext (numbersIn after P n) (numbersIn rules Q n) (sentencesIn h v) (λ s m. added-same s)
+      numbers-same : allNumbersIn after u h n v ≡ allNumbersIn rules w h n v
+      numbers-same = concat-ext (numbersIn after u n) (numbersIn rules w n) (sentencesIn h v) (λ s m. added-same s)
 
       ambiguity-same : ambiguousIn after h n v ≡ ambiguousIn rules h n v
       ambiguity-same =
           some-ext (λ s. leb 2 (readingsIn after s)) (λ s. leb 2 (readingsIn rules s)) (ofLength h (plainly n v)) (λ s m. ap (leb 2) (readings-same s))
 
-      pub hold-same : (numbers : List ℕ) (s : Sampled) → Hold after P h n v numbers s → Hold rules Q h n v numbers s
+      pub hold-same : (numbers : List ℕ) (s : Sampled) → Hold after u h n v numbers s → Hold rules w h n v numbers s
       hold-same numbers (Ready k) q = (
         q .0,
         record { clear = sym ambiguity-same ∙ q .1 .clear; rising = q .1 .rising; just = λ d. rw (← numbers-same) (q .1 .just d) },
@@ -89,9 +92,24 @@ module _ (rules after : List (List ℕ)) (same-rows : (q : ℕ) → q < 4 → ge
 
 -- ---- without a pattern
 
--- the counts let every sentence of the length stand, as no pattern does
-pub counts-agree : (n : ℕ) → n ≤ 16 → (s : List ℕ) → length s ≡ n → stands countsMap 0 s ≡ matches [] s
-counts-agree n short s e = any-stands countsMap 0 s (λ i h. counts-map .letter (0 + i) (omega arith))
+-- the counts let every sentence of the length stand, and weigh 1, as without a pattern
+counts-stand : (n : ℕ) → n ≤ 16 → (s : List ℕ) → length s ≡ n → stands countsMap 0 s ≡ true
+counts-stand n short s e = any-stands countsMap 0 s (λ i h. counts-map .letter (0 + i) (omega arith))
+
+pub counts-agree : (rules : List (List ℕ)) (n v : ℕ) → n ≤ 16 → (s : List ℕ) → length s ≡ n → weighs rules countsMap s ≡ fitting (plainly n v) s
+counts-agree rules n v short s e =
+    stands-is rules countsMap n (λ p h. omega (arith, counts-map .letter p (omega arith))) s e
+    ∙ ap bit (counts-stand n short s e)
+
+-- what weighs 1 or nothing stands if it weighs something
+bit-some : (b : Bool) → b ≡ ltb 0 (bit b)
+bit-some true = refl
+bit-some false = refl
+
+stand-some : (rules map : List (List ℕ)) (n : ℕ) → ((p : ℕ) → p < n → letterAt map p ≤ any) → (s : List ℕ) → s ∈ fullIn rules n
+    → stands map 0 s ≡ ltb 0 (weighs rules map s)
+stand-some rules map n letters s m =
+    bit-some (stands map 0 s) ∙ ap (ltb 0) (sym (stands-is rules map n letters s (listed-long rules n s m)))
 
 -- a table of rules with room for links
 abbrev bare : List (List ℕ)
@@ -150,8 +168,9 @@ module _ {rules totals : List (List ℕ)} {h : List ℕ} {n : ℕ} {numbers : Li
             measures = record {
               mapped = everywhere-mapped after counts-map (r .ready .blank .counted) (needed plan);
               rows = λ p m s. omega (arith, counts-map .row p m (omega (arith, s .some, s .inside)) (s .some) (omega (arith, s .inside)), s .inside);
-              letters = λ p l. omega (arith, counts-map .letter p (omega arith));
-              plain = λ l s e. counts-agree n short s e;
+              weights = λ p l e. absurd (omega (arith, counts-map .letter p (omega arith)));
+              stand = stand-some after countsMap n (λ p l. omega (arith, counts-map .letter p (omega arith)));
+              plain = λ l s e. counts-stand n short s e;
             };
             diary = w .diary;
             room = w .room;
@@ -163,15 +182,15 @@ module _ {rules totals : List (List ℕ)} {h : List ℕ} {n : ℕ} {numbers : Li
 
       pub plainly-heard : {v : ℕ} {totals′ : List (List ℕ)} {numbers′ : List ℕ} {s : Sampled} → NumbersBy after plan countsMap h n v totals′ numbers′ s
           → NumbersAs rules h (plainly n v) numbers′ s
-      plainly-heard {v} {numbers′ = numbers′} {s = s} q = record { hold = hold-same rules after same-rules (counts-agree n (w .counted .short)) h v numbers′ s (q .hold) }
+      plainly-heard {v} {numbers′ = numbers′} {s = s} q = record { hold = hold-same rules after same-rules (counts-agree after n v (w .counted .short)) h v numbers′ s (q .hold) }
 
 -- ---- a pattern's letters
 
-letter-same : (x w : ℕ) → x < 256 → (eqb (letterOf 255 x) any || eqb (letterOf 255 x) w) ≡ (eqb x 255 || eqb x w)
+letter-same : (x w : ℕ) → x < 256 → admits (letterOf 255 x) w ≡ (eqb x 255 || eqb x w)
 letter-same x w h =
     elim (ℕ-discrete x 255) [
       | yes e ↦ rw (eq-eqb x 255 e)
-      | no e ↦ rw (ne-eqb x 255 e, ne-eqb x 256 (λ q. omega arith))
+      | no e ↦ rw (ne-eqb x 255 e, lt-leb 256 x (omega arith))
     ]
 
 -- the words that stand by the letters of a pattern are those that fit
@@ -185,7 +204,7 @@ stands-matches map p (x ∷ pattern) (w ∷ s) e l h =
     let here : letterAt map p ≡ letterOf 255 x = rw z at (e 0 (omega arith)) in
     let next : (i : ℕ) → p + suc i ≡ suc p + i = λ i. omega arith in
     let tail = stands-matches map (suc p) pattern s (λ i k. ap (letterAt map) (sym (next i)) ∙ e (suc i) (omega arith)) (λ i k. l (suc i) (omega arith)) (omega arith) in
-    ap (λ (y : ℕ). (eqb y any || eqb y w) && stands map (suc p) s) here
+    ap (λ (y : ℕ). admits y w && stands map (suc p) s) here
     ∙ ap (λ (b : Bool). b && stands map (suc p) s) (letter-same x w (l 0 (omega arith)))
     ∙ ap (λ (b : Bool). (eqb x 255 || eqb x w) && b) tail
 
@@ -280,19 +299,21 @@ module _ {rules totals : List (List ℕ)} {h : List ℕ} {a : Question} {records
       }
 
   module _ {rules′ plan choice′ totals′ : List (List ℕ)} (c : PatternChartedAs rules (a .pattern) totals rules′ plan choice′ totals′) where
-    agrees : (s : List ℕ) → length s ≡ n → stands choice′ 0 s ≡ matches (a .pattern) s
-    agrees s e = stands-matches choice′ 0 (a .pattern) s (λ i k. ap (letterAt choice′) (omega arith) ∙ c .letters i k) (c .bytes) (e ∙ sym pattern-long)
-
-    abbrev ready : Readied rules′ plan choice′ totals′ chartRow n
-    ready = rw pattern-long at (c .ready)
-
     letters : (p : ℕ) → p < n → letterAt choice′ p ≤ any
     letters p l =
         let h : p < length (a .pattern) = omega (arith, pattern-long) in
         omega (arith, c .letters p h, letter-low 255 (getD (a .pattern) p 0) (c .bytes p h))
 
+    agrees : (s : List ℕ) → length s ≡ n → weighs rules′ choice′ s ≡ fitting a s
+    agrees s e =
+        stands-is rules′ choice′ n letters s e
+        ∙ ap bit (stands-matches choice′ 0 (a .pattern) s (λ i k. ap (letterAt choice′) (omega arith) ∙ c .letters i k) (c .bytes) (e ∙ sym pattern-long))
+
+    abbrev ready : Readied rules′ plan choice′ totals′ chartRow n
+    ready = rw pattern-long at (c .ready)
+
     -- the chart chooses as long as its totals are there
-    pub chooses-fitting : {totals″ : List (List ℕ)} → Still rules′ plan choice′ totals″ n → Choice rules a rules′ totals″ choice′
+    pub chooses-fitting : {totals″ : List (List ℕ)} → Still rules′ plan choice′ totals″ n → Choice rules a (fitting a) rules′ totals″ choice′
     chooses-fitting s = record {
       kept = c .kept;
       chooses = record {
@@ -300,10 +321,10 @@ module _ {rules totals : List (List ℕ)} {h : List ℕ} {a : Question} {records
         known = needed plan;
         closed = planned-closed n-low (ready .planned);
         mapped = s .mapped;
-        letters = letters;
         linked = λ p l k. ready .linked;
+        weights = λ p l k. absurd (omega (arith, letters p l));
       };
-      stand = agrees;
+      weigh = agrees;
     }
 
     pub still-charted : Still rules′ plan choice′ totals′ n
@@ -343,7 +364,8 @@ module _ {rules totals : List (List ℕ)} {h : List ℕ} {a : Question} {records
             measures = record {
               mapped = f .mapped;
               rows = λ i m s. row i m s (needed plan i m) refl .1;
-              letters = letters;
+              weights = λ p l k. absurd (omega (arith, letters p l));
+              stand = stand-some rules′ choice′ n letters;
               plain = λ l s d. absurd (omega (arith, row 0 1 (record { some = omega arith; inside = omega (arith, ready .blank .counted .some) }) (needed plan 0 1) refl .0));
             };
             diary = w .sought .diary;

@@ -1,5 +1,6 @@
 // *Draw*: the unheard derivation that has so many unheard ones before it; with a pattern, of those that fit.
 ghost use mathlib.Core.Path.{_≡_};
+ghost use mathlib.Core.List.{[]};
 ghost use Rattle.charts.specs.Inner.Maps.{countsMap, Everywhere};
 ghost use Rattle.sampling.specs.Answers.{drawTo};
 ghost use Rattle.sampling.specs.Question.{plainly, matching, asked};
@@ -21,33 +22,35 @@ pub enum DrawAnswer {
     Refused(Refusal),
 }
 
-// With the tables, the choice and the heard places at hand.
-fn draw_from(
+// With the tables, the choice and the heard ones' tickets at hand.
+pub fn draw_from(
     rules: &[[u8; 256]],
     totals: &[[u64; 32]],
     choice: &[[u16; 16]; 17],
     counts: &[[u16; 16]; 17],
     n: usize,
     heard: &[u64],
+    sums: &[u64],
     q: DrawNumber,
     out: &mut [u8],
 ) -> DrawAnswer
-    requires { ⌜ DrawSought (now rules) (now totals) (now choice) n (now heard) × Everywhere (now counts) ⌝ }
-    ensures { λ r. ⌜ drawSays r (now (out .exit)) ≡ drawSkipping (now (rules .entry)) (now (choice .entry)) n (now (heard .entry)) (q .0) (now (out .entry)) ⌝ }
+    requires { ⌜ DrawSought (now rules) (now totals) (now choice) n (now heard) (now sums) × Everywhere (now counts) ⌝ }
+    ensures { λ r. ⌜ drawSays r (now (out .exit)) ≡ drawSkipping (now (rules .entry)) (now (choice .entry)) n (now (heard .entry)) (now (sums .entry)) (q .0) (now (out .entry)) ⌝ }
 {
-    let left = unrank::total(rules, totals, choice, n) - heard.len() as u64;
+    let left = unrank::total(rules, totals, choice, n) - skip::passed(sums, heard.len());
     if left <= q.0 {
         return DrawAnswer::Refused(Refusal::NumberBeyond);
     }
     if out.len() < n {
         return DrawAnswer::Refused(Refusal::BufferTooShort);
     }
-    let d = skip::skip(q, heard);
-    let number = unrank::write(rules, totals, choice, counts, n, d, out);
+    let d = skip::skip(q, heard, sums);
+    let owner = unrank::write(rules, totals, choice, counts, n, d, out);
+    let number = owner.number;
     DrawAnswer::Given(left, number)
 }
 
-// Without a pattern: many draws share one preparation.
+// Without a pattern each derivation has one ticket: many draws share one preparation.
 pub fn draw_prepared(
     rules: &[[u8; 256]],
     totals: &[[u64; 32]],
@@ -56,11 +59,21 @@ pub fn draw_prepared(
     q: DrawNumber,
     out: &mut [u8],
 ) -> DrawAnswer
-    requires { ⌜ DrawSought (now rules) (now totals) countsMap n (now heard) ⌝ }
-    ensures { λ r. ⌜ drawSays r (now (out .exit)) ≡ drawSkipping (now (rules .entry)) countsMap n (now (heard .entry)) (q .0) (now (out .entry)) ⌝ }
+    requires { ⌜ DrawSought (now rules) (now totals) countsMap n (now heard) [] ⌝ }
+    ensures { λ r. ⌜ drawSays r (now (out .exit)) ≡ drawSkipping (now (rules .entry)) countsMap n (now (heard .entry)) [] (q .0) (now (out .entry)) ⌝ }
 {
     let counts = maps::EVERYWHERE;
-    draw_from(rules, totals, &counts, &counts, n, heard, q, out)
+    draw_from(
+        rules,
+        totals,
+        &counts,
+        &counts,
+        n,
+        heard,
+        &heard[0..0],
+        q,
+        out,
+    )
 }
 
 // With room for the heard numbers.
@@ -134,6 +147,7 @@ fn draw_matching_in(
                 &counts,
                 question.length as usize,
                 &numbers[0..k],
+                &numbers[0..0],
                 q,
                 out,
             )

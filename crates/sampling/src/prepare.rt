@@ -18,6 +18,7 @@ use answers::refusal::Refusal;
 use charts::maps;
 use charts::plan;
 use charts::ready;
+use counting::letters::ANY;
 use counting::prepare;
 use counting::prepare::Prepared;
 use counting::tallies;
@@ -46,7 +47,7 @@ fn order(numbers: &mut [u64]) -> usize
 }
 
 // The places of the heard derivations, rising, each once, with the tables for the charts of their sentences.
-fn numbers_by(
+pub fn numbers_by(
     rules: &[[u8; 256]],
     plan: &[[u32; 32]; 4],
     map: &mut [[u16; 16]; 17],
@@ -211,7 +212,7 @@ fn records_matching(
 }
 
 // 1 to 9, 22, 10 and 21.
-fn ask(
+pub fn ask(
     g: &[u8],
     question: Question,
     pattern: &[u8],
@@ -229,7 +230,7 @@ fn ask(
     if 15 < question.voice {
         return Prepared::Refused(Refusal::BadVoice);
     }
-    if !tallies::fill(rules, question.length as usize, totals) {
+    if !tallies::fill(rules, ANY, question.length as usize, totals) {
         return Prepared::Refused(Refusal::TooManyDerivations);
     }
     if pattern::bad(pattern, fields::words(g)) {

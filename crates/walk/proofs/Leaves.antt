@@ -20,26 +20,9 @@ use Rattle.lists.proofs.Parts.{passed-none, passed-size, passed-many, passed-he
 use Rattle.grammar.specs.Inner.Rules.{wordAt, wordFrom, wordsIn}
 use Rattle.grammar.proofs.Ruling.{word-count, word-here}
 use Rattle.counting.specs.Refusals.{most}
-use Rattle.charts.specs.Inner.Letters.{any, weighed}
-use Rattle.walk.specs.Inner.Steps.{byLetter, HasWord, WordPlacedAs, WordSought, PickedAs, LeafAs}
-
--- ---- letters
-
-module _ (rules : List (List ℕ)) where
-  pub by-any : (x w : ℕ) → x ≡ any → byLetter rules x w ≡ 1
-  by-any x w e = rw e refl
-
-  pub by-weight : (x w : ℕ) → x ≡ weighed → byLetter rules x w ≡ entry rules 13 w
-  by-weight x w e = rw e refl
-
-  pub by-word : (x w : ℕ) → (x ≡ any → ⊥) → (x ≡ weighed → ⊥) → byLetter rules x w ≡ bit (eqb x w)
-  by-word x w f g = rw (ne-eqb x weighed g, ne-eqb x any f)
-
-  pub by-same : (x w : ℕ) → (x ≡ any → ⊥) → (x ≡ weighed → ⊥) → x ≡ w → byLetter rules x w ≡ 1
-  by-same x w f g e = by-word x w f g ∙ ap bit (eq-eqb x w e)
-
-  pub by-other : (x w : ℕ) → (x ≡ any → ⊥) → (x ≡ weighed → ⊥) → (x ≡ w → ⊥) → byLetter rules x w ≡ 0
-  by-other x w f g e = by-word x w f g ∙ ap bit (ne-eqb x w e)
+use Rattle.counting.specs.Inner.Letters.{any, weighed, byLetter}
+use Rattle.counting.proofs.Lettered.{by-any, by-word, by-same, letter-ones}
+use Rattle.walk.specs.Inner.Steps.{HasWord, WordPlacedAs, WordSought, PickedAs, LeafAs}
 
 module _ {rules : List (List ℕ)} {by to a t : ℕ} (s : WordSought rules by to a t) where
   abbrev words : List ℕ
@@ -52,7 +35,7 @@ module _ {rules : List (List ℕ)} {by to a t : ℕ} (s : WordSought rules by to
   size = omega (arith, word-count rules a, s .table .word-rises a (s .inside))
 
   ones : (x : ℕ) → x ≡ any → (l : List ℕ) → sumOver (byLetter rules x) l ≡ length l
-  ones x e l = sum-ext (byLetter rules x) (λ w. 1) l (λ w m. by-any rules x w e) ∙ sum-one l
+  ones = letter-ones rules
 
   -- ---- each word counts once: the ticket is the place
 

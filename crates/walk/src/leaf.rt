@@ -3,14 +3,13 @@ ghost use mathlib.Core.Path.{_≡_};
 ghost use Prim.Native.Nat.{_≤_, _<_};
 ghost use lib.ListN.{length};
 ghost use Rattle.charts.specs.Inner.Letters.{letterAt};
-ghost use Rattle.walk.specs.Inner.Steps.{byLetter, HasWord, WordPlacedAs, WordSought, PickedAs, LeafAs};
+ghost use Rattle.walk.specs.Inner.Steps.{HasWord, WordPlacedAs, WordSought, PickedAs, LeafAs};
 use crate::Found;
-use charts::maps::ANY;
 use charts::maps::LETTERS;
-use charts::maps::WEIGHED;
+use counting::letters;
+use counting::letters::ANY;
 use grammar::rules;
 use grammar::rules::NEXT_WORD;
-use grammar::rules::WEIGHTS;
 use grammar::rules::WITH_WORD;
 use grammar::rules::WORD_OWNER;
 
@@ -21,21 +20,6 @@ pub struct Picked {
     pub measured: u64,
     pub weight: u64,
     pub offset: u64,
-}
-
-// What a letter lets a word count for.
-fn word_weight(rules: &[[u8; 256]], letter: u16, w: u8) -> u64
-    requires { ⌜ (letter ≡ 257 → 14 ≤ length (now rules)) ⌝ }
-    ensures { λ r. ⌜ r ≡ byLetter (now (rules .entry)) letter w ⌝ }
-{
-    if letter == ANY {
-        return 1;
-    }
-    if letter == WEIGHED {
-        let i = rules::wide(w);
-        return rules::wide(rules[WEIGHTS][i]) as u64;
-    }
-    if letter == w as u16 { 1 } else { 0 }
 }
 
 // The place of the word x among the words of a, which has it: along the links of x.
@@ -60,8 +44,8 @@ fn scan(rules: &[[u8; 256]], by: u16, to: u16, a: usize, ticket: u64) -> Picked
     let mut place: u64 = 0;
     loop {
         let word = rules::word_at(rules, i);
-        let weight = word_weight(rules, by, word);
-        let measured = word_weight(rules, to, word);
+        let weight = letters::weight(rules, by, word);
+        let measured = letters::weight(rules, to, word);
         if rest < weight {
             return Picked {
                 word,

@@ -15,9 +15,10 @@ pub enum Call {
     Append,
     RemainingMatching,
     DrawMatching,
+    DrawWeighted,
 }
 
-pub const CALLS: [Call; 10] = [
+pub const CALLS: [Call; 11] = [
     Call::CheckGrammar,
     Call::CheckHistory,
     Call::Count,
@@ -28,6 +29,7 @@ pub const CALLS: [Call; 10] = [
     Call::Append,
     Call::RemainingMatching,
     Call::DrawMatching,
+    Call::DrawWeighted,
 ];
 
 impl Call {
@@ -43,6 +45,7 @@ impl Call {
             Call::Append => "append",
             Call::RemainingMatching => "remaining_matching",
             Call::DrawMatching => "draw_matching",
+            Call::DrawWeighted => "draw_weighted",
         }
     }
 
@@ -50,13 +53,14 @@ impl Call {
     pub fn figures(self) -> usize {
         match self {
             Call::CheckHistory | Call::Count | Call::Unrank | Call::Append => 1,
-            Call::CheckGrammar | Call::Draw | Call::DrawMatching => 2,
+            Call::CheckGrammar | Call::Draw | Call::DrawMatching | Call::DrawWeighted => 2,
             Call::Rank | Call::Remaining | Call::RemainingMatching => 3,
         }
     }
 
     /// The refusals that the documents allow it, in the order in which they are tested: a line concerns every call that
-    /// takes what the line names, and 18 none any more; 22 comes right after 9, 23 right after 22, 21 right after 10.
+    /// takes what the line names, and 18 none any more; 22 comes right after 9, 23 right after 22, 21 right after 10,
+    /// and so do 24 and then 25.
     pub fn refusals(self) -> Vec<u8> {
         match self {
             Call::CheckGrammar => (1..=8).collect(),
@@ -69,6 +73,7 @@ impl Call {
             Call::Append => [9, 22, 23].into_iter().chain(11..=14).chain([19]).collect(),
             Call::RemainingMatching => (1..=9).chain([22, 10, 21]).chain(11..=15).collect(),
             Call::DrawMatching => (1..=9).chain([22, 10, 21]).chain(11..=16).chain([20]).collect(),
+            Call::DrawWeighted => (1..=9).chain([22, 10, 24, 25]).chain(11..=16).chain([20]).collect(),
         }
     }
 
@@ -77,11 +82,11 @@ impl Call {
     }
 
     pub fn takes_history(self) -> bool {
-        matches!(self, Call::CheckHistory | Call::Remaining | Call::Draw | Call::Append) || self.takes_pattern()
+        self == Call::CheckHistory || self.takes_voice()
     }
 
     pub fn takes_length(self) -> bool {
-        matches!(self, Call::Count | Call::Unrank | Call::Remaining | Call::Draw)
+        matches!(self, Call::Count | Call::Unrank | Call::Remaining | Call::Draw | Call::DrawWeighted)
     }
 
     pub fn takes_pattern(self) -> bool {
@@ -89,7 +94,11 @@ impl Call {
     }
 
     pub fn takes_voice(self) -> bool {
-        matches!(self, Call::Remaining | Call::Draw | Call::Append) || self.takes_pattern()
+        matches!(self, Call::Remaining | Call::Draw | Call::Append | Call::DrawWeighted) || self.takes_pattern()
+    }
+
+    pub fn takes_weights(self) -> bool {
+        self == Call::DrawWeighted
     }
 
     pub fn takes_played(self) -> bool {
@@ -105,12 +114,12 @@ impl Call {
     }
 
     pub fn writes_sentence(self) -> bool {
-        matches!(self, Call::Unrank | Call::Draw | Call::DrawMatching)
+        matches!(self, Call::Unrank | Call::Draw | Call::DrawMatching | Call::DrawWeighted)
     }
 }
 
-/// `sentence` is the buffer that *Give* and *Draw* write, `history` the one that *Log* writes. What a call does not
-/// take is empty or 0.
+/// `sentence` is the buffer that *Give* and *Draw* write, `history` the one that *Log* writes; `number` is a ticket
+/// where there are weights. What a call does not take is empty or 0.
 #[derive(Clone, Debug, PartialEq, Eq)]
 pub struct Case {
     pub call: Call,
@@ -119,6 +128,7 @@ pub struct Case {
     pub length: u64,
     pub pattern: Vec<u8>,
     pub voice: u64,
+    pub weights: Vec<u8>,
     pub played: u64,
     pub number: u64,
     pub sentence: Vec<u8>,
@@ -160,6 +170,7 @@ impl Case {
             length: 0,
             pattern: vec![],
             voice: 0,
+            weights: vec![],
             played: 0,
             number: 0,
             sentence: vec![],
@@ -192,6 +203,9 @@ impl Case {
         }
         if self.call.takes_voice() {
             lines.push(format!("voice {}", self.voice));
+        }
+        if self.call.takes_weights() {
+            lines.push(format!("weights {}", hex(&self.weights)));
         }
         if self.call.takes_played() {
             lines.push(format!("played {}", self.played));
@@ -233,6 +247,7 @@ pub fn parse(text: &str) -> Vec<Stored> {
             "length" => case.length = value.parse().expect("a length"),
             "pattern" => case.pattern = unhex(value),
             "voice" => case.voice = value.parse().expect("a voice"),
+            "weights" => case.weights = unhex(value),
             "played" => case.played = value.parse().expect("a count of words"),
             "number" => case.number = value.parse().expect("a number"),
             "sentence" => case.sentence = unhex(value),

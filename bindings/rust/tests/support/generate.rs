@@ -1,7 +1,7 @@
-//! Cases from a seed: grammars of several families, histories, patterns, voices, words played, numbers, and damage of
-//! every kind.
+//! Cases from a seed: grammars of several families, histories, patterns, weights, voices, words played, numbers, and
+//! damage of every kind.
 use super::case::{Call, Case};
-use super::reference::{Full, Grammar, fits, next, read_grammar, totals};
+use super::reference::{Full, Grammar, Readings, Tickets, fits, next, read_grammar, totals};
 use std::collections::BTreeSet;
 
 /// Numbers from a seed (splitmix64).
@@ -204,6 +204,25 @@ pub fn brimful(extra: bool) -> Draft {
     Draft::new(17, chains)
 }
 
+/// The same by weight: the derivations of 16 words weigh 2^64 - 1 together, or one more with `extra`. Each of the
+/// groups of 15, 17 and 16 words is one of few words, which weigh as much together.
+pub fn laden(rng: &mut Rng, extra: bool) -> (Draft, Vec<u8>) {
+    let mut draft = brimful(extra);
+    let mut weights = vec![];
+    for (group, whole) in [(1, 15), (2, 17), (3, 16), (4, 1u8)] {
+        let mut rest = whole;
+        draft.chains[group].clear();
+        while rest > 0 {
+            let part = if rng.once_in(2) { rest } else { 1 + rng.below(rest.into()) as u8 };
+            draft.chains[group].push(word(weights.len()));
+            weights.push(part);
+            rest -= part;
+        }
+    }
+    draft.words = weights.len();
+    (draft, weights)
+}
+
 /// A grammar of few rules, and beside it one with very many derivations: out of reach, or in pair rules, so that some lengths need
 /// them and others don't.
 fn beside(rng: &mut Rng) -> Draft {
@@ -285,7 +304,8 @@ fn draft(rng: &mut Rng) -> Draft {
 pub fn rows(grammar: &Grammar) -> Vec<Vec<u64>> {
     let mut t = vec![vec![0; grammar.chains.len()]];
     for _ in 1..=16 {
-        t.push((0..grammar.chains.len()).map(|a| next(grammar, &t, a).try_into().unwrap_or(u64::MAX)).collect());
+        let total = |a| next(grammar, &t, a, |_| 1).try_into().unwrap_or(u64::MAX);
+        t.push((0..grammar.chains.len()).map(total).collect());
     }
     t
 }
@@ -798,6 +818,56 @@ fn add_fitting(rng: &mut Rng, full: &Full, pattern: &[u8], voice: u8, sentences:
     sentences.truncate(1000);
 }
 
+/// A weight for each word: all alike, small ones, any, or ones with a few others among them.
+pub fn weights(rng: &mut Rng, words: u8) -> Vec<u8> {
+    let (kind, alike, small) = (rng.below(9), 1 + rng.below(255) as u8, 2 + rng.below(3));
+    let mut weigh = |_| match kind {
+        0 => 1,
+        1 => alike,
+        2..=4 => 1 + rng.below(small) as u8,
+        5 => rng.pick(&[1, 2, 16, 255]),
+        6 => 1 + rng.below(255) as u8,
+        _ if rng.once_in(4) => 1 + rng.below(255) as u8,
+        _ => 1,
+    };
+    (0..words).map(&mut weigh).collect()
+}
+
+/// Damage that aims at 24: a weight of 0, at an end or anywhere, or too few weights or too many.
+fn spoil_weights(rng: &mut Rng, weights: &mut Vec<u8>) {
+    let last = weights.len() - 1;
+    match rng.below(6) {
+        0 => weights[0] = 0,
+        1 => weights[last] = 0,
+        2 => weights[rng.below(last + 1)] = 0,
+        3 => weights.truncate(last),
+        4 => weights.push(rng.pick(&[0, 1, 255])),
+        _ => {
+            let size = rng.pick(&[0, 1, 16, 254, 255, 256, 256 + last + 1]);
+            weights.resize(size, 1);
+        }
+    }
+}
+
+/// A ticket: about how many there are, or an end of one derivation's, or right beside them. `sentences` are heard.
+fn ticket(rng: &mut Rng, full: &Full, tickets: &Tickets, sentences: &[&Spoken]) -> u64 {
+    let readings = sentences.iter().map(|spoken| full.readings(&spoken.words));
+    let struck: BTreeSet<u64> = readings.filter(|r| r.count == 1).map(|Readings { lowest, .. }| lowest).collect();
+    let passed = |d: u64| struck.range(..d).map(|&number| tickets.share(number).1).sum::<u64>();
+    let ends = |d: u64| {
+        let (before, own) = tickets.share(d);
+        let own = if struck.contains(&d) { 0 } else { own };
+        (before - passed(d), before - passed(d) + own)
+    };
+    let total = full.total();
+    if total == 0 || rng.once_in(2) {
+        let many = if total == 0 { 0 } else { ends(total - 1).1 };
+        return number(rng, many);
+    }
+    let (first, behind) = ends(rng.below_u64(total));
+    rng.pick(&[first, first, behind.saturating_sub(1), behind, first.saturating_sub(1), first.saturating_add(1)])
+}
+
 fn spoil_grammar(rng: &mut Rng, bytes: &mut Vec<u8>) {
     match rng.below(12) {
         0 => {
@@ -885,7 +955,13 @@ pub fn case(rng: &mut Rng, call: Call) -> Case {
         return history_case(rng, call);
     }
     let mut case = Case::new(call);
-    case.grammar = grammar(rng);
+    if call.takes_weights() && rng.once_in(20) {
+        let extra = rng.once_in(3);
+        let (draft, weights) = laden(rng, extra);
+        (case.grammar, case.weights) = (draft.bytes(), weights);
+    } else {
+        case.grammar = grammar(rng);
+    }
     let read = read_grammar(&case.grammar).expect("an accepted grammar");
     if call == Call::CheckGrammar {
         if rng.once_in(2) {
@@ -900,6 +976,7 @@ pub fn case(rng: &mut Rng, call: Call) -> Case {
         case.length = if rng.once_in(30) { rng.pick(&BAD_LENGTHS) } else { n as u64 };
     }
     let mut heard = 0;
+    let mut asked_ticket = None;
     if call.takes_history() {
         let voice = voice(rng);
         case.voice = voice_asked(rng, voice);
@@ -919,7 +996,20 @@ pub fn case(rng: &mut Rng, call: Call) -> Case {
         }
         let in_voice = |spoken: &&Spoken| spoken.voice == voice && spoken.played == 0;
         let fitting = |spoken: &&Spoken| spoken.words.len() == n && fits(&spoken.words, &asked);
-        heard = sentences.iter().filter(in_voice).filter(fitting).count() as u64;
+        let same: Vec<&Spoken> = sentences.iter().filter(in_voice).filter(fitting).collect();
+        heard = same.len() as u64;
+        if call.takes_weights() {
+            if case.weights.is_empty() {
+                case.weights = weights(rng, read.words);
+            }
+            let tickets = full.as_ref().and_then(|full| Tickets::new(full, &read, n, &case.weights).ok());
+            if let (Some(full), Some(tickets)) = (&full, tickets) {
+                asked_ticket = Some(ticket(rng, full, &tickets, &same));
+            }
+            if rng.once_in(25) {
+                spoil_weights(rng, &mut case.weights);
+            }
+        }
         case.history = random_history(rng, &sentences);
         if rng.once_in(8) {
             spoil_history(rng, &mut case.history);
@@ -927,7 +1017,7 @@ pub fn case(rng: &mut Rng, call: Call) -> Case {
     }
     if call.takes_number() {
         let about = if rng.once_in(2) { total.saturating_sub(heard) } else { total };
-        case.number = number(rng, about);
+        case.number = asked_ticket.unwrap_or_else(|| number(rng, about));
         case.sentence = buffer(rng, n);
     }
     if call == Call::Rank {

@@ -1,6 +1,6 @@
 //! The library under test: each case through the C function and through the safe one.
 use super::case::{Answer, Call, Case};
-use pumpfennel::{DerivationNumber, DrawNumber, Refusal, ffi};
+use pumpfennel::{DerivationNumber, DrawNumber, Refusal, Ticket, ffi};
 
 const GUARD: usize = 24;
 const JUNK: u64 = 0xdead_beef_0bad_cafe;
@@ -40,6 +40,7 @@ struct Loan {
     grammar: Lent,
     history: Lent,
     pattern: Lent,
+    weights: Lent,
     sentence: Lent,
 }
 
@@ -50,14 +51,16 @@ impl Loan {
             grammar: Lent::new(&case.grammar, guard, shift),
             history: Lent::new(&case.history, guard, shift + 1),
             pattern: Lent::new(&case.pattern, guard, shift + 2),
+            weights: Lent::new(&case.weights, guard, shift + 2),
             sentence: Lent::new(&case.sentence, guard, shift + 3),
         }
     }
 
     /// The written buffer, where nothing else changed.
     fn back(self, case: &Case) -> Result<Vec<u8>, String> {
-        let Loan { grammar, history, pattern, sentence } = &self;
-        for (name, lent) in [("grammar", grammar), ("history", history), ("pattern", pattern), ("sentence", sentence)] {
+        let Loan { grammar, history, pattern, weights, sentence } = &self;
+        let names = ["grammar", "history", "pattern", "weights", "sentence"];
+        for (name, lent) in names.into_iter().zip([grammar, history, pattern, weights, sentence]) {
             if !lent.guarded() {
                 return Err(format!("a byte outside the {name} was written"));
             }
@@ -70,6 +73,7 @@ impl Loan {
         if grammar.slice() != case.grammar
             || (case.call != Call::Append && history.slice() != case.history)
             || pattern.slice() != case.pattern
+            || weights.slice() != case.weights
             || (!case.call.writes_sentence() && sentence.slice() != case.sentence)
         {
             return Err("an input was written".to_string());
@@ -84,9 +88,10 @@ fn through_c(case: &Case) -> Result<Answer, String> {
     let mut figures = [JUNK; 7];
     let [_, first, _, second, _, third, _] = &mut figures;
     let Case { length, voice, played, number, .. } = *case;
-    let (g, h, p, s) = (loan.grammar.slice(), loan.history.slice(), loan.pattern.slice(), loan.sentence.slice());
+    let (g, h, p) = (loan.grammar.slice(), loan.history.slice(), loan.pattern.slice());
     let (gp, gl, hp, hl, pp, pl) = (g.as_ptr(), g.len(), h.as_ptr(), h.len(), p.as_ptr(), p.len());
-    let (sp, sl) = (s.as_ptr(), s.len());
+    let (w, s) = (loan.weights.slice(), loan.sentence.slice());
+    let (wp, wl, sp, sl) = (w.as_ptr(), w.len(), s.as_ptr(), s.len());
     // SAFETY: slices with their lengths, figures of this function; what is written is borrowed just before.
     let refusal = unsafe {
         match case.call {
@@ -114,6 +119,10 @@ fn through_c(case: &Case) -> Result<Answer, String> {
                 let out = loan.sentence.slice_mut().as_mut_ptr();
                 ffi::pumpfennel_draw_matching(gp, gl, hp, hl, pp, pl, voice, number, out, sl, first, second)
             }
+            Call::DrawWeighted => {
+                let out = loan.sentence.slice_mut().as_mut_ptr();
+                ffi::pumpfennel_draw_weighted(gp, gl, hp, hl, length, voice, wp, wl, number, out, sl, first, second)
+            }
         }
     };
     let buffer = loan.back(case)?;
@@ -129,7 +138,7 @@ fn through_c(case: &Case) -> Result<Answer, String> {
 fn through_rust(case: &Case) -> Result<Answer, String> {
     let mut loan = Loan::new(case, 0x5a);
     let Case { length, voice, played, .. } = *case;
-    let (g, h, p) = (loan.grammar.slice(), loan.history.slice(), loan.pattern.slice());
+    let (g, h, p, w) = (loan.grammar.slice(), loan.history.slice(), loan.pattern.slice(), loan.weights.slice());
     let result: Result<Vec<u64>, Refusal> = match case.call {
         Call::CheckGrammar => pumpfennel::check_grammar(g).map(|c| vec![c.nonterminals, c.words]),
         Call::CheckHistory => pumpfennel::check_history(h).map(|records| vec![records]),
@@ -154,6 +163,10 @@ fn through_rust(case: &Case) -> Result<Answer, String> {
         Call::DrawMatching => {
             let (out, draw) = (loan.sentence.slice_mut(), DrawNumber(case.number));
             pumpfennel::draw_matching(g, h, p, voice, draw, out).map(|d| vec![d.remaining, d.number.0])
+        }
+        Call::DrawWeighted => {
+            let (out, ticket) = (loan.sentence.slice_mut(), Ticket(case.number));
+            pumpfennel::draw_weighted(g, h, length, voice, w, ticket, out).map(|d| vec![d.tickets, d.number.0])
         }
     };
     let buffer = loan.back(case)?;

@@ -1,4 +1,4 @@
-//! Document 01, with document 02's U1, U2, U4, U5 and U6, once more in plain Rust, for the tests alone: slow, and
+//! Document 01, with document 02's U1, U2, U4, U5, U6 and U7, once more in plain Rust, for the tests alone: slow, and
 //! written from the documents' text. Where there are few derivations they are written down one by one; else the answers
 //! come from exact counts.
 use super::case::{Answer, Call, Case};
@@ -88,24 +88,29 @@ pub fn needed(grammar: &Grammar, length: usize) -> BTreeSet<(usize, usize)> {
 
 /// T(A, m) at `[m][A]` for the pairs that the length needs, and 0 for all others; or 10, where one is above 2^64 - 1.
 pub fn totals(grammar: &Grammar, length: usize) -> Result<Vec<Vec<u64>>, u8> {
+    weighed(grammar, length, |_| 1).ok_or(10)
+}
+
+/// The same with each pair's total weight, in place of how many derivations it has; nothing, where one is above 2^64 -
+/// 1.
+fn weighed(grammar: &Grammar, length: usize, weigh: impl Fn(u8) -> u64) -> Option<Vec<Vec<u64>>> {
     let needed = needed(grammar, length);
     let mut t = vec![vec![0; grammar.chains.len()]];
     for m in 1..=length {
-        let row = (0..grammar.chains.len())
-            .map(|a| if needed.contains(&(a, m)) { u64::try_from(next(grammar, &t, a)).map_err(|_| 10) } else { Ok(0) })
-            .collect::<Result<_, u8>>()?;
+        let total = |a| if needed.contains(&(a, m)) { next(grammar, &t, a, &weigh) } else { 0 };
+        let row = (0..grammar.chains.len()).map(|a| u64::try_from(total(a)).ok()).collect::<Option<_>>()?;
         t.push(row);
     }
-    Ok(t)
+    Some(t)
 }
 
-/// T(A, m) from the rows below m.
-pub fn next(grammar: &Grammar, t: &[Vec<u64>], a: usize) -> u128 {
+/// The total weight of (A, m), from the rows below m; T(A, m), where each word weighs 1.
+pub fn next(grammar: &Grammar, t: &[Vec<u64>], a: usize, weigh: impl Fn(u8) -> u64) -> u128 {
     let m = t.len();
     let mut sum = 0u128;
     for rule in &grammar.chains[a] {
         match *rule {
-            Rule::Word(_) if m == 1 => sum += 1,
+            Rule::Word(word) if m == 1 => sum += u128::from(weigh(word)),
             Rule::Word(_) => {}
             Rule::Pair(b, c) => {
                 for k in 1..m {
@@ -252,6 +257,91 @@ impl<'a> Full<'a> {
     }
 }
 
+/// Document 02, U7: "A derivation weighs the product of its words' weights."
+pub fn weight(sentence: &[u8], weights: &[u8]) -> u64 {
+    sentence.iter().map(|&word| u64::from(weights[usize::from(word)])).product()
+}
+
+/// The full list of one length with weights: "Derivations take that many consecutive tickets each, in the old order,
+/// heard ones none."
+pub struct Tickets<'a> {
+    full: &'a Full<'a>,
+    weights: &'a [u8],
+    total_weights: Vec<Vec<u64>>,
+}
+
+impl<'a> Tickets<'a> {
+    /// Or 24, "the weights are not W bytes or one is 0", or 25, "a needed pair's total weight is above 2^64 - 1".
+    pub fn new(full: &'a Full, grammar: &Grammar, length: usize, weights: &'a [u8]) -> Result<Tickets<'a>, u8> {
+        if weights.len() != usize::from(grammar.words) || weights.contains(&0) {
+            return Err(24);
+        }
+        let total_weights = weighed(grammar, length, |word| u64::from(weights[usize::from(word)])).ok_or(25)?;
+        Ok(Tickets { full, weights, total_weights })
+    }
+
+    /// How many tickets there would be before those of derivation d, if none were heard, and how many would be its own.
+    pub fn share(&self, d: u64) -> (u64, u64) {
+        match self.full {
+            Full::Listed(list) => {
+                let own = |entry: &Vec<u8>| weight(entry, self.weights);
+                (list[..d as usize].iter().map(own).sum(), own(&list[d as usize]))
+            }
+            Full::Counted(counted) => {
+                let start = counted.grammar.start;
+                counted.weight_before(&self.total_weights, self.weights, start, counted.length, d)
+            }
+        }
+    }
+
+    /// How many tickets there are, and the derivation number of the one that owns a ticket, if there is one. `struck`
+    /// are the heard derivation numbers.
+    pub fn owner(&self, heard: &BTreeSet<&[u8]>, struck: &BTreeSet<u64>, ticket: u64) -> (u64, Option<u64>) {
+        if let Full::Listed(list) = self.full {
+            let (mut tickets, mut owner) = (0, None);
+            for (d, entry) in (0..).zip(list).filter(|(_, entry)| !heard.contains(&entry[..])) {
+                let own = tickets..tickets + weight(entry, self.weights);
+                if own.contains(&ticket) {
+                    owner = Some(d);
+                }
+                tickets = own.end;
+            }
+            return (tickets, owner);
+        }
+        let all = match self.full.total() {
+            0 => 0,
+            total => {
+                let (before, own) = self.share(total - 1);
+                before + own
+            }
+        };
+        // What the heard ones weigh, each with those before it.
+        let mut sum = 0;
+        let mut add = |d: u64| {
+            sum += self.share(d).1;
+            (d, sum)
+        };
+        let heard: Vec<(u64, u64)> = struck.iter().map(|&d| add(d)).collect();
+        let passed =
+            |d: u64| heard[..heard.partition_point(|&(number, _)| number < d)].last().map_or(0, |&(_, sum)| sum);
+        let tickets = all - passed(u64::MAX);
+        if ticket >= tickets {
+            return (tickets, None);
+        }
+        // The last derivation that has no more than so many tickets of unheard ones before it.
+        let (mut low, mut high) = (0, self.full.total() - 1);
+        while low < high {
+            let middle = high - (high - low) / 2;
+            if self.share(middle).0 - passed(middle) <= ticket {
+                low = middle;
+            } else {
+                high = middle - 1;
+            }
+        }
+        (tickets, Some(low))
+    }
+}
+
 /// Every derivation of the start and that length, as its sentence, in order.
 pub fn listed(grammar: &Grammar, length: usize) -> Vec<Vec<u8>> {
     let needed = needed(grammar, length);
@@ -383,6 +473,39 @@ impl Counted<'_> {
                             return (before + here, left_fits && right_fits);
                         }
                         before += runs[k][p][b] * fitting_right;
+                        d -= left * right;
+                    }
+                }
+            }
+        }
+        unreachable!("the number is below the total");
+    }
+
+    /// What the derivations of A and length m with a number below d weigh together, and what the one with number d
+    /// weighs.
+    fn weight_before(&self, total_weights: &[Vec<u64>], weights: &[u8], a: usize, m: usize, mut d: u64) -> (u64, u64) {
+        let mut before = 0;
+        for rule in &self.grammar.chains[a] {
+            match *rule {
+                Rule::Word(word) if m == 1 => {
+                    let own = u64::from(weights[usize::from(word)]);
+                    if d == 0 {
+                        return (before, own);
+                    }
+                    before += own;
+                    d -= 1;
+                }
+                Rule::Word(_) => {}
+                Rule::Pair(b, c) => {
+                    for k in 1..m {
+                        let (left, right) = (self.t[k][b], self.t[m - k][c]);
+                        let right_weight = total_weights[m - k][c];
+                        if u128::from(d) < u128::from(left) * u128::from(right) {
+                            let (lefts, left_own) = self.weight_before(total_weights, weights, b, k, d / right);
+                            let (rights, right_own) = self.weight_before(total_weights, weights, c, m - k, d % right);
+                            return (before + lefts * right_weight + left_own * rights, left_own * right_own);
+                        }
+                        before += total_weights[k][b] * right_weight;
                         d -= left * right;
                     }
                 }
@@ -626,6 +749,21 @@ fn attempt(case: &Case) -> Result<(Vec<u64>, Vec<u8>), u8> {
             }
             Ok((vec![left, number], written(&full.sentence(number))))
         }
+        Call::DrawWeighted => {
+            let grammar = read_grammar(&case.grammar)?;
+            let length = fitting(case.length)?;
+            let voice = fitting_voice(case.voice)?;
+            let full = Full::new(&grammar, length)?;
+            let tickets = Tickets::new(&full, &grammar, length, &case.weights)?;
+            let records = read_history(&case.history)?;
+            let (heard, struck) = heard(&records, length, voice, &full)?;
+            let (many, owner) = tickets.owner(&heard, &struck, case.number);
+            let number = owner.ok_or(16)?;
+            if case.sentence.len() < length {
+                return Err(20);
+            }
+            Ok((vec![many, number], written(&full.sentence(number))))
+        }
     }
 }
 
@@ -636,12 +774,22 @@ pub fn answer(case: &Case) -> Answer {
     }
 }
 
-/// Whether the two ways say the same: every sentence and its readings, and what fits each of the patterns, written down
-/// and by counts.
-pub fn ways_agree(grammar: &Grammar, length: usize, tried: &[Vec<u8>], patterns: &[Vec<u8>]) -> bool {
+/// Whether the two ways say the same: every sentence and its readings, what fits each of the patterns, and who owns
+/// each of the first and the last tickets of every derivation, written down and by counts.
+pub fn ways_agree(
+    grammar: &Grammar,
+    length: usize,
+    tried: &[Vec<u8>],
+    patterns: &[Vec<u8>],
+    weights: &[Vec<u8>],
+) -> bool {
     let t = totals(grammar, length).expect("counts that fit");
     let list = Full::Listed(listed(grammar, length));
     let counted = Full::Counted(Counted { grammar, length, t });
+    // With every third of the sentences heard that have one derivation.
+    let single = (0..list.total()).map(|d| (d, list.sentence(d))).filter(|(_, s)| list.readings(s).count == 1);
+    let third: Vec<(u64, Vec<u8>)> = single.step_by(3).collect();
+    let heard: BTreeSet<&[u8]> = third.iter().map(|(_, sentence)| &sentence[..]).collect();
     list.total() == counted.total()
         && (0..list.total()).all(|d| {
             let sentence = list.sentence(d);
@@ -649,13 +797,26 @@ pub fn ways_agree(grammar: &Grammar, length: usize, tried: &[Vec<u8>], patterns:
         })
         && tried.iter().all(|sentence| list.readings(sentence) == counted.readings(sentence))
         && patterns.iter().all(|pattern| {
-            // With every third of the sentences heard that have one derivation.
-            let single = (0..list.total()).map(|d| (d, list.sentence(d))).filter(|(_, s)| list.readings(s).count == 1);
-            let third: Vec<(u64, Vec<u8>)> = single.step_by(3).collect();
-            let heard: BTreeSet<&[u8]> = third.iter().map(|(_, sentence)| &sentence[..]).collect();
             let struck = third.iter().filter(|(_, sentence)| fits(sentence, pattern)).map(|&(d, _)| d).collect();
             let entry = |full: &Full, q| full.unheard_fitting(pattern, &heard, &struck, q);
             let many = list.fitting(pattern);
             many == counted.fitting(pattern) && (0..=many).all(|q| entry(&list, q) == entry(&counted, q))
+        })
+        && weights.iter().all(|weights| {
+            let of = |full| Tickets::new(full, grammar, length, weights);
+            match (of(&list), of(&counted)) {
+                (Ok(list_tickets), Ok(counted_tickets)) => {
+                    let struck: BTreeSet<u64> = third.iter().map(|&(d, _)| d).collect();
+                    (0..list.total()).all(|d| {
+                        let (before, own) = list_tickets.share(d);
+                        let owner = |tickets: &Tickets, ticket| tickets.owner(&heard, &struck, ticket);
+                        counted_tickets.share(d) == (before, own)
+                            && [before, before.saturating_add(own - 1), before.saturating_add(own)]
+                                .into_iter()
+                                .all(|ticket| owner(&list_tickets, ticket) == owner(&counted_tickets, ticket))
+                    })
+                }
+                (list_tickets, counted_tickets) => list_tickets.err() == counted_tickets.err(),
+            }
         })
 }

@@ -2,7 +2,7 @@
 -- Assumes nothing: these are definitions.
 use Prim.Native.Nat.{ℕ}
 use Rattle.answers.specs.declared.refusal.Refusal.{Refusal}
-use Rattle.answers.specs.declared.refusal.Refusal.the-variants.{GrammarTooShort, GrammarOutOfRange, GrammarWrongSize, GrammarBadRule, GrammarBadLink, GrammarRuleMetTwice, GrammarRuleOnNoChain, GrammarEqualRules, BadLength, TooManyDerivations, HistoryWrongSize, HistoryBadRecord, HistoryBadLink, HistoryBadChain, HeardAmbiguous, NumberBeyond, SentenceUnderivable, HistoryFull, BufferTooShort, BadPattern, BadVoice, BadPlayed}
+use Rattle.answers.specs.declared.refusal.Refusal.the-variants.{GrammarTooShort, GrammarOutOfRange, GrammarWrongSize, GrammarBadRule, GrammarBadLink, GrammarRuleMetTwice, GrammarRuleOnNoChain, GrammarEqualRules, BadLength, TooManyDerivations, HistoryWrongSize, HistoryBadRecord, HistoryBadLink, HistoryBadChain, HeardAmbiguous, NumberBeyond, SentenceUnderivable, HistoryFull, BufferTooShort, BadPattern, BadVoice, BadPlayed, BadWeights, TooManyTickets}
 
 abbrev pub refusalNumber : Refusal → ℕ
 -- the grammar has fewer than 4 bytes
@@ -49,3 +49,7 @@ refusalNumber BadPattern = 21
 refusalNumber BadVoice = 22
 -- the count of words played is the sentence's length or more
 refusalNumber BadPlayed = 23
+-- the weights are not W bytes, or one of them is 0
+refusalNumber BadWeights = 24
+-- a total weight that the length needs is above 2^64 - 1
+refusalNumber TooManyTickets = 25

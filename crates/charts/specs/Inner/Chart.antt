@@ -9,7 +9,8 @@ use Rattle.lists.specs.Inner.Tables.{entry, Wide}
 use Rattle.sets.specs.Inner.Sets.{member}
 use Rattle.grammar.specs.Inner.Links.{Linked}
 use Rattle.counting.specs.Inner.Counted.{Counted}
-use Rattle.charts.specs.Inner.Letters.{any, letterAt}
+use Rattle.counting.specs.Inner.Letters.{any}
+use Rattle.charts.specs.Inner.Letters.{letterAt}
 use Rattle.charts.specs.Inner.Maps.{Mapped}
 use Rattle.charts.specs.Inner.Plan.{noneRow, endOf, needed, Planned}
 

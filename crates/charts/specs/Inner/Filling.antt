@@ -16,7 +16,8 @@ use Rattle.grammar.specs.Inner.Links.{Linked}
 use Rattle.counting.specs.Totals.{total}
 use Rattle.counting.specs.Refusals.{most}
 use Rattle.counting.specs.Inner.Counted.{Asked}
-use Rattle.charts.specs.Inner.Letters.{any, letterAt, weightBy}
+use Rattle.counting.specs.Inner.Letters.{any}
+use Rattle.charts.specs.Inner.Letters.{letterAt, weightBy}
 use Rattle.charts.specs.Inner.Maps.{rowAt, totalAt, Span}
 use Rattle.charts.specs.Inner.Plan.{cuts, spots, wanted, partners, needed}
 use Rattle.charts.specs.Inner.Chart.{Beside, Fills}

@@ -13,7 +13,8 @@ use Rattle.grammar.specs.Inner.Rules.{pairsIn, ruled}
 use Rattle.counting.specs.Totals.{total, T}
 use Rattle.counting.specs.Refusals.{most}
 use Rattle.counting.specs.Inner.Counted.{Asked}
-use Rattle.charts.specs.Inner.Letters.{any, letterAt, weightBy, letterOf, stands}
+use Rattle.counting.specs.Inner.Letters.{any, weighed}
+use Rattle.charts.specs.Inner.Letters.{letterAt, weightBy, letterOf, stands}
 
 -- the row of a span
 abbrev pub rowAt : List (List ℕ) → (p m : ℕ) → ℕ
@@ -42,12 +43,16 @@ pub record Mapped (rules totals map : List (List ℕ)) (n : ℕ) (known : ℕ �
   pub below : (p A m : ℕ) → Asked rules n A m → Span n p m → totalAt totals map p A m ≤ total (ruled rules) (weightBy rules map) p A m
   pub fits : (p A m : ℕ) → Asked rules n A m → Span n p m → total (ruled rules) (weightBy rules map) p A m ≤ most
 
--- the map of plain counts: the row of a span is its length, and any word counts for 1
-pub record Everywhere (map : List (List ℕ)) : Type 0 where
-  pub row : (p m : ℕ) → p < 16 → 1 ≤ m → m ≤ 16 → rowAt map p m ≡ m
-  pub letter : (p : ℕ) → p < 16 → letterAt map p ≡ any
+-- a map of totals by length alone: the row of a span is its length behind the row `base`, and every position has the letter x
+pub record ByLength (x base : ℕ) (map : List (List ℕ)) : Type 0 where
+  pub row : (p m : ℕ) → p < 16 → 1 ≤ m → m ≤ 16 → rowAt map p m ≡ base + m
+  pub letter : (p : ℕ) → p < 16 → letterAt map p ≡ x
 
--- such a map, of 16 positions: the letters, then row after row
+-- that of plain counts: the row of a span is its length, and any word counts for 1
+abbrev pub Everywhere : List (List ℕ) → Type 0
+Everywhere map = ByLength any 0 map
+
+-- such maps, of 16 positions: the letters, then row after row
 abbrev pub sixteen : ℕ → List ℕ
 sixteen x = replicate 16 x
 
@@ -55,8 +60,18 @@ abbrev pub rowsFrom : (k n : ℕ) → List (List ℕ)
 rowsFrom k zero = []
 rowsFrom k (suc n) = sixteen k ∷ rowsFrom (suc k) n
 
+abbrev pub mapBy : (x base : ℕ) → List (List ℕ)
+mapBy x base = sixteen x ∷ rowsFrom (suc base) 16
+
 abbrev pub countsMap : List (List ℕ)
-countsMap = sixteen any ∷ rowsFrom 1 16
+countsMap = mapBy any 0
+
+-- that of the totals by the words' weights, which have rows of their own
+abbrev pub weightsRow : ℕ
+weightsRow = 18
+
+abbrev pub weightsMap : List (List ℕ)
+weightsMap = mapBy weighed weightsRow
 
 -- the map with the letters of bytes, one of which may be a blank; the rows of spans are as they were
 pub record LetteredAs (blank : ℕ) (words : List ℕ) (before after : List (List ℕ)) : Type 0 where

@@ -3,7 +3,7 @@
 -- Assumes nothing: these are definitions.
 use mathlib.Core.Path.{_≡_}
 use mathlib.Core.List.{List, []}
-use Prim.Native.Nat.{ℕ, _<_}
+use Prim.Native.Nat.{ℕ, _≤_, _<_}
 use lib.ListN.{length, getD}
 use Rattle.lists.specs.Inner.Tables.{Wide}
 use Rattle.grammar.specs.Inner.Links.{Unlinked, Linked}
@@ -25,7 +25,9 @@ pub record Readies (rules totals : List (List ℕ)) (n : ℕ) (plan map : List (
   pub map-long : length map ≡ 17
   pub map-wide : Wide map 16
 
--- what it leaves: that, and the same rules
+-- what it leaves: that, the same rules, and what stands behind their links
 pub record ReadiedAs (rules after plan map totals : List (List ℕ)) (n : ℕ) : Type 0 where
   pub ready : Ready after plan map totals chartRow n
   pub kept : (r : ℕ) → r < 4 → getD after r [] ≡ getD rules r []
+  pub rest : (r : ℕ) → 13 ≤ r → getD after r [] ≡ getD rules r []
+  pub size : length after ≡ length rules

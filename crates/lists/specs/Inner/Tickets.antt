@@ -4,11 +4,11 @@
 -- numbers the ones that pass (Searched, Struck).
 -- Assumes nothing: these are definitions.
 use mathlib.Core.Path.{_≡_}
-use mathlib.Core.Bool.{Bool, false, cond}
+use mathlib.Core.Bool.{Bool, false, cond, _||_}
 use mathlib.Core.List.{List, [], _∷_, _++_}
-use Prim.Native.Nat.{ℕ, _+_, _*_, _-_, _<_}
-use lib.Dec.{leb, ltb}
-use lib.ListN.{length, getD, replicate}
+use Prim.Native.Nat.{ℕ, _+_, _*_, _-_, _≤_, _<_}
+use lib.Dec.{leb, ltb, eqb}
+use lib.ListN.{length, getD, replicate, take}
 use Rattle.lists.specs.Joined.{_∈_, sumOver, concatMap}
 
 module _ {X : Type 0} where
@@ -40,6 +40,11 @@ module _ {X : Type 0} where
     pub own : o < v x
     pub place : n ≡ sumOver u before
 
+  -- the first ticket of the first element that passes: what the elements before it weigh
+  abbrev pub firstTicket : (v : X → ℕ) (P : X → Bool) → List X → ℕ
+  firstTicket v P [] = 0
+  firstTicket v P (x ∷ l) = cond (P x) 0 (v x + firstTicket v P l)
+
   -- the ticket list: each element as often as it weighs
   abbrev pub tickets : (v : X → ℕ) → List X → List X
   tickets v l = concatMap (λ x. replicate (v x) x) l
@@ -54,6 +59,10 @@ module _ {X : Type 0} where
   struckFrom P v k [] = []
   struckFrom P v k (x ∷ l) = cond (P x) (struckFrom P v (k + v x) l) ((k, v x) ∷ struckFrom P v (k + v x) l)
 
+  -- those of the elements that fail and weigh something
+  abbrev pub spans : (P : X → Bool) (v : X → ℕ) → List X → List (ℕ × ℕ)
+  spans P v l = struckFrom (λ x. P x || eqb (v x) 0) v 0 l
+
   -- e is the first ticket and the weight of an element that fails
   pub record StruckAs (P : X → Bool) (v : X → ℕ) (l : List X) (e : ℕ × ℕ) : Type 0 where
     pub before : List X
@@ -67,6 +76,14 @@ module _ {X : Type 0} where
 abbrev pub skipOver : ℕ → List (ℕ × ℕ) → ℕ
 skipOver t [] = t
 skipOver t (h ∷ bad) = cond (leb (h .0) t) (skipOver (t + h .1) bad) t
+
+-- a ends before b begins
+abbrev pub Apart : ℕ × ℕ → ℕ × ℕ → Type 0
+Apart a b = a .0 + a .1 ≤ b .0
+
+-- what the first k struck elements weigh
+abbrev pub gone : ℕ → List (ℕ × ℕ) → ℕ
+gone k l = sumOver (λ (e : ℕ × ℕ). e .1) (take k l)
 
 -- ---- combinations
 

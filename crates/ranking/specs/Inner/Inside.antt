@@ -7,15 +7,18 @@ use mathlib.Core.List.{List, [], _∷_, _++_}
 use Prim.Native.Nat.{ℕ, _≤_, _<_}
 use lib.ListN.{length, getD, drop}
 use lib.Dec.{ltb, leb, eqb}
-use Rattle.lists.specs.Searched.{howMany, firstPlace, same, keep}
+use Rattle.lists.specs.Joined.{sumOver}
+use Rattle.lists.specs.Searched.{howMany, firstPlace, same}
+use Rattle.lists.specs.Inner.Tickets.{tickets, firstTicket}
 use Rattle.lists.specs.Inner.Struck.{numbered}
 use Rattle.answers.specs.Answer.{Answer, answer}
 use Rattle.grammar.specs.Inner.Rules.{startIn, ruled}
 use Rattle.grammar.specs.Inner.Links.{Linked}
 use Rattle.counting.specs.Totals.{T}
-use Rattle.counting.specs.Inner.Sentences.{sentences}
+use Rattle.counting.specs.Inner.Sentences.{sentences, weight}
 use Rattle.counting.specs.Inner.Counted.{Counted}
-use Rattle.charts.specs.Inner.Letters.{any, letterAt, stands}
+use Rattle.counting.specs.Inner.Letters.{any, weighed}
+use Rattle.charts.specs.Inner.Letters.{letterAt, weightBy}
 use Rattle.charts.specs.Inner.Maps.{Closed, Mapped, Everywhere}
 
 -- the sentences of the full list, and how many there are
@@ -47,34 +50,39 @@ rankIn rules s =
 
 -- ---- by a map
 
--- the sentences of the full list whose words stand where a map's letters ask for them, and these with their derivation numbers
-abbrev pub standing : (rules map : List (List ℕ)) (n : ℕ) → List (List ℕ)
-standing rules map n = keep (stands map 0) (fullIn rules n)
+-- what a sentence weighs by a map's letters, and what all of the full list weigh
+abbrev pub weighs : (rules map : List (List ℕ)) → List ℕ → ℕ
+weighs rules map s = weight (weightBy rules map) 0 s
 
-abbrev pub standingAt : (rules map : List (List ℕ)) (n : ℕ) → List (ℕ × List ℕ)
-standingAt rules map n = keep (λ e. stands map 0 (e .1)) (numbered 0 (fullIn rules n))
+abbrev pub weighIn : (rules map : List (List ℕ)) (n : ℕ) → ℕ
+weighIn rules map n = sumOver (weighs rules map) (fullIn rules n)
 
--- how many of them stand before the first with the sentence s
+-- the tickets: each of them, with its derivation number, as often as it weighs
+abbrev pub ticketsAt : (rules map : List (List ℕ)) (n : ℕ) → List (ℕ × List ℕ)
+ticketsAt rules map n = tickets (λ e. weighs rules map (e .1)) (numbered 0 (fullIn rules n))
+
+-- the first ticket of the sentence s
 abbrev pub placeIn : (rules map : List (List ℕ)) (s : List ℕ) → ℕ
-placeIn rules map s = firstPlace (λ u. same u s) (standing rules map (length s))
+placeIn rules map s = firstTicket (weighs rules map) (λ u. same u s) (fullIn rules (length s))
 
--- the counts, and the totals of a map that asks for words or for any word
+-- the counts, and the totals of a map
 pub record Chooses (rules totals map : List (List ℕ)) (n : ℕ) : Type 0 where
   pub counted : Counted rules totals n
   pub known : ℕ → ℕ → Bool
   pub closed : Closed rules n known
   pub mapped : Mapped rules totals map n known
-  pub letters : (p : ℕ) → p < n → letterAt map p ≤ any
   pub linked : (p : ℕ) → p < n → letterAt map p < any → Linked rules
+  pub weights : (p : ℕ) → p < n → letterAt map p ≡ weighed → 14 ≤ length rules
 
--- with one that has d of these before it, the map of the counts, and room for its sentence
-pub record WriteSought (rules totals choice counts : List (List ℕ)) (n d : ℕ) (out : List ℕ) : Type 0 where
+-- with one of the tickets, the map of the counts, and room for its owner's sentence
+pub record WriteSought (rules totals choice counts : List (List ℕ)) (n t : ℕ) (out : List ℕ) : Type 0 where
   pub everywhere : Everywhere counts
   pub chooses : Chooses rules totals choice n
-  pub inside : d < length (standing rules choice n)
+  pub inside : t < weighIn rules choice n
   pub room : n ≤ length out
 
 -- it is written, and what follows it is kept
-pub record WrittenAs (rules choice : List (List ℕ)) (n d : ℕ) (before after : List ℕ) (number : ℕ) : Type 0 where
-  pub words : after ≡ getD (standingAt rules choice n) d (0, []) .1 ++ drop n before
-  pub number-is : number ≡ getD (standingAt rules choice n) d (0, []) .0
+pub record WrittenAs (rules choice : List (List ℕ)) (n t : ℕ) (before after : List ℕ) (number weight : ℕ) : Type 0 where
+  pub words : after ≡ getD (ticketsAt rules choice n) t (0, []) .1 ++ drop n before
+  pub number-is : number ≡ getD (ticketsAt rules choice n) t (0, []) .0
+  pub weight-is : weight ≡ weighs rules choice (getD (ticketsAt rules choice n) t (0, []) .1)

@@ -8,7 +8,8 @@ use lib.ListN.{length, getD}
 use Rattle.lists.specs.Inner.Tables.{entry, Wide}
 use Rattle.grammar.specs.Inner.Links.{Unlinked, Linked}
 use Rattle.counting.specs.Inner.Counted.{Counted}
-use Rattle.charts.specs.Inner.Letters.{any, letterAt, stands}
+use Rattle.counting.specs.Inner.Letters.{any, weighed}
+use Rattle.charts.specs.Inner.Letters.{letterAt}
 use Rattle.charts.specs.Inner.Maps.{Closed, Mapped}
 use Rattle.charts.specs.Inner.Plan.{chartRow, room}
 use Rattle.charts.specs.Inner.Chart.{Blank, Clean, Filled}
@@ -29,11 +30,10 @@ pub record FoundAs (rules plan map : List (List ℕ)) (first : ℕ) (s : List �
   pub ready : Ready rules plan map totals first (length s)
   pub clean : Clean first (length s) sets totals
 
--- the letters of a sentence that has derivations and stands by a measure, and the totals of both
+-- the letters of a sentence that has derivations, a measure, and the totals of both
 pub record PlaceSought (rules totals map measure : List (List ℕ)) (n : ℕ) (s : List ℕ) : Type 0 where
   pub long : length s ≡ n
   pub some : 1 ≤ readingsIn rules s
-  pub stand : stands measure 0 s ≡ true
   pub counted : Counted rules totals n
   pub linked : Linked rules
   pub known : ℕ → ℕ → Bool
@@ -42,7 +42,7 @@ pub record PlaceSought (rules totals map measure : List (List ℕ)) (n : ℕ) (s
   pub measured : Mapped rules totals measure n known
   pub letters : (p : ℕ) → p < n → letterAt map p ≡ getD s p 0
   pub small : (p : ℕ) → p < n → letterAt map p < any
-  pub measure-letters : (p : ℕ) → p < n → letterAt measure p ≤ any
+  pub measures : (p : ℕ) → p < n → letterAt measure p ≡ weighed → 14 ≤ length rules
 
 -- room for the chart of n positions, in a table of zeros
 pub record Roomy (n : ℕ) (totals : List (List ℕ)) : Type 0 where

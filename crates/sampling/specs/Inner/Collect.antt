@@ -1,28 +1,31 @@
--- What collecting the heard derivations asks and gives back, by the table of rules alone. They are told by their places among the derivations whose
--- sentence passes a test: that it stands by a measure's letters, or that it fits a pattern.
+-- What collecting the heard derivations asks and gives back, by the table of rules alone. They are told by their first tickets, where each sentence
+-- weighs u: by a measure's letters; 1 where it fits a pattern, and else nothing; or what words' weights make it.
 -- Assumes nothing: these are definitions.
 use mathlib.Core.Path.{_≡_}
 use mathlib.Core.Bool.{Bool, true, false, cond, _&&_}
 use mathlib.Core.List.{List, [], _∷_}
 use Prim.Native.Nat.{ℕ, _≤_, _<_}
 use lib.ListN.{length, take}
-use lib.Dec.{leb, eqb}
-use Rattle.lists.specs.Joined.{concatMap}
-use Rattle.lists.specs.Searched.{someOf, firstPlace, same, keep}
+use lib.Dec.{ltb, leb, eqb}
+use Rattle.lists.specs.Joined.{_∈_, concatMap}
+use Rattle.lists.specs.Searched.{bit, someOf, same, keep}
+use Rattle.lists.specs.Inner.Tickets.{firstTicket, spans}
 use Rattle.lists.specs.Inner.Struck.{struck, numbered}
 use Rattle.lists.specs.Inner.Tables.{entry}
-use Rattle.grammar.specs.Trees.{Tree}
+use Rattle.grammar.specs.Trees.{Tree, sentence}
 use Rattle.counting.specs.Inner.Counted.{Counted}
-use Rattle.charts.specs.Inner.Letters.{any, letterAt, stands}
+use Rattle.counting.specs.Inner.Letters.{weighed}
+use Rattle.charts.specs.Inner.Letters.{letterAt, stands}
 use Rattle.charts.specs.Inner.Maps.{rowAt, Span, Mapped}
 use Rattle.charts.specs.Inner.Plan.{lengthIn, needed, endOf}
 use Rattle.charts.specs.Inner.Chart.{Clean}
 use Rattle.charts.specs.Inner.Ready.{Ready}
 use Rattle.ranking.specs.Answers.{fullList}
-use Rattle.ranking.specs.Inner.Inside.{fullIn, readingsIn}
+use Rattle.ranking.specs.Inner.Inside.{fullIn, readingsIn, weighs}
 use Rattle.history.specs.Layout.{recordsOf}
 use Rattle.history.specs.Refusals.{Accepted}
 use Rattle.history.specs.Heard.{sentencesIn}
+use Rattle.sampling.specs.Pattern.{matches}
 use Rattle.sampling.specs.Question.{Question, plainly}
 use Rattle.sampling.specs.Unheard.{outside, suits, ofLength}
 use Rattle.sampling.specs.declared.heard.Added.{Added}
@@ -37,10 +40,18 @@ fittingAt g a = keep (λ e. suits a (e .1)) (numbered 0 (fullList g (a .length))
 abbrev pub barred : (g h : List ℕ) (a : Question) → List ℕ
 barred g h a = struck (λ e. outside h (a .voice) (e .1)) (fittingAt g a)
 
--- the place of a sentence with n words and one derivation that passes the test; of any other none
-abbrev pub numbersIn : (rules : List (List ℕ)) (P : List ℕ → Bool) (n : ℕ) (s : List ℕ) → List ℕ
-numbersIn rules P n s =
-    cond (eqb (length s) n && (eqb (readingsIn rules s) 1 && P s)) (firstPlace (λ u. same u s) (keep P (fullIn rules n)) ∷ []) []
+-- the first tickets and the weights of the derivations that are heard in the voice and weigh something
+abbrev pub spansBy : (g h : List ℕ) (n v : ℕ) (u : List ℕ → ℕ) → List (ℕ × ℕ)
+spansBy g h n v u = spans (λ (e : ℕ × Tree). outside h v (e .1)) (λ e. u (sentence (e .1))) (numbered 0 (fullList g n))
+
+-- what fits a question's pattern weighs 1
+abbrev pub fitting : (a : Question) (s : List ℕ) → ℕ
+fitting a s = bit (matches (a .pattern) s)
+
+-- the first ticket of a sentence with n words and one derivation that weighs something; of any other none
+abbrev pub numbersIn : (rules : List (List ℕ)) (u : List ℕ → ℕ) (n : ℕ) (s : List ℕ) → List ℕ
+numbersIn rules u n s =
+    cond (eqb (length s) n && (eqb (readingsIn rules s) 1 && ltb 0 (u s))) (firstTicket u (λ t. same t s) (fullIn rules n) ∷ []) []
 
 -- the sentence has n words and two or more derivations
 abbrev pub manyIn : (rules : List (List ℕ)) (n : ℕ) (s : List ℕ) → Bool
@@ -50,17 +61,19 @@ manyIn rules n s = eqb (length s) n && leb 2 (readingsIn rules s)
 abbrev pub ambiguousIn : (rules : List (List ℕ)) (h : List ℕ) (n v : ℕ) → Bool
 ambiguousIn rules h n v = someOf (λ s. leb 2 (readingsIn rules s)) (ofLength h (plainly n v))
 
--- the places of the sentences of a history, in the voice and of the length, along the chain
-abbrev pub allNumbersIn : (rules : List (List ℕ)) (P : List ℕ → Bool) (h : List ℕ) (n v : ℕ) → List ℕ
-allNumbersIn rules P h n v = concatMap (numbersIn rules P n) (sentencesIn h v)
+-- those of the sentences of a history, in the voice and of the length, along the chain
+abbrev pub allNumbersIn : (rules : List (List ℕ)) (u : List ℕ → ℕ) (h : List ℕ) (n v : ℕ) → List ℕ
+allNumbersIn rules u h n v = concatMap (numbersIn rules u n) (sentencesIn h v)
 
 -- ---- one sentence
 
--- the totals of a measure over the spans of a plan, in rows that no sentence's chart has; where they are the counts every sentence stands
+-- The totals of a measure over the spans of a plan, in rows that no sentence's chart has. A sentence stands if it weighs something; where the totals
+-- are the counts every sentence does.
 pub record Measures (rules plan measure totals : List (List ℕ)) (first n : ℕ) : Type 0 where
   pub mapped : Mapped rules totals measure n (needed plan)
   pub rows : (p m : ℕ) → Span n p m → rowAt measure p m < first
-  pub letters : (p : ℕ) → p < n → letterAt measure p ≤ any
+  pub weights : (p : ℕ) → p < n → letterAt measure p ≡ weighed → 14 ≤ length rules
+  pub stand : (s : List ℕ) → s ∈ fullIn rules n → stands measure 0 s ≡ ltb 0 (weighs rules measure s)
   pub plain : rowAt measure 0 1 < 17 → (s : List ℕ) → length s ≡ n → stands measure 0 s ≡ true
 
 -- the tables for sentences of the plan's length, their charts from the row `first` on
@@ -70,14 +83,14 @@ pub record Serves (rules plan map measure : List (List ℕ)) (sets : List ℕ) (
   pub clean : Clean first (lengthIn plan) sets totals
   pub measures : Measures rules plan measure totals first (lengthIn plan)
 
--- what the sentence s adds: by how many derivations it has, and whether it stands
-abbrev pub Adds : (rules : List (List ℕ)) (P : List ℕ → Bool) (n : ℕ) (s : List ℕ) → Added → Type 0
-Adds rules P n s Nothing = (manyIn rules n s ≡ false) × (numbersIn rules P n s ≡ [])
-Adds rules P n s (Place d) = (manyIn rules n s ≡ false) × (numbersIn rules P n s ≡ d ∷ [])
-Adds rules P n s Many = manyIn rules n s ≡ true
+-- what the sentence s adds: by how many derivations it has, and whether it weighs something
+abbrev pub Adds : (rules : List (List ℕ)) (u : List ℕ → ℕ) (n : ℕ) (s : List ℕ) → Added → Type 0
+Adds rules u n s Nothing = (manyIn rules n s ≡ false) × (numbersIn rules u n s ≡ [])
+Adds rules u n s (Place d) = (manyIn rules n s ≡ false) × (numbersIn rules u n s ≡ d ∷ [])
+Adds rules u n s Many = manyIn rules n s ≡ true
 
 pub record HeardFoundAs (rules plan map measure : List (List ℕ)) (s sets : List ℕ) (totals : List (List ℕ)) (f : Added) : Type 0 where
-  pub adds : Adds rules (stands measure 0) (lengthIn plan) s f
+  pub adds : Adds rules (weighs rules measure) (lengthIn plan) s f
   pub serves : Serves rules plan map measure sets totals
 
 -- ---- all sentences
@@ -94,9 +107,9 @@ pub record Collects (rules plan map measure : List (List ℕ)) (h : List ℕ) (n
   pub room : recordsOf h ≤ length numbers
 
 -- the places along the chain, or that a sentence has two or more derivations
-abbrev pub CollectedIs : (rules : List (List ℕ)) (P : List ℕ → Bool) (h : List ℕ) (n v : ℕ) (numbers : List ℕ) → Collected → Type 0
-CollectedIs rules P h n v numbers (Numbers k) = (ambiguousIn rules h n v ≡ false) × (k ≤ recordsOf h) × (take k numbers ≡ allNumbersIn rules P h n v)
-CollectedIs rules P h n v numbers Ambiguous = ambiguousIn rules h n v ≡ true
+abbrev pub CollectedIs : (rules : List (List ℕ)) (u : List ℕ → ℕ) (h : List ℕ) (n v : ℕ) (numbers : List ℕ) → Collected → Type 0
+CollectedIs rules u h n v numbers (Numbers k) = (ambiguousIn rules h n v ≡ false) × (k ≤ recordsOf h) × (take k numbers ≡ allNumbersIn rules u h n v)
+CollectedIs rules u h n v numbers Ambiguous = ambiguousIn rules h n v ≡ true
 
 -- the counts and the measure's totals are as they were
 pub record Still (rules plan measure totals : List (List ℕ)) (n : ℕ) : Type 0 where
@@ -104,5 +117,5 @@ pub record Still (rules plan measure totals : List (List ℕ)) (n : ℕ) : Type 
   pub mapped : Mapped rules totals measure n (needed plan)
 
 pub record CollectedAs (rules plan measure : List (List ℕ)) (h : List ℕ) (n v : ℕ) (totals : List (List ℕ)) (numbers : List ℕ) (c : Collected) : Type 0 where
-  pub holds : CollectedIs rules (stands measure 0) h n v numbers c
+  pub holds : CollectedIs rules (weighs rules measure) h n v numbers c
   pub still : Still rules plan measure totals n

@@ -7,12 +7,11 @@ use Prim.Native.Nat.{ℕ, _≤_, _<_}
 use lib.Dec.{leb}
 use lib.ListN.{length, getD}
 use Rattle.lists.specs.Inner.Tables.{entry}
-use Rattle.charts.specs.Inner.Letters.{letterAt, letterOf, stands}
+use Rattle.charts.specs.Inner.Letters.{letterAt, letterOf}
 use Rattle.charts.specs.Inner.Plan.{chartRow, endOf}
 use Rattle.charts.specs.Inner.Chart.{Filled}
 use Rattle.charts.specs.Inner.Ready.{Ready, Readies}
-use Rattle.ranking.specs.Inner.Inside.{Chooses}
-use Rattle.sampling.specs.Pattern.{matches}
+use Rattle.ranking.specs.Inner.Inside.{weighs, Chooses}
 use Rattle.sampling.specs.Question.{Question}
 
 -- the first row behind a pattern's chart, where those of heard sentences begin
@@ -40,8 +39,8 @@ pub record PatternChartedAs (rules₀ : List (List ℕ)) (pattern : List ℕ) (t
   pub letters : (p : ℕ) → p < length pattern → letterAt choice p ≡ letterOf 255 (getD pattern p 0)
   pub bytes : (p : ℕ) → p < length pattern → getD pattern p 0 < 256
 
--- the totals of what fits, of the rules that were there
-pub record Choice (rules₀ : List (List ℕ)) (a : Question) (rules totals choice : List (List ℕ)) : Type 0 where
+-- the totals of a choice by which each sentence weighs u, of the rules that were there
+pub record Choice (rules₀ : List (List ℕ)) (a : Question) (u : List ℕ → ℕ) (rules totals choice : List (List ℕ)) : Type 0 where
   pub kept : (r : ℕ) → r < 4 → getD rules r [] ≡ getD rules₀ r []
   pub chooses : Chooses rules totals choice (a .length)
-  pub stand : (s : List ℕ) → length s ≡ a .length → stands choice 0 s ≡ matches (a .pattern) s
+  pub weigh : (s : List ℕ) → length s ≡ a .length → weighs rules choice s ≡ u s

@@ -10,7 +10,7 @@ use lib.ListN.{length, take}
 use Rattle.lists.specs.Joined.{_∈_}
 use Rattle.lists.specs.Ordered.{Pairwise}
 use Rattle.lists.specs.Inner.Tables.{Wide, Kept}
-use Rattle.answers.specs.Answer.{firstThatApplies}
+use Rattle.answers.specs.Answer.{Row, firstThatApplies}
 use Rattle.answers.specs.Inner.Refusals.{refusalNumber}
 use Rattle.grammar.specs.Trees.{sentence}
 use Rattle.counting.specs.Inner.Counted.{Counted}
@@ -18,17 +18,15 @@ use Rattle.counting.specs.Inner.Preparing as tables
 use Rattle.counting.specs.Inner.Preparing.{preparedNumber, Tabled}
 use Rattle.counting.specs.declared.prepare.Prepared.{Prepared}
 use Rattle.counting.specs.declared.prepare.Prepared.the-variants.{Ready as Ready-tables}
-use Rattle.charts.specs.Inner.Letters.{stands}
 use Rattle.ranking.specs.Answers.{fullList}
-use Rattle.ranking.specs.Inner.Inside.{fullIn, Chooses}
+use Rattle.ranking.specs.Inner.Inside.{fullIn, weighs, Chooses}
 use Rattle.history.specs.Layout.{recordsOf}
 use Rattle.history.specs.Refusals.{historyRows, Accepted}
-use Rattle.sampling.specs.Pattern.{matches}
 use Rattle.sampling.specs.Question.{Question}
-use Rattle.sampling.specs.Inner.Collect.{barred, ambiguousIn, allNumbersIn, Still}
+use Rattle.sampling.specs.Inner.Collect.{spansBy, fitting, ambiguousIn, allNumbersIn, Still}
 use Rattle.sampling.specs.Inner.Patterns.{Patterned, Choice}
 use Rattle.sampling.specs.Unheard.{ambiguous}
-use Rattle.sampling.specs.Answers.{askedRows, remainingRows}
+use Rattle.sampling.specs.Answers.{askedRows}
 use Rattle.sampling.specs.declared.prepare.Sampled.{Sampled}
 use Rattle.sampling.specs.declared.prepare.Sampled.the-variants.{Ready, Refused}
 
@@ -47,20 +45,20 @@ pub record AskedAs (g : List ℕ) (a : Question) (rules₀ rules totals₀ total
 abbrev pub Room : (h numbers : List ℕ) → Type 0
 Room h numbers = Accepted h → recordsOf h ≤ length numbers
 
--- the places of a history's sentences that pass a test, rising, each once
-pub record Heard (rules : List (List ℕ)) (P : List ℕ → Bool) (h : List ℕ) (n v : ℕ) (heard : List ℕ) : Type 0 where
+-- the first tickets of a history's sentences that weigh something, rising, each once
+pub record Heard (rules : List (List ℕ)) (u : List ℕ → ℕ) (h : List ℕ) (n v : ℕ) (heard : List ℕ) : Type 0 where
   pub clear : ambiguousIn rules h n v ≡ false
   pub rising : Pairwise _<_ heard
-  pub just : (d : ℕ) → (d ∈ heard) ↔ (d ∈ allNumbersIn rules P h n v)
+  pub just : (d : ℕ) → (d ∈ heard) ↔ (d ∈ allNumbersIn rules u h n v)
 
 -- these; or that line 15 applies
-abbrev pub Hold : (rules : List (List ℕ)) (P : List ℕ → Bool) (h : List ℕ) (n v : ℕ) (numbers : List ℕ) → Sampled → Type 0
-Hold rules P h n v numbers (Ready k) = (k ≤ recordsOf h) × Heard rules P h n v (take k numbers)
-Hold rules P h n v numbers (Refused r) = (ambiguousIn rules h n v ≡ true) × (refusalNumber r ≡ 15)
+abbrev pub Hold : (rules : List (List ℕ)) (u : List ℕ → ℕ) (h : List ℕ) (n v : ℕ) (numbers : List ℕ) → Sampled → Type 0
+Hold rules u h n v numbers (Ready k) = (k ≤ recordsOf h) × Heard rules u h n v (take k numbers)
+Hold rules u h n v numbers (Refused r) = (ambiguousIn rules h n v ≡ true) × (refusalNumber r ≡ 15)
 
 -- by a measure; the counts and the measure's totals are as they were
 pub record NumbersBy (rules plan measure : List (List ℕ)) (h : List ℕ) (n v : ℕ) (totals : List (List ℕ)) (numbers : List ℕ) (s : Sampled) : Type 0 where
-  pub hold : Hold rules (stands measure 0) h n v numbers s
+  pub hold : Hold rules (weighs rules measure) h n v numbers s
   pub still : Still rules plan measure totals n
 
 -- the counts of the length, an accepted history, and room for its places
@@ -71,7 +69,7 @@ pub record NumbersSought (rules totals : List (List ℕ)) (h : List ℕ) (n : �
 
 -- by the question's pattern
 pub record NumbersAs (rules : List (List ℕ)) (h : List ℕ) (a : Question) (numbers : List ℕ) (s : Sampled) : Type 0 where
-  pub hold : Hold rules (matches (a .pattern)) h (a .length) (a .voice) numbers s
+  pub hold : Hold rules (fitting a) h (a .length) (a .voice) numbers s
 
 -- with a pattern, and a history of so many records
 pub record FittingSought (rules totals : List (List ℕ)) (h : List ℕ) (a : Question) (records : ℕ) (choice : List (List ℕ)) (numbers : List ℕ) : Type 0 where
@@ -81,9 +79,12 @@ pub record FittingSought (rules totals : List (List ℕ)) (h : List ℕ) (a : Qu
   pub choice-long : length choice ≡ 17
   pub choice-wide : Wide choice 16
 
-pub record FittedAs (rules₀ : List (List ℕ)) (h : List ℕ) (a : Question) (rules totals choice : List (List ℕ)) (numbers : List ℕ) (s : Sampled) : Type 0 where
-  pub hold : Hold rules₀ (matches (a .pattern)) h (a .length) (a .voice) numbers s
-  pub chosen : Choice rules₀ a rules totals choice
+pub record HeardBy (rules₀ : List (List ℕ)) (h : List ℕ) (a : Question) (u : List ℕ → ℕ) (rules totals choice : List (List ℕ)) (numbers : List ℕ) (s : Sampled) : Type 0 where
+  pub hold : Hold rules₀ u h (a .length) (a .voice) numbers s
+  pub chosen : Choice rules₀ a u rules totals choice
+
+abbrev pub FittedAs : (rules₀ : List (List ℕ)) (h : List ℕ) (a : Question) (rules totals choice : List (List ℕ)) (numbers : List ℕ) (s : Sampled) → Type 0
+FittedAs rules₀ h a rules totals choice numbers s = HeardBy rules₀ h a (fitting a) rules totals choice numbers s
 
 -- the counts of the length asked for
 pub record RecordsSought (rules totals : List (List ℕ)) (h : List ℕ) (n : ℕ) (numbers : List ℕ) : Type 0 where
@@ -97,15 +98,18 @@ pub record MatchingSought (rules totals : List (List ℕ)) (h : List ℕ) (a : Q
   pub choice-long : length choice ≡ 17
   pub choice-wide : Wide choice 16
 
--- the places, of an accepted history, and the totals of what fits; or the first of 11 to 15 that applies
-abbrev pub Recorded : (rules₀ : List (List ℕ)) (h : List ℕ) (a : Question) (rules totals choice : List (List ℕ)) (numbers : List ℕ) → Sampled → Type 0
-Recorded rules₀ h a rules totals choice numbers (Ready k) =
-    Accepted h × (k ≤ recordsOf h) × Heard rules₀ (matches (a .pattern)) h (a .length) (a .voice) (take k numbers) × Choice rules₀ a rules totals choice
-Recorded rules₀ h a rules totals choice numbers (Refused r) =
+-- the first tickets, of an accepted history, and the totals of the choice; or the first of 11 to 15 that applies
+abbrev pub Recorded : (rules₀ : List (List ℕ)) (h : List ℕ) (a : Question) (u : List ℕ → ℕ) (rules totals choice : List (List ℕ)) (numbers : List ℕ) → Sampled → Type 0
+Recorded rules₀ h a u rules totals choice numbers (Ready k) =
+    Accepted h × (k ≤ recordsOf h) × Heard rules₀ u h (a .length) (a .voice) (take k numbers) × Choice rules₀ a u rules totals choice
+Recorded rules₀ h a u rules totals choice numbers (Refused r) =
     refusalNumber r ≡ firstThatApplies (historyRows h ++ ((ambiguousIn rules₀ h (a .length) (a .voice), 15) ∷ []))
 
-pub record RecordedAs (rules₀ : List (List ℕ)) (h : List ℕ) (a : Question) (rules totals choice : List (List ℕ)) (numbers : List ℕ) (s : Sampled) : Type 0 where
-  pub recorded : Recorded rules₀ h a rules totals choice numbers s
+pub record RecordedBy (rules₀ : List (List ℕ)) (h : List ℕ) (a : Question) (u : List ℕ → ℕ) (rules totals choice : List (List ℕ)) (numbers : List ℕ) (s : Sampled) : Type 0 where
+  pub recorded : Recorded rules₀ h a u rules totals choice numbers s
+
+abbrev pub RecordedAs : (rules₀ : List (List ℕ)) (h : List ℕ) (a : Question) (rules totals choice : List (List ℕ)) (numbers : List ℕ) (s : Sampled) → Type 0
+RecordedAs rules₀ h a rules totals choice numbers s = RecordedBy rules₀ h a (fitting a) rules totals choice numbers s
 
 -- ---- all, for the grammar
 
@@ -130,22 +134,30 @@ pub record LentMatching (h : List ℕ) (a : Question) (rules totals choice : Lis
   pub choice-long : length choice ≡ 17
   pub choice-wide : Wide choice 16
 
--- the tables and the k places of heard derivations are there
-pub record Drawable (g h : List ℕ) (a : Question) (rules totals choice : List (List ℕ)) (numbers : List ℕ) (k : ℕ) : Type 0 where
-  pub passed : firstThatApplies (remainingRows g h a) ≡ 0
+-- The tables and the first tickets of the k heard derivations are there, by which each sentence weighs u. Nothing applies of the lines `asked`, which
+-- come before 11, and of 11 to 15.
+pub record DrawableBy (g h : List ℕ) (a : Question) (u : List ℕ → ℕ) (asked : List Row) (rules totals choice : List (List ℕ)) (numbers : List ℕ) (k : ℕ) : Type 0 where
+  pub passed : firstThatApplies (asked ++ (historyRows h ++ ((ambiguous g h a, 15) ∷ []))) ≡ 0
   pub diary : Accepted h
   pub clear : ambiguous g h a ≡ false
   pub few : k ≤ recordsOf h
-  pub heard : take k numbers ≡ barred g h a
+  pub heard : take k numbers ≡ map (λ (e : ℕ × ℕ). e .0) (spansBy g h (a .length) (a .voice) u)
   pub full : fullIn rules (a .length) ≡ map sentence (fullList g (a .length))
   pub chooses : Chooses rules totals choice (a .length)
-  pub stand : (s : List ℕ) → length s ≡ a .length → stands choice 0 s ≡ matches (a .pattern) s
+  pub weigh : (s : List ℕ) → length s ≡ a .length → weighs rules choice s ≡ u s
 
 -- what preparing answers: the refusal, or these
-abbrev pub SampledIs : (g h : List ℕ) (a : Question) (rules totals choice : List (List ℕ)) (numbers : List ℕ) → Sampled → Type 0
-SampledIs g h a rules totals choice numbers (Ready k) = Drawable g h a rules totals choice numbers k
-SampledIs g h a rules totals choice numbers (Refused r) = refusalNumber r ≡ firstThatApplies (remainingRows g h a)
+abbrev pub SampledIs : (g h : List ℕ) (a : Question) (u : List ℕ → ℕ) (asked : List Row) (rules totals choice : List (List ℕ)) (numbers : List ℕ) → Sampled → Type 0
+SampledIs g h a u asked rules totals choice numbers (Ready k) = DrawableBy g h a u asked rules totals choice numbers k
+SampledIs g h a u asked rules totals choice numbers (Refused r) = refusalNumber r ≡ firstThatApplies (asked ++ (historyRows h ++ ((ambiguous g h a, 15) ∷ [])))
 
-pub record SampledAs (g h : List ℕ) (a : Question) (rules totals choice : List (List ℕ)) (numbers : List ℕ) (s : Sampled) : Type 0 where
-  pub prepared : SampledIs g h a rules totals choice numbers s
+pub record SampledBy (g h : List ℕ) (a : Question) (u : List ℕ → ℕ) (asked : List Row) (rules totals choice : List (List ℕ)) (numbers : List ℕ) (s : Sampled) : Type 0 where
+  pub prepared : SampledIs g h a u asked rules totals choice numbers s
   pub room : Room h numbers
+
+-- of a question
+abbrev pub Drawable : (g h : List ℕ) (a : Question) (rules totals choice : List (List ℕ)) (numbers : List ℕ) (k : ℕ) → Type 0
+Drawable g h a rules totals choice numbers k = DrawableBy g h a (fitting a) (askedRows g a) rules totals choice numbers k
+
+abbrev pub SampledAs : (g h : List ℕ) (a : Question) (rules totals choice : List (List ℕ)) (numbers : List ℕ) (s : Sampled) → Type 0
+SampledAs g h a rules totals choice numbers s = SampledBy g h a (fitting a) (askedRows g a) rules totals choice numbers s

@@ -11,7 +11,8 @@ use Rattle.grammar.specs.Inner.Rules.{ruled}
 use Rattle.grammar.specs.Inner.Links.{Linked}
 use Rattle.counting.specs.Totals.{total}
 use Rattle.counting.specs.Inner.Counted.{Asked, Counted}
-use Rattle.charts.specs.Inner.Letters.{any, weighed, letterAt, weightBy}
+use Rattle.counting.specs.Inner.Letters.{any, weighed}
+use Rattle.charts.specs.Inner.Letters.{letterAt, weightBy}
 use Rattle.charts.specs.Inner.Maps.{Span, Closed, Mapped}
 
 -- what every step has at hand: the counts up to n, and the totals of choice and measure over the known spans of n positions

@@ -13,7 +13,8 @@ use Rattle.grammar.specs.Inner.Rules.{wordAt, wordFrom, countIn, wordsIn, ruled
 use Rattle.grammar.specs.Inner.Links.{Linked}
 use Rattle.counting.specs.Refusals.{most}
 use Rattle.counting.specs.Inner.Owned.{HalvesAs, ChosenAs}
-use Rattle.charts.specs.Inner.Letters.{any, weighed, letterWeight, weightBy}
+use Rattle.counting.specs.Inner.Letters.{any, weighed, byLetter}
+use Rattle.charts.specs.Inner.Letters.{weightBy}
 use Rattle.charts.specs.Inner.Maps.{rowAt, totalAt}
 use Rattle.walk.specs.Inner.Sought.{Sought}
 
@@ -34,10 +35,6 @@ pub record Cut (totals map : List (List ℕ)) (b p k c q j : ℕ) : Type 0 where
   pub fits : totalAt totals map p b k * totalAt totals map q c j ≤ most
 
 -- ---- a single word
-
--- what the letter x lets words count for
-abbrev pub byLetter : List (List ℕ) → (x : ℕ) → ℕ → ℕ
-byLetter rules x w = letterWeight (entry rules 13) x w
 
 -- a has the word x, and the links find it
 pub record HasWord (rules : List (List ℕ)) (x a : ℕ) : Type 0 where

@@ -28,6 +28,8 @@ returns c =
     record {
       ready = record { blank = blank l; linked = l .link .ensures .linked; planned = b .planned; long = b .map-long; wide = b .map-wide };
       kept = l .link .ensures .rules-kept;
+      rest = l .link .ensures .rest-kept;
+      size = l .link .ensures .long;
     }
 
 pub ready-spec : {M : Type 1} → statement M

@@ -4,15 +4,16 @@ use mathlib.Core.Path.{refl, _∙_}
 use Prim.Native.Nat.{_+_, _-_}
 use native.Mathlib.Omega.{arith}
 use borrow.Author.Tests.{not-true, not-false}
+use Rattle.counting.specs.Inner.Letters.{byLetter}
 use Rattle.counting.proofs.Filling.{Rising, rising-start, rising-asks, rising-over, rising-step, rising-end}
 use Rattle.counting.proofs.tallies.fill.Statement.{statement}
 use Rattle.counting.proofs.tallies.fill.Tie as tie
 
 abbrev Inv-loop : tie.InvT-loop
-Inv-loop rules n totals₀ needs m₀ totals m = Rising rules totals₀ totals n m
+Inv-loop rules letter n totals₀ needs m₀ totals m = Rising rules (byLetter rules letter) totals₀ totals n m
 
 abbrev μ-loop : tie.MeasureT-loop
-μ-loop rules n totals₀ needs m₀ totals m = n + 1 - m
+μ-loop rules letter n totals₀ needs m₀ totals m = n + 1 - m
 
 -- where the table is lent, and where its longest lengths are cleared
 abbrev start : tie.At-loop Inv-loop μ-loop → tie.Start Inv-loop μ-loop
@@ -31,7 +32,7 @@ find-requires c κs = let f = c .before .pre in record { table = f .table; some 
 row-requires : tie.Need-row-requires Inv-loop μ-loop
 row-requires c κs =
     let l = c .before .before in
-    rising-asks (start l .pre) (l .loop .inv) (c .before .loop-test .taken) (found l .find .ensures) refl
+    (rising-asks (start l .pre) (l .loop .inv) (c .before .loop-test .taken) (found l .find .ensures) refl, start l .pre .weights)
 
 same-length : tie.Need-same-length Inv-loop μ-loop
 same-length c =

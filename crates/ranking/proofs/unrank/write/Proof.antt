@@ -1,4 +1,4 @@
--- `write` meets its contract: the walk by the choice writes entry d of what stands and measures its number by the counts; what follows is kept.
+-- `write` meets its contract: the walk by the choice writes the owner of a ticket and measures its number by the counts; what follows is kept.
 -- Assumes nothing.
 use denote.Ref.{now}
 use borrow.Author.Needs.{needs}

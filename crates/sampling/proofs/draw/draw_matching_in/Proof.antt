@@ -35,7 +35,7 @@ part-draw-from-end c =
 
 draw-from-requires : tie.Need-draw-from-requires
 draw-from-requires c κs =
-    let p = c .before .before .before .before .before .before .before .before in
+    let p = c .before .before .before .before .before .before .before .before .before in
     (draw-sought (drawable p) (called p .prepare-matching .ensures .room), counts-map)
 
 returns : tie.Need-returns
@@ -46,7 +46,7 @@ returns c =
 returns-2 : tie.Need-returns-2
 returns-2 c =
     let w = c .before .before in
-    let p = w .before .before .before .before .before .before .before .before .before in
+    let p = w .before .before .before .before .before .before .before .before .before .before in
     w .draw-from .ensures ∙ draw-skipping _ _ _ _ _ (drawable p)
 
 pub draw-matching-in-spec : {M : Type 1} → statement M
@@ -59,6 +59,9 @@ draw-matching-in-spec =
     (λ c. search needs)
     (λ c. search needs)
     part-draw-from-end
+    (λ c. search needs)
+    (λ c. search needs)
+    (λ c. search needs)
     draw-from-requires
     (λ c. search needs)
     (λ c. search needs)

@@ -7,7 +7,7 @@ use native.Mathlib.Omega.{arith}
 use borrow.Author.Needs.{needs}
 use denote.Ref.{now}
 use lib.ListN.{length, replicate, length-set}
-use Rattle.charts.specs.Inner.Letters.{stands}
+use Rattle.ranking.specs.Inner.Inside.{weighs}
 use Rattle.history.proofs.Acceptance.{known}
 use Rattle.history.specs.Chain.{numbersFrom}
 use Rattle.history.specs.Refusals.{Accepted}
@@ -18,7 +18,7 @@ use Rattle.sampling.proofs.heard.collect.Tie as tie
 
 abbrev Inv-loop : tie.InvT-loop
 Inv-loop rules plan map₀ measure h question totals₀ numbers₀ sets₀ at₀ count₀ map totals numbers sets at count =
-    Collecting rules (stands measure 0) h (question .length) (question .voice) numbers at count
+    Collecting rules (weighs rules measure) h (question .length) (question .voice) numbers at count
     × Serves rules plan map measure sets totals
     × (length sets ≡ 290)
     × (length totals ≡ length totals₀)

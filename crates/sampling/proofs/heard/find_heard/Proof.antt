@@ -50,7 +50,7 @@ place-requires c κs =
     let t = c .before .before in
     let e = t .before .before in
     let d = counted (e .before) in
-    (_, heard-asks (entry (right d .before) .pre) (long (right d)) (found d) (e .before .if2 .left) (e .if3 .left) (sym (t .before .fits2 .ensures) ∙ t .if4 .taken))
+    (_, heard-asks (entry (right d .before) .pre) (long (right d)) (found d) (e .before .if2 .left) (e .if3 .left))
 
 returns-4 : tie.Need-returns-4
 returns-4 c =
@@ -60,7 +60,7 @@ returns-4 c =
     let w = entry (right d .before) .pre in
     let stand = sym (t .before .fits2 .ensures) ∙ t .if4 .taken in
     heard-place w (long (right d)) (found d) (e .before .if2 .left) (e .if3 .left) stand
-    (c .place .ensures _ (heard-asks w (long (right d)) (found d) (e .before .if2 .left) (e .if3 .left) stand))
+    (c .place .ensures _ (heard-asks w (long (right d)) (found d) (e .before .if2 .left) (e .if3 .left)))
 
 returns-5 : tie.Need-returns-5
 returns-5 c =

@@ -26,16 +26,16 @@ returns : tie.Need-returns Inv-loop μ-loop
 returns c =
     let a = c .before in
     let l = a .before .before .before in
-    sym (sym (l .loop .inv .1) ∙ bad-here _ (l .loop .p) _ (omega arith) (sym (a .outside .ensures) ∙ c .if1 .taken))
+    sym (sym (l .loop .inv .1) ∙ bad-here (neither _) (l .loop .p) _ (omega arith) (sym (a .outside .ensures) ∙ c .if1 .taken))
 
 loop-again : tie.Need-loop-again Inv-loop μ-loop
 loop-again c =
     let a = c .before in
     let l = a .before .before .before in
-    (omega arith, rw add-one (bad-later _ (l .loop .p) _ (omega arith) (sym (a .outside .ensures) ∙ c .if1 .left) ∙ l .loop .inv .1))
+    (omega arith, rw add-one (bad-later (neither _) (l .loop .p) _ (omega arith) (sym (a .outside .ensures) ∙ c .if1 .left) ∙ l .loop .inv .1))
 
 returns-2 : tie.Need-returns-2 Inv-loop μ-loop
-returns-2 c = let l = c .before in sym (sym (l .loop .inv .1) ∙ bad-none _ (l .loop .p) _ (omega arith))
+returns-2 c = let l = c .before in sym (sym (l .loop .inv .1) ∙ bad-none (neither _) (l .loop .p) _ (omega arith))
 
 pub bad-spec : {M : Type 1} → statement M
 bad-spec =

@@ -32,7 +32,7 @@ lent : (c : tie.After-open) → let t = now (start c .args .totals) in Kept 17 3
 lent c = kept-same (start c .pre .wide)
 
 -- and once it is filled
-filled : (c : tie.After-fill) → Kept 17 32 (now (start (opened (told (past c))) .args .totals)) (c .fill .last .1 .1 .0)
+filled : (c : tie.After-fill) → Kept 17 32 (now (start (opened (told (past c))) .args .totals)) (c .fill .last .1 .1 .1 .0)
 filled c = let f = c .fill .ensures in record { long = f .long; wide = f .wide; rest = f .rest }
 
 returns : tie.Need-returns
@@ -61,7 +61,7 @@ returns-3 c =
     (filled-large (start (opened t) .pre) o (t .enum-told .given .1) (f .fill .ensures) (not-true _ (c .if2 .taken)))
 
 tabled : (c : tie.Else2) → let t = told (past (c .before .before)) in
-    Tabled (now (start (opened t) .args .g)) (start (opened t) .args .question .length) (opened t .«open» .last .1 .1 .0) (c .before .before .fill .last .1 .1 .0)
+    Tabled (now (start (opened t) .args .g)) (start (opened t) .args .question .length) (opened t .«open» .last .1 .1 .0) (c .before .before .fill .last .1 .1 .1 .0)
 tabled c =
     let f = c .before .before in
     let t = told (past f) in

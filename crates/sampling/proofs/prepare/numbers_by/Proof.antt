@@ -9,7 +9,7 @@ use denote.Ref.{now}
 use lib.ListN.{length}
 use Rattle.history.specs.Layout.{recordsOf}
 use Rattle.history.proofs.Acceptance.{known}
-use Rattle.charts.specs.Inner.Letters.{stands}
+use Rattle.ranking.specs.Inner.Inside.{weighs}
 use Rattle.sampling.specs.Inner.Collect.{CollectedIs}
 use Rattle.sampling.specs.declared.heard.Collected.the-variants.{Numbers}
 use Rattle.sampling.proofs.Collect.{collect-case}
@@ -29,7 +29,7 @@ found c = c .collect .last .1 .1 .1 .1 .1 .1 .1 .0
 
 numbered : (c : tie.After-known-told)
     → let a = start (collected c) .args in
-    CollectedIs (now (a .rules)) (stands (now (a .measure)) 0) (now (a .h)) (a .question .length) (a .question .voice) (found (collected c)) (Numbers (c .before .c .given .0 .0))
+    CollectedIs (now (a .rules)) (weighs (now (a .rules)) (now (a .measure))) (now (a .h)) (a .question .length) (a .question .voice) (found (collected c)) (Numbers (c .before .c .given .0 .0))
 numbered c = collect-case (collected c .collect .ensures) (c .before .c .given .1)
 
 lengthy : (c : tie.After-collect) → recordsOf (now (start c .args .h)) ≤ length (found c)

@@ -1,5 +1,6 @@
 -- `prepare` meets its contract: what the grammar and the question are refused for, then the history's refusals, then 15; past them the tables and the heard numbers.
 -- Assumes nothing.
+use mathlib.Core.Path.{refl}
 use native.Mathlib.Omega.{arith}
 use borrow.Author.Needs.{needs}
 use Rattle.sampling.proofs.Asking.{asked-none, asked-refused}
@@ -26,7 +27,7 @@ returns : tie.Need-returns
 returns c =
     let q = c .before in
     let p = q .before .before .before .before in
-    unprepared _ _ _ (q .p .given .0 .0) (asked-refused (p .ask .ensures) _ (q .p .given .1)) (start p .pre .room)
+    unprepared _ _ _ _ _ (q .p .given .0 .0) (asked-refused (p .ask .ensures) _ (q .p .given .1)) (start p .pre .room)
 
 returns-2 : tie.Need-returns-2
 returns-2 c =
@@ -35,7 +36,7 @@ returns-2 c =
     let p = prepared e in
     let q = p .ask .ensures in
     let case = e .enum-told .given .1 in
-    recorded-prepared _ _ _ (asked-none q case) (q .ready case) (λ d. omega (arith, k .records .kept .1 .1 .1 .1 .0, start p .pre .room d)) (k .records .ensures)
+    recorded-prepared _ _ _ _ _ refl (asked-none q case) (q .ready case .holds) (λ d. omega (arith, k .records .kept .1 .1 .1 .1 .0, start p .pre .room d)) (k .records .ensures)
 
 pub prepare-spec : {M : Type 1} → statement M
 prepare-spec =

@@ -3,11 +3,10 @@
 use mathlib.Core.Path.{_≡_, sym, _∙_}
 use Prim.Native.Nat.{ℕ}
 use borrow.Author.Needs.{needs}
-use lib.ListN.{length}
 use denote.Ref.{now}
 use Rattle.charts.specs.Inner.Maps.{countsMap}
 use Rattle.charts.proofs.Mapping.{counts-map}
-use Rattle.ranking.specs.Inner.Inside.{totalIn, standing}
+use Rattle.ranking.specs.Inner.Inside.{totalIn, weighIn}
 use Rattle.ranking.proofs.Finding.{counts-total}
 use Rattle.sampling.specs.Question.{plainly}
 use Rattle.sampling.specs.Inner.Preparing.{Drawable}
@@ -28,12 +27,12 @@ drawable : (c : tie.After-p2)
     Drawable (now (s .g)) (now (s .h)) (plainly (s .question .length) (s .question .voice)) (last .1 .1 .1 .0) (last .1 .1 .1 .1 .0) countsMap (last .1 .1 .1 .1 .1 .0) (c .p2 .given .0 .0)
 drawable c = prepared-case (called c .prepare .ensures) (c .p2 .given .1)
 
--- without a pattern all derivations stand
-standing-all : (c : tie.After-p2) {t : ℕ}
+-- without a pattern each derivation weighs 1
+weigh-all : (c : tie.After-p2) {t : ℕ}
     → let n = start (called c) .args .question .length in
     let rules = called c .prepare .last .1 .1 .1 .0 in
-    t ≡ totalIn rules n → t ≡ length (standing rules countsMap n)
-standing-all c e = e ∙ sym (counts-total _ counts-map _ (drawable c .chooses .counted .short))
+    t ≡ totalIn rules n → t ≡ weighIn rules countsMap n
+weigh-all c e = e ∙ sym (counts-total _ counts-map _ (drawable c .chooses .counted .short))
 
 prepare-requires : tie.Need-prepare-requires
 prepare-requires c κs = lent-made _ _ (c .before .before .before .before .before .before .pre)
@@ -44,7 +43,7 @@ count-requires c κs = drawable (c .before .before .before) .chooses .counted
 figures-requires : tie.Need-figures-requires
 figures-requires c κs =
     let p = c .before .before .before .before in
-    heard-few (drawable p) (called p .prepare .ensures .room) _ (standing-all p (c .count .ensures))
+    heard-few (drawable p) (called p .prepare .ensures .room) _ (weigh-all p (c .count .ensures))
 
 returns : tie.Need-returns
 returns c =
@@ -55,7 +54,7 @@ returns-2 : tie.Need-returns-2
 returns-2 c =
     let t = c .before in
     let p = t .before .before .before .before in
-    c .figures .ensures ∙ left-counted _ _ _ (drawable p) (called p .prepare .ensures .room) _ (standing-all p (t .count .ensures))
+    c .figures .ensures ∙ left-counted _ _ _ (drawable p) (called p .prepare .ensures .room) _ (weigh-all p (t .count .ensures))
 
 pub remaining-in-spec : {M : Type 1} → statement M
 remaining-in-spec =

@@ -13,7 +13,7 @@ abbrev μ-loop : tie.MeasureT-loop
 μ-loop rules by to a ticket i₀ rest₀ place₀ i rest place = 256 - i
 
 -- where a word and its weights are known: what is asked, how far the loop is, the word and its weights
-abbrev at-loop : tie.After-word-weight2 Inv-loop μ-loop → tie.At-loop Inv-loop μ-loop
+abbrev at-loop : tie.After-weight2 Inv-loop μ-loop → tie.At-loop Inv-loop μ-loop
 at-loop c = c .before .before .before
 
 abbrev start : tie.At-loop Inv-loop μ-loop → tie.Start Inv-loop μ-loop
@@ -34,19 +34,19 @@ returns : tie.Need-returns Inv-loop μ-loop
 returns c =
     let b = c .before in
     let l = at-loop b in
-    scanning-found (start l .pre) (l .loop .inv) (b .before .before .word-at .ensures) (b .before .word-weight .ensures) (b .word-weight2 .ensures) (c .if1 .taken)
+    scanning-found (start l .pre) (l .loop .inv) (b .before .before .word-at .ensures) (b .before .weight .ensures .0) (b .weight2 .ensures .0) (c .if1 .taken)
 
 add-place : tie.Need-add-place Inv-loop μ-loop
 add-place c =
     let b = c .before in
     let l = at-loop b in
-    omega (arith, scanning-room (start l .pre) (l .loop .inv) (b .before .before .word-at .ensures) (b .before .word-weight .ensures) (b .word-weight2 .ensures))
+    omega (arith, scanning-room (start l .pre) (l .loop .inv) (b .before .before .word-at .ensures) (b .before .weight .ensures .0) (b .weight2 .ensures .0))
 
 loop-again : tie.Need-loop-again Inv-loop μ-loop
 loop-again c =
     let b = c .before in
     let l = at-loop b in
-    scanning-next (start l .pre) (l .loop .inv) (b .before .before .word-at .ensures) (b .before .word-weight .ensures) (b .word-weight2 .ensures) (c .if1 .left)
+    scanning-next (start l .pre) (l .loop .inv) (b .before .before .word-at .ensures) (b .before .weight .ensures .0) (b .weight2 .ensures .0) (c .if1 .left)
 
 pub scan-spec : {M : Type 1} → statement M
 scan-spec =

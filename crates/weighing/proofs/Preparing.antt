@@ -1,0 +1,221 @@
+-- What a draw by weights has at hand: the tables, the first tickets of the heard derivations, and the sums of their weights; or the first refusal that
+-- applies. Together they serve the draw, and what that answers is read off the list of tickets.
+-- Assumes nothing.
+use mathlib.Core.Path.{_≡_, refl, sym, ap, _∙_}
+use mathlib.Core.Bool.{Bool, not}
+use mathlib.Core.List.{List, [], _∷_, _++_, map}
+use Prim.Native.Nat.{ℕ, zero, suc, _-_, _≤_, _<_}
+use native.Mathlib.Omega.{arith}
+use lib.ListN.{length, getD, take, replicate, length-replicate}
+use lib.Seq.{getD-take, length-take-le}
+use lib.Dec.{ltb, leb}
+use Rattle.lists.specs.Joined.{sumOver}
+use Rattle.answers.specs.Answer.{Row, Answer, firstThatApplies, refused, answerOf}
+use Rattle.answers.specs.Inner.Refusals.{refusalNumber}
+use Rattle.answers.specs.declared.refusal.Refusal.{Refusal}
+use Rattle.answers.proofs.Numbers.{number-some}
+use Rattle.answers.proofs.Refusals.{rows-stop, rows-pass, answer-refused}
+use Rattle.grammar.specs.Trees.{sentence}
+use Rattle.counting.specs.Inner.Preparing.{preparedNumber}
+use Rattle.counting.specs.declared.prepare.Prepared.{Prepared}
+use Rattle.counting.specs.declared.prepare.Prepared.the-variants as tables
+use Rattle.charts.specs.Inner.Maps.{weightsMap}
+use Rattle.history.specs.Layout.{recordsOf}
+use Rattle.history.specs.Refusals.{Accepted}
+use Rattle.history.specs.Heard.{heard}
+use Rattle.history.proofs.Acceptance.{known}
+use Rattle.sampling.specs.Question.{plainly}
+use Rattle.sampling.specs.Inner.Skipping.{heardSpans, Told}
+use Rattle.sampling.specs.Inner.Collect.{spansBy}
+use Rattle.sampling.specs.Inner.Drawing.{spansIn, DrawSought, drawSkipping}
+use Rattle.sampling.specs.Inner.Preparing.{RecordedBy, DrawableBy, SampledBy}
+use Rattle.sampling.specs.declared.prepare.Sampled.{Sampled}
+use Rattle.sampling.specs.declared.prepare.Sampled.the-variants.{Ready, Refused}
+use Rattle.sampling.proofs.Answering.{weigh-low, unprepared, recorded-prepared, prepared-case, parts-low, room-all, room-short}
+use Rattle.sampling.specs.Unheard.{unheard}
+use Rattle.sampling.proofs.Listed.{drawFrom, ticketList, spans-told, drawn-listed}
+use Rattle.charts.proofs.Placing as charts
+use Rattle.lists.proofs.Tables.{wide-made, made-entry}
+use Rattle.weighing.specs.Weights.{weighs, ticketsOf}
+use Rattle.weighing.specs.Weighted.{weighedRows, weightedRows, ownerOf, drawWeighted}
+use Rattle.weighing.specs.Inner.Tables.{WeighedAs}
+use Rattle.weighing.specs.Inner.Sums.{weightAt, SumsSought, SummedAs}
+use Rattle.weighing.specs.Inner.Preparing.{Room, Rooms, Cleared, Called, PreparedAs}
+use Rattle.weighing.proofs.Laws.{drawn-from, drawn-refused}
+use Rattle.weighing.proofs.Told.{firsts-tell, firsts-inside, firsts-sum, summed-spans, summed-told}
+
+refused-unready : {r : Refusal} {k : ℕ} → Refused r ≡ Ready k → ⊥
+refused-unready e = let q : _≡_ {A = ℕ} 0 1 = cc in omega arith
+
+-- ---- the refusals up to 15
+
+module _ {g h : List ℕ} {n v : ℕ} {weights : List ℕ} {rules₀ totals₀ totals : List (List ℕ)} {p : Prepared} (k : WeighedAs g n v weights rules₀ totals₀ totals p) where
+  pub prepared-unweighed : {rules′ totals′ : List (List ℕ)} {numbers sums : List ℕ} {r : Refusal} → p ≡ tables.Refused r → (Accepted h → recordsOf h ≤ length numbers)
+      → PreparedAs g h n v weights rules′ totals′ numbers sums (Refused r)
+  prepared-unweighed {r = r} e room = record {
+    sampled = unprepared g h (plainly n v) (weighs weights) (weighedRows g n v weights) r (sym (sym (k .refusal) ∙ rw e)) room;
+    told = λ i z. absurd (refused-unready z);
+  }
+
+  module _ (e : p ≡ tables.Ready) where
+    pub prepared-sampled : {rules′ totals′ : List (List ℕ)} {numbers : List ℕ} {s : Sampled} → (Accepted h → recordsOf h ≤ length numbers)
+        → RecordedBy rules₀ h (plainly n v) (weighs weights) rules′ totals′ weightsMap numbers s
+        → SampledBy g h (plainly n v) (weighs weights) (weighedRows g n v weights) rules′ totals′ weightsMap numbers s
+    prepared-sampled room q =
+        recorded-prepared g h (plainly n v) (weighs weights) (weighedRows g n v weights) refl (sym (k .refusal) ∙ rw e) (k .ready e .tabled .holds) room q
+
+pub prepared-unready : {g h : List ℕ} {n v : ℕ} {weights : List ℕ} {rules totals : List (List ℕ)} {numbers sums : List ℕ} {s : Sampled} {r : Refusal}
+    → SampledBy g h (plainly n v) (weighs weights) (weighedRows g n v weights) rules totals weightsMap numbers s → s ≡ Refused r
+    → PreparedAs g h n v weights rules totals numbers sums (Refused r)
+prepared-unready q e = record { sampled = rw e at q; told = λ i z. absurd (refused-unready z) }
+
+pub prepared-ready : {g h : List ℕ} {n v : ℕ} {weights : List ℕ} {rules totals : List (List ℕ)} {numbers sums : List ℕ} {s : Sampled} {k : ℕ}
+    → SampledBy g h (plainly n v) (weighs weights) (weighedRows g n v weights) rules totals weightsMap numbers s → s ≡ Ready k
+    → ((k ≤ length sums) × Told (take k numbers) (take k sums) × (heardSpans (take k numbers) (take k sums) ≡ spansBy g h n v (weighs weights)))
+    → PreparedAs g h n v weights rules totals numbers sums (Ready k)
+prepared-ready q e t = record { sampled = rw e at q; told = λ i z. let same = ready-same z in rw (← same) t }
+  where
+    ready-same : {i k : ℕ} → Ready k ≡ Ready i → k ≡ i
+    ready-same z = cc
+
+-- ---- the sums
+
+module _ {g h : List ℕ} {n v : ℕ} {weights : List ℕ} {asked : List Row} {rules totals : List (List ℕ)} {numbers : List ℕ} {k : ℕ}
+    (d : DrawableBy g h (plainly n v) (weighs weights) asked rules totals weightsMap numbers k) (room : Accepted h → recordsOf h ≤ length numbers) where
+  abbrev outside : List ℕ → Bool
+  outside s = not (heard h v s)
+
+  spans-are : spansIn rules weightsMap n outside ≡ spansBy g h n v (weighs weights)
+  spans-are = spans-told g h n v (weighs weights) rules weightsMap (d .full) (d .weigh)
+
+  firsts-are : take k numbers ≡ map (λ (e : ℕ × ℕ). e .0) (spansIn rules weightsMap n outside)
+  firsts-are = d .heard ∙ ap (map (λ (e : ℕ × ℕ). e .0)) (sym spans-are)
+
+  part : take (k - 0) numbers ≡ take k numbers
+  part = let e : k - 0 ≡ k = omega arith in rw e
+
+  few : length (take k numbers) ≡ k
+  few = length-take-le k numbers (omega (arith, d .few, room (d .diary)))
+
+  pub sums-sought : {sums : List ℕ} → (Accepted h → recordsOf h ≤ length sums) → SumsSought rules totals n (take (k - 0) numbers) sums
+  sums-sought sums-room =
+      rw part
+      (record {
+        chooses = d .chooses;
+        inside = firsts-inside rules n outside firsts-are;
+        fits = omega (arith, firsts-sum rules n outside firsts-are, parts-low rules weightsMap n outside, weigh-low (d .chooses));
+        few = omega (arith, few, d .few, known h (d .diary) .sized .few);
+        room = omega (arith, few, d .few, sums-room (d .diary));
+      })
+
+  module _ {before sums : List ℕ} (sums-room : Accepted h → recordsOf h ≤ length before) (q : SummedAs rules n (take (k - 0) numbers) before sums) where
+    abbrev summed : SummedAs rules n (take k numbers) before sums
+    summed = rw part at q
+
+    many : length (take k sums) ≡ length (take k numbers)
+    many = length-take-le k sums (omega (arith, d .few, sums-room (d .diary), summed .long)) ∙ sym few
+
+    each : (i : ℕ) → i < length (take k numbers) → getD (take k sums) i 0 ≡ sumOver (weightAt rules n) (take (suc i) (take k numbers))
+    each i l = getD-take k sums i 0 (omega (arith, few)) ∙ summed .each i (omega arith)
+
+    pub sums-tell : (k ≤ length sums) × Told (take k numbers) (take k sums) × (heardSpans (take k numbers) (take k sums) ≡ spansBy g h n v (weighs weights))
+    sums-tell = (
+      omega (arith, d .few, sums-room (d .diary), summed .long),
+      summed-told (weightAt rules n) (take k numbers) (take k sums) many each,
+      summed-spans (weightAt rules n) (take k numbers) (take k sums) many each ∙ firsts-tell rules n outside firsts-are ∙ spans-are,
+    )
+
+-- ---- the draw
+
+-- all weights are of the unheard derivations without a pattern
+list-weighted : (g h : List ℕ) (n v : ℕ) (weights : List ℕ) → ticketList g h n v (weighs weights) ≡ ticketsOf g h n v weights
+unfolding ticketsOf unheard
+list-weighted g h n v weights = refl
+
+module _ {g h : List ℕ} {n v : ℕ} {weights : List ℕ} {rules totals : List (List ℕ)} {numbers sums : List ℕ} {s : Sampled}
+    (p : PreparedAs g h n v weights rules totals numbers sums s) where
+  pub drawn-unready : {r : Refusal} → s ≡ Refused r → (t : ℕ) (out : List ℕ) → refused (refusalNumber r) 2 out ≡ drawWeighted g h n v weights t out
+  drawn-unready {r} e t out =
+      let k : refusalNumber r ≡ firstThatApplies (weightedRows g h n v weights) = prepared-case (p .sampled) e in
+      ap (λ (i : ℕ). refused i 2 out) k ∙ sym (drawn-refused g h n v weights t out (omega (arith, number-some r)))
+
+  module _ {k : ℕ} (e : s ≡ Ready k) where
+    pub drawable : DrawableBy g h (plainly n v) (weighs weights) (weighedRows g n v weights) rules totals weightsMap numbers k
+    drawable = prepared-case (p .sampled) e
+
+    pub parts-long : (k ≤ length numbers) × (k ≤ length sums)
+    parts-long = (omega (arith, drawable .few, p .sampled .room (drawable .diary)), p .told k e .0)
+
+    spans : heardSpans (take k numbers) (take k sums) ≡ spansIn rules weightsMap n (λ s. not (heard h v s))
+    spans = p .told k e .2 ∙ sym (spans-told g h n v (weighs weights) rules weightsMap (drawable .full) (drawable .weigh))
+
+    pub draw-served : DrawSought rules totals weightsMap n (take (k - 0) numbers) (take (k - 0) sums)
+    draw-served =
+        let z : k - 0 ≡ k = omega arith in
+        rw z
+        (record {
+          chooses = drawable .chooses;
+          few = omega (arith, length-take-le k numbers (parts-long .0), drawable .few, known h (drawable .diary) .sized .few);
+          told = p .told k e .1;
+          unheard = λ s. not (heard h v s);
+          spans-are = spans;
+        })
+
+    pub drawn-ready : (t : ℕ) (out : List ℕ) → drawSkipping rules weightsMap n (take (k - 0) numbers) (take (k - 0) sums) t out ≡ drawWeighted g h n v weights t out
+    drawn-ready t out =
+        let z : k - 0 ≡ k = omega arith in
+        ap (λ (j : ℕ). drawSkipping rules weightsMap n (take j numbers) (take j sums) t out) z
+        ∙ drawn-listed g h n v (weighs weights) rules weightsMap (drawable .full) (drawable .weigh) (take k numbers) (take k sums) spans t out
+        ∙ ap (drawFrom n t out) (list-weighted g h n v weights)
+        ∙ sym (drawn-from g h n v weights t out (drawable .passed))
+
+-- ---- the tables that a call makes
+
+pub call-made : {n : ℕ} {h : List ℕ} {totals : List (List ℕ)} {numbers sums : List ℕ} → Rooms n h totals numbers sums
+    → Called n h (replicate 14 (replicate 256 0)) totals numbers sums
+call-made r = record {
+  lent = record { rules-long = omega arith; rules-wide = wide-made 14 256 0; unruled = made-entry 14 256; long = r .long; wide = r .wide; zeros = r .zeros };
+  room = r .room;
+}
+
+-- 1,000 places serve every history, 100 those of at most 2,004 bytes, and one those of fewer than 24, which have no record
+module _ (n : ℕ) (h : List ℕ) {totals : List (List ℕ)} (c : Cleared n totals) where
+  rooms-of : {numbers sums : List ℕ} → (Accepted h → recordsOf h ≤ length numbers) → (Accepted h → recordsOf h ≤ length sums) → Rooms n h totals numbers sums
+  rooms-of a b = record { long = c .long; wide = c .wide; zeros = c .zeros; room = record { numbers-room = a; sums-room = b; charts = λ d some l. c .charts l } }
+
+  pub rooms-all : Rooms n h totals (replicate 1000 0) (replicate 1000 0)
+  rooms-all = rooms-of (room-all h) (room-all h)
+
+  pub rooms-few : length h ≤ 2004 → Rooms n h totals (replicate 100 0) (replicate 100 0)
+  rooms-few l = rooms-of (room-short h l) (room-short h l)
+
+pub rooms-none : (n : ℕ) (h : List ℕ) → length h < 24 → Rooms n h (replicate 35 (replicate 32 0)) (replicate 1 0) (replicate 1 0)
+rooms-none n h l =
+    let none : (d : Accepted h) → recordsOf h < 1 = λ d. omega (arith, known h d .sized .size) in
+    record {
+      long = omega (arith, length-replicate 35 (replicate 32 zero));
+      wide = wide-made 35 32 0;
+      zeros = made-entry 35 32;
+      room = record {
+        numbers-room = λ d. omega (arith, none d);
+        sums-room = λ d. omega (arith, none d);
+        charts = λ d some s. absurd (omega (arith, none d));
+      };
+    }
+
+-- behind the totals by weight, room for the chart of five positions, and of sixteen
+pub cleared-short : (n : ℕ) → n ≤ 5 → Cleared n (replicate 50 (replicate 32 0))
+cleared-short n h = record {
+  long = omega (arith, length-replicate 50 (replicate 32 zero));
+  wide = wide-made 50 32 0;
+  zeros = made-entry 50 32;
+  charts = λ l. omega (arith, charts.room-short n h, length-replicate 50 (replicate 32 zero));
+}
+
+pub cleared-long : (n : ℕ) → Cleared n (replicate 171 (replicate 32 0))
+cleared-long n = record {
+  long = omega (arith, length-replicate 171 (replicate 32 zero));
+  wide = wide-made 171 32 0;
+  zeros = made-entry 171 32;
+  charts = λ l. omega (arith, charts.room-low n l, length-replicate 171 (replicate 32 zero));
+}

@@ -1,0 +1,147 @@
+// What a draw by weights needs: the tables of the grammar with the totals by weight, then the heard derivations' first tickets, rising, each once.
+ghost use mathlib.Core.List.{List};
+ghost use Prim.Native.Nat.{ℕ};
+ghost use Rattle.charts.specs.Inner.Maps.{weightsMap};
+ghost use Rattle.sampling.specs.Question.{plainly};
+ghost use Rattle.sampling.specs.Inner.Preparing.{HeardBy, RecordedBy};
+ghost use Rattle.weighing.specs.Weights.{weighs};
+ghost use Rattle.weighing.specs.Inner.Tables.{Tallies, TalliedAs, Lent, WeighedAs};
+ghost use Rattle.weighing.specs.Inner.Preparing.{FirstsSought, RecordsSought, Called, PreparedAs};
+use crate::sums;
+use crate::weights;
+use answers::refusal::Refusal;
+use charts::maps;
+use charts::maps::BEHIND_WEIGHTS;
+use charts::plan;
+use charts::ready;
+use counting::letters::WEIGHED;
+use counting::prepare::Prepared;
+use counting::tallies;
+use grammar::fields;
+use history::checks;
+use history::checks::HistoryAnswer;
+use sampling::prepare;
+use sampling::prepare::Sampled;
+use sampling::question::Question;
+
+// The totals by the words' weights into their rows, which are all 0; false where one that is needed is above 2^64 - 1.
+fn tally(rules: &[[u8; 256]], n: usize, totals: &mut [[u64; 32]]) -> bool
+    requires { ⌜ Tallies (now rules) n (now totals) ⌝ }
+    ensures { λ r. ⌜ TalliedAs (now (rules .entry)) n (now (totals .entry)) (now (totals .exit)) r ⌝ }
+{
+    tallies::fill(rules, WEIGHED, n, &mut totals[maps::WEIGHTS..])
+}
+
+// 1 to 9, 22, 10, 24 and 25.
+fn weigh(
+    g: &[u8],
+    question: Question,
+    weights: &[u8],
+    rules: &mut [[u8; 256]],
+    totals: &mut [[u64; 32]],
+) -> Prepared
+    requires { ⌜ Lent (now rules) (now totals) ⌝ }
+    ensures { λ r. ⌜ WeighedAs (now (g .entry)) (question .length) (question .voice) (now (weights .entry)) (now (rules .exit)) (now (totals .entry)) (now (totals .exit)) r ⌝ }
+{
+    let p = prepare::ask(g, question, &g[0..0], rules, totals);
+    match p {
+        Prepared::Refused(r) => return Prepared::Refused(r),
+        Prepared::Ready => {}
+    }
+    if weights::bad(weights, fields::words(g)) {
+        return Prepared::Refused(Refusal::BadWeights);
+    }
+    weights::set(weights, rules);
+    if tally(rules, question.length as usize, totals) {
+        return Prepared::Ready;
+    }
+    Prepared::Refused(Refusal::TooManyTickets)
+}
+
+// The first tickets of the heard derivations: their sentences' charts stand behind the totals by weight, which measure.
+fn first_tickets(
+    rules: &mut [[u8; 256]],
+    totals: &mut [[u64; 32]],
+    h: &[u8],
+    question: Question,
+    numbers: &mut [u64],
+) -> Sampled
+    requires { ⌜ ((g weights : List ℕ) × FirstsSought g (question .length) weights (now rules) (now totals) (now h) (now numbers)) ⌝ }
+    ensures { λ s. ⌜ ((g weights : List ℕ) → FirstsSought g (question .length) weights (now (rules .entry)) (now (totals .entry)) (now (h .entry)) (now (numbers .entry)) → HeardBy (now (rules .entry)) (now (h .entry)) (plainly (question .length) (question .voice)) (weighs weights) (now (rules .exit)) (now (totals .exit)) weightsMap (now (numbers .exit)) s) ⌝ }
+{
+    let set_row = [0u32; 32];
+    let mut plan = [set_row; 4];
+    let map_row = [0u16; 16];
+    let mut map = [map_row; 17];
+    ready::ready(rules, totals, question.length as usize, &mut plan, &mut map);
+    plan::rows(&plan, BEHIND_WEIGHTS, &mut map);
+    let measure = maps::BY_WEIGHT;
+    prepare::numbers_by(
+        rules,
+        &plan,
+        &mut map,
+        &measure,
+        h,
+        question,
+        totals,
+        numbers,
+    )
+}
+
+// 11 to 15. No chart is made for a history without records.
+fn records(
+    rules: &mut [[u8; 256]],
+    totals: &mut [[u64; 32]],
+    h: &[u8],
+    question: Question,
+    numbers: &mut [u64],
+) -> Sampled
+    requires { ⌜ ((g weights : List ℕ) × RecordsSought g (question .length) weights (now rules) (now totals) (now h) (now numbers)) ⌝ }
+    ensures { λ s. ⌜ ((g weights : List ℕ) → RecordsSought g (question .length) weights (now (rules .entry)) (now (totals .entry)) (now (h .entry)) (now (numbers .entry)) → RecordedBy (now (rules .entry)) (now (h .entry)) (plainly (question .length) (question .voice)) (weighs weights) (now (rules .exit)) (now (totals .exit)) weightsMap (now (numbers .exit)) s) ⌝ }
+{
+    let a = checks::check(h);
+    match a {
+        HistoryAnswer::Refused(r) => Sampled::Refused(r),
+        HistoryAnswer::Given(k) => {
+            if k == 0 {
+                return Sampled::Ready(0);
+            }
+            first_tickets(rules, totals, h, question, numbers)
+        }
+    }
+}
+
+// 1 to 9, 22, 10, 24 and 25, then 11 to 15; then what the heard ones weigh.
+pub fn prepare(
+    g: &[u8],
+    h: &[u8],
+    question: Question,
+    weights: &[u8],
+    rules: &mut [[u8; 256]],
+    totals: &mut [[u64; 32]],
+    numbers: &mut [u64],
+    sums: &mut [u64],
+) -> Sampled
+    requires { ⌜ Called (question .length) (now h) (now rules) (now totals) (now numbers) (now sums) ⌝ }
+    ensures { λ s. ⌜ PreparedAs (now (g .entry)) (now (h .entry)) (question .length) (question .voice) (now (weights .entry)) (now (rules .exit)) (now (totals .exit)) (now (numbers .exit)) (now (sums .exit)) s ⌝ }
+{
+    let p = weigh(g, question, weights, rules, totals);
+    match p {
+        Prepared::Refused(r) => return Sampled::Refused(r),
+        Prepared::Ready => {}
+    }
+    let s = records(rules, totals, h, question, numbers);
+    match s {
+        Sampled::Refused(r) => Sampled::Refused(r),
+        Sampled::Ready(k) => {
+            sums::fill(
+                rules,
+                totals,
+                question.length as usize,
+                &numbers[0..k],
+                sums,
+            );
+            Sampled::Ready(k)
+        }
+    }
+}
