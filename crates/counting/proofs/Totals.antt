@@ -131,10 +131,6 @@ module _ (chain : ℕ → List Rule) where
         ∙ sum-ext (pairTotal (total chain (λ q w. u w)) 0 m) (pairTotal (λ q. totalBy chain u) 0 m) (pairsOf (chain A))
         (λ x i. pair-ext (total chain (λ q w. u w)) (λ q. totalBy chain u) 0 m x (λ q B k l r. by-anywhere q B k))
 
-  -- T is
-  pub T-anywhere : (p A m : ℕ) → total chain (λ q w. 1) p A m ≡ T chain A m
-  T-anywhere = by-anywhere (λ w. 1)
-
   pub T-one : (A : ℕ) → T chain A 1 ≡ length (wordsOf (chain A))
   T-one A = by-one (λ w. 1) A ∙ sum-one (wordsOf (chain A))
 

@@ -156,31 +156,12 @@ module _ {X : Type 0} {v u : X → ℕ} {l : List X} {t : ℕ} {x : X} {n o : �
         place = omega (arith, r .place, sum-ext u u′ (r .before) (λ y m. hu y (before-∈ r y m)));
       }
 
--- ---- a place as an index, and as a ticket
+-- ---- a place as an index
 
 module _ {X : Type 0} where
   -- where every element measures 1, what stands at the place is the owner
   pub owner-at : (v : X → ℕ) (l : List X) (t : ℕ) (z : X) → owner v l t z ≡ getD l (place v (λ x. 1) l t) z
   owner-at v l t z = ap (λ (i : ℕ). getD l i z) (sym (sum-one (ahead v l t)))
-
-module _ {X : Type 0} {v u : X → ℕ} {l : List X} {t : ℕ} {x : X} {n o : ℕ} where
-  pub by-counts : Owns v u l t x n o → ((y : X) → y ∈ l → u y ≡ 1) → (z : X) → x ≡ getD l n z
-  by-counts r h z =
-      let q = owns-ext v (λ y. 1) (λ y m. refl) h r in
-      sym (owns-owner q z) ∙ owner-at v l t z ∙ ap (λ (i : ℕ). getD l i z) (owns-place q)
-
-module _ {X : Type 0} {v : X → ℕ} {l : List X} {t : ℕ} {x : X} {n o : ℕ} where
-  -- where every element measures what it weighs, the place is the owner's first ticket
-  pub by-itself : Owns v v l t x n o → n + o ≡ t
-  by-itself r = omega (arith, r .place, r .ticket)
-
-module _ {X : Type 0} where
-  -- so where every element weighs and measures 1, the place is the ticket
-  pub place-plain : (l : List X) (t : ℕ) → t < length l → place (λ x. 1) (λ x. 1) l t ≡ t
-  place-plain [] t h = absurd (omega arith)
-  place-plain (x ∷ l) t h =
-      let r = owned {v = λ y. 1} {u = λ y. 1} (x ∷ l) t x (omega (arith, sum-one l)) in
-      omega (arith, by-itself r, r .own)
 
 -- ---- the ticket list
 

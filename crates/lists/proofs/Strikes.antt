@@ -2,24 +2,23 @@
 -- and the ticket list of what is kept is what is kept. First what is kept at all, by induction on the list.
 -- Assumes nothing.
 use mathlib.Core.Path.{_≡_, refl, sym, ap, _∙_}
-use mathlib.Core.Logic.{_↔_, _≢_}
+use mathlib.Core.Logic.{_≢_}
 use mathlib.Core.Bool.{Bool, true, false, cond, _&&_}
 use mathlib.Core.List.{List, [], _∷_, _++_, map, List·Memᴰ·head, List·Memᴰ·tail, List·Memᴰ·not-nil, Memᴰ·map, Memᴰ·of-map}
-use Prim.Native.Nat.{ℕ, zero, suc, _+_, _-_, _≤_, _<_}
+use Prim.Native.Nat.{ℕ, zero, suc, _+_, _-_, _<_}
 use native.Mathlib.Omega.{arith}
 use lib.Seq.{split-at, getD-at, length-take-le}
-use lib.ListN.{length, getD, take, drop, length-map, length-append, List·getD-map}
+use lib.ListN.{length, getD, take, drop, length-append}
 use Rattle.lists.specs.Joined.{_∈_, sumOver, upFrom}
 use Rattle.lists.specs.Ordered.{Pairwise, more, Distinct, Exactly}
 use Rattle.lists.specs.Searched.{bit, howMany, keep}
-use Rattle.lists.specs.Inner.Tickets.{Owns, place, firstTicket, struckFrom, skipOver, Apart, gone}
-use Rattle.lists.specs.Inner.Struck.{struck, numbered, skip}
-use Rattle.lists.proofs.Sums.{sum-ext, sum-one, sum-map, map-ext}
-use Rattle.lists.proofs.Members.{∈-place, At-getD, upFrom-∈}
-use Rattle.lists.proofs.Orders.{pairwise-map, order-unique}
-use Rattle.lists.proofs.Owners.{owns-∈, before-∈, owner-at, place-plain, tickets-plain, tickets-length}
-use Rattle.lists.proofs.Struck.{unstruck-sum, skip-over-lt, tickets-keep, tickets-keep-at, struck-alike, numbered-sum, drawn, drawn-at, Below, struck-∈, struck-below, apart-gap, skip-over-at}
-use Rattle.lists.proofs.Struck as all
+use Rattle.lists.specs.Inner.Tickets.{struckFrom}
+use Rattle.lists.specs.Inner.Struck.{struck}
+use Rattle.lists.proofs.Sums.{sum-one, sum-map}
+use Rattle.lists.proofs.Members.{∈-place, At-getD}
+use Rattle.lists.proofs.Orders.{pairwise-map}
+use Rattle.lists.proofs.Owners.{tickets-plain, tickets-length}
+use Rattle.lists.proofs.Struck.{unstruck-sum, tickets-keep, struck-alike, Below, struck-∈, struck-below}
 
 abbrev single : ℕ → ℕ × ℕ
 single h = (h, 1)
@@ -65,14 +64,6 @@ module _ {X : Type 0} where
   pub keep-ext : (P Q : X → Bool) (l : List X) → ((x : X) → x ∈ l → P x ≡ Q x) → keep P l ≡ keep Q l
   keep-ext P Q [] h = refl
   keep-ext P Q (x ∷ l) h = rw (h x (List·Memᴰ·head refl), keep-ext P Q l (λ y m. h y (List·Memᴰ·tail m)))
-
-  pub keep-append : (P : X → Bool) (a b : List X) → keep P (a ++ b) ≡ keep P a ++ keep P b
-  keep-append P [] b = refl
-  keep-append P (x ∷ a) b = go (P x) (keep-append P a b)
-    where
-      go : (t : Bool) → keep P (a ++ b) ≡ keep P a ++ keep P b → cond t (x ∷ keep P (a ++ b)) (keep P (a ++ b)) ≡ cond t (x ∷ keep P a) (keep P a) ++ keep P b
-      go true e = ap (λ (l : List X). x ∷ l) e
-      go false e = e
 
   -- what passes two tests, one after the other
   pub keep-keep : (P Q : X → Bool) (l : List X) → keep P (keep Q l) ≡ keep (λ x. Q x && P x) l
@@ -131,16 +122,6 @@ module _ {X : Type 0} where
         all = λ u. (λ q. ∈-keep P l u (q .0) (q .1), keep-∈ P l u);
       }
 
-  -- what fails weighs nothing and isn't sought: the first ticket sought is that among what is kept
-  pub first-keep : (P Q : X → Bool) (v : X → ℕ) (l : List X) → ((x : X) → x ∈ l → P x ≡ false → (v x ≡ 0) × (Q x ≡ false)) → firstTicket v Q l ≡ firstTicket v Q (keep P l)
-  first-keep P Q v [] h = refl
-  first-keep P Q v (x ∷ l) h = go (P x) (h x (List·Memᴰ·head refl)) (first-keep P Q v l (λ y m. h y (List·Memᴰ·tail m)))
-    where
-      go : (b : Bool) → (b ≡ false → (v x ≡ 0) × (Q x ≡ false)) → firstTicket v Q l ≡ firstTicket v Q (keep P l)
-          → cond (Q x) 0 (v x + firstTicket v Q l) ≡ firstTicket v Q (cond b (x ∷ keep P l) (keep P l))
-      go true z e = rw e
-      go false z e = let q = z refl in rw (q .0, q .1) (omega arith)
-
 -- the numbers of a run, each one more
 pub keep-later : (P : ℕ → Bool) (k n : ℕ) → keep P (upFrom (suc k) n) ≡ map suc (keep (λ a. P (suc a)) (upFrom k n))
 keep-later P k zero = refl
@@ -150,7 +131,7 @@ keep-later P k (suc n) = go (P (suc k)) _ _ (keep-later P (suc k) n)
     go true x y e = ap (λ (l : List ℕ). suc k ∷ l) e
     go false x y e = e
 
--- ---- the skip over the struck places
+-- ---- the struck places
 
 module _ {X : Type 0} (P : X → Bool) where
   pub singles : (k : ℕ) (l : List X) → struckFrom P (λ x. 1) k l ≡ map single (map (λ (e : ℕ × ℕ). e .0) (struckFrom P (λ x. 1) k l))
@@ -161,9 +142,6 @@ module _ {X : Type 0} (P : X → Bool) where
           → cond b s (single k ∷ s) ≡ map single (map (λ (e : ℕ × ℕ). e .0) (cond b s (single k ∷ s)))
       go true s e = e
       go false s e = ap (λ (m : List (ℕ × ℕ)). single k ∷ m) e
-
-  skip-struck : (l : List X) (q : ℕ) → skipOver q (struckFrom P (λ x. 1) 0 l) ≡ skip q (struck P l)
-  skip-struck l q = ap (skipOver q) (singles 0 l)
 
   -- what is kept and what is struck make the whole
   pub keep-length : (l : List X) → length (keep P l) + length (struck P l) ≡ length l
@@ -177,15 +155,6 @@ module _ {X : Type 0} (P : X → Bool) where
         sum-one (struck P l),
         sum-one l,
       )
-
-  pub skip-lt : (l : List X) (q : ℕ) → q < length (keep P l) → skip q (struck P l) < length l
-  skip-lt l q h = omega (arith, skip-struck l q, sum-one l, skip-over-lt P (λ x. 1) l q (omega (arith, keep-many P l)))
-
-  -- entry q of what is kept is the whole list's entry at the skip of q
-  pub keep-at : (l : List X) (q : ℕ) (d : X) → getD (keep P l) q d ≡ getD l (skip q (struck P l)) d
-  keep-at l q d = rw (tickets-plain (keep P l), tickets-plain l, skip-struck l q) at (tickets-keep-at P (λ x. 1) l q d)
-
-  -- ---- the struck places
 
   pub struck-rising : (l : List X) → Pairwise _<_ (struck P l)
   struck-rising l =
@@ -206,84 +175,6 @@ module _ {X : Type 0} (P : X → Bool) where
       (struck-∈ P (λ x. 1) l (single i) .1
       (record { before = take i l; at = getD l i z; after = drop (suc i) l; list = split-at l i z h; fails = e; entry = rw n }))
 
-  -- any rising list of just the failing places is that of the struck ones
-  pub struck-unique : (l : List X) (z : X) (bad : List ℕ) → Pairwise _<_ bad
-      → ((i : ℕ) → i ∈ bad ↔ ((i < length l) × (P (getD l i z) ≡ false))) → bad ≡ struck P l
-  struck-unique l z bad s h =
-      order-unique _<_ (λ x y a b. omega arith) (λ x y a e. omega arith) bad (struck P l) s (struck-rising l)
-      (λ i m. let q = h i .0 m in fails-struck l i z (q .0) (q .1)) (λ i m. h i .1 (struck-fails l i z m))
-
-  -- ---- what the draws find
-
-  pub keep-numbered : (k : ℕ) (l : List X) → length (keep (λ (e : ℕ × X). P (e .1)) (numbered k l)) ≡ length (keep P l)
-  keep-numbered k l = keep-many (λ (e : ℕ × X). P (e .1)) (numbered k l) ∙ numbered-sum (λ x. bit (P x)) k l ∙ sym (keep-many P l)
-
-  -- the skip of q, and what stands there
-  abbrev found : List X → X → ℕ → ℕ × X
-  found l z q = (skip q (struck P l), getD l (skip q (struck P l)) z)
-
-  drawn-found : (l : List X) (q : ℕ) (z : X) → q < howMany P l → drawn P (λ x. 1) l z q ≡ found l z q
-  drawn-found l q z h =
-      let t = skipOver q (struckFrom P (λ x. 1) 0 l) in
-      let e : place (λ x. 1) (λ x. 1) l t ≡ skip q (struck P l)
-      = place-plain l t (omega (arith, skip-over-lt P (λ x. 1) l q h, sum-one l)) ∙ skip-struck l q in
-      rw (owner-at (λ x. 1) l t z, e)
-
-  -- entry q of what is kept, each with its place
-  pub kept-at : (l : List X) (q : ℕ) (z : X) → q < length (keep P l)
-      → getD (keep (λ (e : ℕ × X). P (e .1)) (numbered 0 l)) q (0, z) ≡ (skip q (struck P l), getD l (skip q (struck P l)) z)
-  kept-at l q z h =
-      let k : q < howMany P l = omega (arith, keep-many P l) in
-      ap (λ (m : List (ℕ × X)). getD m q (0, z)) (sym (tickets-plain (keep (λ (e : ℕ × X). P (e .1)) (numbered 0 l))))
-      ∙ drawn-at P (λ x. 1) l z q k
-      ∙ drawn-found l q z k
-
-  -- what the skips of 0, 1, .. find, one after another, is what is kept, each with its place
-  pub draws : (l : List X) (z : X)
-      → map (λ q. (skip q (struck P l), getD l (skip q (struck P l)) z)) (upFrom 0 (length l - length (struck P l)))
-      ≡ keep (λ (e : ℕ × X). P (e .1)) (numbered 0 l)
-  draws l z =
-      let n : length l - length (struck P l) ≡ howMany P l = omega (arith, keep-length l, keep-many P l) in
-      rw n
-      (sym (map-ext (drawn P (λ x. 1) l z) (found l z) (upFrom 0 (howMany P l)) (λ q m. drawn-found l q z (omega (arith, upFrom-∈ 0 (howMany P l) m .1))))
-      ∙ all.draws P (λ x. 1) l z
-      ∙ tickets-plain (keep (λ (e : ℕ × X). P (e .1)) (numbered 0 l)))
-
 module _ {X : Type 0} where
   pub struck-ext : (P Q : X → Bool) (l : List X) → ((x : X) → x ∈ l → P x ≡ Q x) → struck P l ≡ struck Q l
   struck-ext P Q l h = ap (map (λ (e : ℕ × ℕ). e .0)) (struck-alike P Q (λ x. 1) 0 l h)
-
--- ---- the skip over a rising list, as a search by halves meets it
-
-gone-singles : (k : ℕ) (l : List ℕ) → k ≤ length l → gone k (map single l) ≡ k
-gone-singles zero l h = refl
-gone-singles (suc k) [] h = absurd (omega arith)
-gone-singles (suc k) (x ∷ l) h = omega (arith, gone-singles k l (omega arith))
-
-single-at : (l : List ℕ) (i : ℕ) → getD (map single l) i (single 0) .0 ≡ getD l i 0
-single-at l i = ap (λ (e : ℕ × ℕ). e .0) (List·getD-map single l i 0)
-
--- a rising list rises by at least one each place
-pub rising-gap : (l : List ℕ) (i j : ℕ) → Pairwise _<_ l → i ≤ j → j < length l → getD l i 0 + (j - i) ≤ getD l j 0
-rising-gap l i j s h k =
-    let n = length-map l single in
-    omega (
-      arith,
-      apart-gap (map single l) (single 0) i j (pairwise-map _<_ Apart single l s (λ a b r. omega arith)) h (omega arith),
-      single-at l i,
-      single-at l j,
-      gone-singles i l (omega arith),
-      gone-singles j l (omega arith),
-    )
-
--- where the first k entries, each less its place, are at most q, and the next one is not, the skip passes just these
-pub skip-at : (l : List ℕ) (q k : ℕ) → k ≤ length l → ((i : ℕ) → i < k → getD l i 0 ≤ q + i) → (k < length l → q + k < getD l k 0) → skip q l ≡ q + k
-skip-at l q k h f g =
-    let n = length-map l single in
-    omega (
-      arith,
-      gone-singles k l h,
-      skip-over-at (map single l) (single 0) q k (omega arith)
-          (λ i m. omega (arith, f i m, single-at l i, gone-singles i l (omega arith)))
-          (λ m. omega (arith, g (omega arith), single-at l k, gone-singles k l h)),
-    )

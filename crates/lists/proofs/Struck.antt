@@ -12,18 +12,16 @@ use native.Mathlib.Omega.{arith}
 use native.Mathlib.Decide.{decLt, ℕ-discrete}
 use borrow.Author.Tests.{le-leb, lt-leb, ne-eqb}
 use lib.Dec.{eqb}
-use lib.Seq.{ext-getD}
-use lib.ListN.{length, getD, replicate, take, length-map, List·getD-eq-default}
-use Rattle.lists.specs.Joined.{_∈_, At, sumOver, upFrom}
+use lib.ListN.{length, getD, replicate, length-map, List·getD-eq-default}
+use Rattle.lists.specs.Joined.{_∈_, At, sumOver}
 use Rattle.lists.specs.Ordered.{Pairwise, none, more}
 use Rattle.lists.specs.Inner.Tickets.{ahead, owner, place, tickets, Owns, unstruck, struckFrom, spans, skipOver, StruckAs, Apart, gone}
 use Rattle.lists.specs.Searched.{bit, keep}
 use Rattle.lists.specs.Inner.Struck.{numbered}
-use Rattle.lists.proofs.Sums.{sum-one, sum-map, concat-ext, length-upFrom}
+use Rattle.lists.proofs.Sums.{sum-one, sum-map, concat-ext}
 use Rattle.lists.proofs.Members.{getD-∈}
-use Rattle.lists.proofs.Places.{getD-map, getD-upFrom}
 use Rattle.lists.proofs.Orders.{pairwise-map, order-unique}
-use Rattle.lists.proofs.Owners.{owned, owns-owner, owns-place, owns-inside, place-inside, owns-ext, ahead-map, tickets-length, tickets-at, tickets-plain}
+use Rattle.lists.proofs.Owners.{owned, owns-owner, owns-place, owns-inside, place-inside, owns-ext, ahead-map, tickets-length, tickets-at}
 
 -- ---- the skip
 
@@ -253,10 +251,6 @@ module _ {X : Type 0} where
       ∙ ap length (sym (ahead-map (λ (e : ℕ × X). e .1) v (numbered k l) t))
       ∙ ap (λ (m : List X). length (ahead v m t)) (unnumbered k l)
 
-  numbered-struck : (P : X → Bool) (v : X → ℕ) (k j : ℕ) (l : List X)
-      → struckFrom (λ (e : ℕ × X). P (e .1)) (λ (e : ℕ × X). v (e .1)) k (numbered j l) ≡ struckFrom P v k l
-  numbered-struck P v k j l = sym (struck-map (λ (e : ℕ × X). e .1) P v k (numbered j l)) ∙ ap (struckFrom P v k) (unnumbered j l)
-
 -- the places stay where each element is turned into another
 pub numbered-map : {X Y : Type 0} (f : X → Y) (k : ℕ) (l : List X) → numbered k (map f l) ≡ map (λ (e : ℕ × X). (e .0, f (e .1))) (numbered k l)
 numbered-map f k [] = refl
@@ -274,48 +268,6 @@ module _ {X : Type 0} {v u : X → ℕ} {l : List X} {t : ℕ} {x : X} {n o : �
       ∙ numbered-at 0 l (length (ahead v l t)) z (0, z) i
       ∙ ap (λ (j : ℕ). (j, owner v l t z)) e
       ∙ ap (λ (y : X). (n, y)) (owns-owner q z)
-
-module _ {X : Type 0} (P : X → Bool) (v : X → ℕ) (l : List X) (z : X) where
-  -- draw q: the place and the element that own the skip of q
-  abbrev pub drawn : ℕ → ℕ × X
-  drawn q = let t = skipOver q (struckFrom P v 0 l) in (place v (λ x. 1) l t, owner v l t z)
-
-  -- what is kept, each element with its place, as often as it weighs
-  abbrev pub kept : List (ℕ × X)
-  kept = tickets (λ (e : ℕ × X). v (e .1)) (keep (λ (e : ℕ × X). P (e .1)) (numbered 0 l))
-
-  pub kept-length : length kept ≡ sumOver (unstruck P v) l
-  kept-length =
-      ap length (tickets-keep (λ (e : ℕ × X). P (e .1)) (λ (e : ℕ × X). v (e .1)) (numbered 0 l))
-      ∙ tickets-length (λ (e : ℕ × X). unstruck P v (e .1)) (numbered 0 l)
-      ∙ numbered-sum (unstruck P v) 0 l
-
-  pub drawn-at : (q : ℕ) → q < sumOver (unstruck P v) l → getD kept q (0, z) ≡ drawn q
-  drawn-at q h =
-      let t = skipOver q (struckFrom P v 0 l) in
-      let o = struck-owns P v (owned {u = λ x. 1} l q z h) in
-      let i : length (ahead v l t) < length l = omega (arith, owns-place o, place-inside o, sum-one l, sum-one (ahead v l t)) in
-      let e : 0 + length (ahead v l t) ≡ place v (λ x. 1) l t = omega (arith, sum-one (ahead v l t)) in
-      tickets-keep-at (λ (e : ℕ × X). P (e .1)) (λ (e : ℕ × X). v (e .1)) (numbered 0 l) q (0, z)
-      ∙ ap (λ (s : List (ℕ × ℕ)). getD (tickets (λ (e : ℕ × X). v (e .1)) (numbered 0 l)) (skipOver q s) (0, z)) (numbered-struck P v 0 0 l)
-      ∙ tickets-at (λ (e : ℕ × X). v (e .1)) (numbered 0 l) t (0, z)
-      ∙ ap (λ (j : ℕ). getD (numbered 0 l) j (0, z)) (numbered-ahead v 0 l t)
-      ∙ numbered-at 0 l (length (ahead v l t)) z (0, z) i
-      ∙ ap (λ (j : ℕ). (j, owner v l t z)) e
-
-  -- the draws 0, 1, .. find what is kept
-  pub draws : map drawn (upFrom 0 (sumOver (unstruck P v) l)) ≡ kept
-  draws =
-      rw (← kept-length)
-      (ext-getD (0, z) (map drawn (upFrom 0 (length kept))) kept (omega (arith, size))
-      (λ i h.
-      let k : i < length kept = omega (arith, size) in
-      let u : i < length (upFrom 0 (length kept)) = omega (arith, length-upFrom 0 (length kept)) in
-      let e : getD (upFrom 0 (length kept)) i 0 ≡ i = omega (arith, getD-upFrom 0 (length kept) i 0 k) in
-      getD-map drawn (upFrom 0 (length kept)) i 0 (0, z) u ∙ ap drawn e ∙ sym (drawn-at i (omega (arith, kept-length)))))
-    where
-      size : length (map drawn (upFrom 0 (length kept))) ≡ length kept
-      size = omega (arith, length-map (upFrom 0 (length kept)) drawn, length-upFrom 0 (length kept))
 
 -- ---- the struck entries
 
@@ -400,13 +352,6 @@ module _ {X : Type 0} (P : X → Bool) (v : X → ℕ) where
       (pairwise-map Below _<_ (λ (e : ℕ × ℕ). e .0) (struckFrom P v 0 l) (struck-below l some) (λ a b h. h))
       (λ d m. let q = from d m in rw (← q .2) (Memᴰ·map (λ (e : ℕ × ℕ). e .0) (struck-∈ l (q .0) .1 (q .1))))
       (λ d m. let q = Memᴰ·of-map (λ (e : ℕ × ℕ). e .0) (struckFrom P v 0 l) m in rw (← q .2) (into (q .0) (struck-∈ l (q .0) .0 (q .1))))
-
-  -- any rising list of just these is the list of them
-  pub struck-unique : (l : List X) (bad : List (ℕ × ℕ)) → ((x : X) → x ∈ l → P x ≡ false → 0 < v x) → Pairwise Below bad
-      → ((e : ℕ × ℕ) → e ∈ bad ↔ StruckAs P v l e) → bad ≡ struckFrom P v 0 l
-  struck-unique l bad some rising h =
-      order-unique Below (λ x y a b. omega arith) (λ x y a e. omega (arith, ap (λ (c : ℕ × ℕ). c .0) e)) bad (struckFrom P v 0 l) rising
-      (struck-below l some) (λ e m. struck-∈ l e .1 (h e .0 m)) (λ e m. h e .1 (struck-∈ l e .0 m))
 
 -- an owner that fails is struck, by the measure
 module _ {X : Type 0} {v u : X → ℕ} {l : List X} {t : ℕ} {x : X} {n o : ℕ} where

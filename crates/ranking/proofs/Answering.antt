@@ -14,20 +14,14 @@ use Rattle.answers.specs.Inner.Refusals.{refusalNumber}
 use Rattle.answers.specs.declared.refusal.Refusal.{Refusal}
 use Rattle.answers.proofs.Numbers.{number-some}
 use Rattle.answers.proofs.Refusals.{row-applies, row-passed, rows-stop, rows-pass, answer-accepted, answer-refused}
-use Rattle.grammar.specs.Inner.Rules.{startIn, Holds}
-use Rattle.counting.specs.Refusals.{most, preparedRows}
-use Rattle.counting.specs.Inner.Counted.{Counted}
+use Rattle.grammar.specs.Inner.Rules.{Holds}
+use Rattle.counting.specs.Refusals.{preparedRows}
 use Rattle.counting.specs.Inner.Preparing.{preparedNumber, PreparedAs}
 use Rattle.counting.specs.declared.prepare.Prepared.{Prepared}
 use Rattle.counting.specs.declared.prepare.Prepared.the-variants.{Ready, Refused}
-use Rattle.counting.proofs.Asking.{asked-whole}
 use Rattle.ranking.specs.Answers.{totalOf, entryOf, unrankOf, readingsOf, numberOf, rankOf}
 use Rattle.ranking.specs.Inner.Inside.{totalIn, entryIn, readingsIn, numberIn, unrankIn, rankIn}
 use Rattle.ranking.proofs.Inside.{total-is, entry-is, readings-are, number-is}
-
--- T is of 64 bits
-pub total-fits : {rules totals : List (List ℕ)} {n : ℕ} → Counted rules totals n → totalIn rules n ≤ most
-total-fits {rules} {n = n} c = c .fits (startIn rules) n (asked-whole (c .table) (c .some))
 
 -- ---- *Give*, by the table
 

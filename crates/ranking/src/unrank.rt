@@ -1,6 +1,5 @@
 // *Give*: the sentence with a derivation number.
 ghost use mathlib.Core.Path.{_≡_};
-ghost use lib.ListN.{length};
 ghost use Rattle.counting.specs.Inner.Counted.{Counted};
 ghost use Rattle.ranking.specs.Answers.{unrankOf};
 ghost use Rattle.ranking.specs.Inner.Says.{unrankSays};

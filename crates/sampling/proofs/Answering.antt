@@ -3,13 +3,11 @@
 -- Assumes nothing.
 use mathlib.Core.Path.{_≡_, refl, sym, ap, _∙_}
 use mathlib.Core.Bool.{Bool, true, not, _||_}
-use mathlib.Core.List.{List, [], _∷_, _++_, map, List·Memᴰ·head, List·Memᴰ·not-nil, List·Memᴰ·eq-of-singleton}
-use mathlib.Core.Logic.{_↔_}
+use mathlib.Core.List.{List, [], _∷_, _++_, map}
 use Prim.Native.Nat.{ℕ, zero, _+_, _-_, _≤_, _<_}
 use native.Mathlib.Omega.{arith}
-use native.Mathlib.Decide.{decLe}
-use borrow.Author.Tests.{eqb-true, eq-eqb, le-leb, lt-leb, lt-ltb, le-ltb}
-use lib.ListN.{length, getD, take, drop, replicate, length-replicate, length-take, length-map}
+use borrow.Author.Tests.{le-leb, lt-leb, lt-ltb, le-ltb}
+use lib.ListN.{length, getD, take, drop, replicate, length-replicate, length-take}
 use lib.Seq.{length-take-le, take-append-le}
 use lib.Dec.{ltb, leb, eqb, lit<}
 use Rattle.lists.specs.Joined.{_∈_, sumOver, concatMap}
@@ -23,7 +21,7 @@ use Rattle.lists.proofs.Tests.{some-ext}
 use Rattle.lists.proofs.Struck.{numbered-sum, struck-apart, tickets-spans, spans-lt, spans-keep}
 use Rattle.lists.proofs.Tables.{wide-made, made-entry}
 use Rattle.lists.proofs.Strikes.{singles}
-use Rattle.answers.specs.Answer.{Row, Answer, firstThatApplies, given, refused, answerOf, answer}
+use Rattle.answers.specs.Answer.{Row, firstThatApplies, given, refused, answerOf, answer}
 use Rattle.answers.specs.Inner.Refusals.{refusalNumber}
 use Rattle.answers.specs.declared.refusal.Refusal.{Refusal}
 use Rattle.answers.proofs.Numbers.{number-some}
@@ -33,8 +31,6 @@ use Rattle.grammar.specs.Trees.{Tree, sentence}
 use Rattle.grammar.specs.Inner.Rules as grammar
 use Rattle.counting.specs.Refusals.{most}
 use Rattle.counting.specs.Inner.Preparing.{Tabled}
-use Rattle.counting.proofs.Counts.{T-sentences}
-use Rattle.charts.specs.Inner.Letters.{stands}
 use Rattle.charts.specs.Inner.Plan.{spansOf}
 use Rattle.charts.specs.Inner.Maps.{countsMap, Everywhere}
 use Rattle.charts.proofs.Mapping.{counts-map}
@@ -55,7 +51,7 @@ use Rattle.sampling.specs.Inner.Collect.{fittingAt, barred, spansBy, fit
 use Rattle.sampling.specs.Inner.Patterns.{behindOf, Choice}
 use Rattle.sampling.specs.Answers.{remainingRows, remainingTo, drawn, drawTo}
 use Rattle.sampling.specs.Inner.Skipping.{heardSpans, passedBy, Skips}
-use Rattle.sampling.specs.Inner.Preparing.{Room, Lent, Tables, LentMatching, Heard, Hold, NumbersAs, HeardBy, RecordsSought, MatchingSought, RecordedBy, RecordedAs, DrawableBy, Drawable, SampledIs, SampledBy}
+use Rattle.sampling.specs.Inner.Preparing.{Room, Lent, Tables, LentMatching, Heard, Hold, NumbersAs, HeardBy, RecordsSought, MatchingSought, RecordedBy, RecordedAs, Drawable, SampledIs, SampledBy}
 use Rattle.sampling.specs.declared.heard.Collected.the-variants.{Numbers}
 use Rattle.sampling.specs.declared.prepare.Sampled.{Sampled}
 use Rattle.sampling.specs.declared.prepare.Sampled.the-variants.{Ready, Refused as NotReady}

@@ -8,19 +8,19 @@ use mathlib.Core.Bool.{Bool, true, false, cond, not, _&&_, true≢false}
 use mathlib.Core.List.{List, [], _∷_, map, List·Memᴰ·head, List·Memᴰ·tail, Memᴰ·cast, Memᴰ·map, Memᴰ·of-map}
 use Prim.Native.Nat.{ℕ, suc, _+_, _-_, _≤_, _<_}
 use native.Mathlib.Omega.{arith}
-use lib.ListN.{length, getD, length-map, List·getD-map}
+use lib.ListN.{length, getD, length-map}
 use lib.Dec.{leb, eqb}
 use borrow.Author.Tests.{leb-false, eqb-true, eq-eqb, not-false}
 use Rattle.lists.specs.Joined.{_∈_, At}
-use Rattle.lists.specs.Ordered.{Pairwise, none, more, Distinct, Exactly}
+use Rattle.lists.specs.Ordered.{none, more, Distinct, Exactly}
 use Rattle.lists.specs.Searched.{bit, howMany, firstPlace, someOf, same, keep}
-use Rattle.lists.specs.Inner.Struck.{numbered, skip}
+use Rattle.lists.specs.Inner.Struck.{numbered}
 use Rattle.lists.proofs.Members.{getD-∈, At-∈}
 use Rattle.lists.proofs.Orders.{pairwise-distinct, distinct-le}
 use Rattle.lists.proofs.Tests.{some-∈, ∈-some, none-∈, same-eq, same-refl}
 use Rattle.lists.proofs.Searches.{many-at, place-lt, place-hit, place-only}
 use Rattle.lists.proofs.Struck.{numbered-∈, numbered-sum}
-use Rattle.lists.proofs.Strikes.{keep-∈, ∈-keep, keep-map, keep-keep, keep-many, keep-length, keep-at, sum-keep, keep-pairwise, struck-rising, struck-fails, fails-struck}
+use Rattle.lists.proofs.Strikes.{keep-∈, ∈-keep, keep-map, keep-keep, keep-many, keep-length, sum-keep, keep-pairwise, struck-rising, struck-fails, fails-struck}
 use Rattle.grammar.specs.Layout.{start}
 use Rattle.grammar.specs.Chains.{chain}
 use Rattle.grammar.specs.Trees.{Tree, leaf, sentence}
@@ -34,7 +34,6 @@ use Rattle.sampling.specs.Pattern.{matches}
 use Rattle.sampling.specs.Question.{Question}
 use Rattle.sampling.specs.Unheard.{Entry, entriesFrom, outside, suits, unheard, totalFor, distinct, ofLength, heardOf, leftOf, ambiguous}
 use Rattle.sampling.specs.Inner.Collect.{fittingAt, barred}
-use Rattle.sampling.specs.Answers.{drawn}
 
 -- ---- sentences, each once
 
@@ -194,13 +193,6 @@ module _ (g h : List ℕ) (a : Question) where
 
   pub unheard-all : length (unheard g h a) + length (barred g h a) ≡ totalFor g a
   unheard-all = omega (arith, unheard-length, keep-length free (fittingAt g a), fitting-length g a)
-
-  -- entry q is what stands, of those that fit, at the skip of q over the struck places
-  pub unheard-at : (q : ℕ) → drawn g h a q ≡ entry (getD (fittingAt g a) (skip q (barred g h a)) no-entry)
-  unheard-at q =
-      ap (λ (l : List Entry). getD l q (entry no-entry)) unheard-is
-      ∙ List·getD-map entry (keep free (fittingAt g a)) q no-entry
-      ∙ ap entry (keep-at free (fittingAt g a) q no-entry)
 
 -- with an accepted history
 module _ (g h : List ℕ) (a : Question) (diary : history.Accepted h) where

@@ -24,7 +24,7 @@ use Rattle.ranking.specs.Answers.{fullList, derives, readingsOf}
 use Rattle.ranking.proofs.Demand2.{listed-total, exactly-readings}
 use Rattle.history.specs.Refusals.{historyRows}
 use Rattle.history.specs.Heard.{sentencesIn, heard}
-use Rattle.sampling.specs.Pattern.{blank, matches, neither, badPattern}
+use Rattle.sampling.specs.Pattern.{blank, matches, badPattern}
 use Rattle.sampling.specs.Question.{Question, plainly, matching}
 use Rattle.sampling.specs.Unheard.{Entry, entriesFrom, outside, suits, unheard, totalFor, distinct, ofLength, heardOf, leftOf, ambiguous}
 use Rattle.sampling.specs.Answers.{remainingRows, remainingTo, remainingMatching, drawTo}

@@ -11,7 +11,7 @@ use native.Mathlib.Decide.{decLe}
 use lib.ListN.{length, getD, take, drop, length-map, List·getD-map}
 use lib.Seq.{take-at, drop-at}
 use lib.Dec.{ltb, leb}
-use borrow.Author.Tests.{le-leb, lt-leb, lt-ltb, le-ltb, not-true}
+use borrow.Author.Tests.{not-true}
 use Rattle.lists.specs.Joined.{_∈_, At}
 use Rattle.lists.specs.Ordered.{Pairwise, none, more, Distinct, Exactly}
 use Rattle.lists.specs.Searched.{keep}
@@ -22,8 +22,8 @@ use Rattle.lists.proofs.Orders.{pairwise-one, distinct-place, exactly-unique}
 use Rattle.lists.proofs.Struck.{∈-numbered}
 use Rattle.lists.proofs.Tests.{and-left, and-right, both-ways, both-fail}
 use Rattle.lists.proofs.Strikes.{keep-∈, ∈-keep, keep-map, keep-ext, keep-pairwise, exactly-many, struck-ext}
-use Rattle.answers.specs.Answer.{Answer, Row, firstThatApplies, given, refused, answerOf, answer}
-use Rattle.answers.proofs.Refusals.{row-applies, row-passed, rows-stop, rows-tail, rows-pass, answer-number, answer-accepted, answer-refused}
+use Rattle.answers.specs.Answer.{Answer, firstThatApplies, given, refused, answerOf}
+use Rattle.answers.proofs.Refusals.{rows-stop, rows-tail, rows-pass, answer-accepted, answer-refused}
 use Rattle.grammar.specs.Layout.{start}
 use Rattle.grammar.specs.Chains.{chain}
 use Rattle.grammar.specs.Trees.{Tree, leaf, sentence, Before}

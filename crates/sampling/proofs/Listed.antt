@@ -2,16 +2,16 @@
 -- read off the tickets of the unheard ones, where each sentence weighs u: the skip finds in the tickets of all the one with q unheard ones before it.
 -- Assumes nothing.
 use mathlib.Core.Path.{_≡_, refl, sym, ap, _∙_}
-use mathlib.Core.Bool.{Bool, true, false, not, cond, _&&_, _||_}
+use mathlib.Core.Bool.{Bool, true, false, not, _&&_, _||_}
 use mathlib.Core.List.{List, [], _∷_, _++_, map}
-use Prim.Native.Nat.{ℕ, suc, _+_, _-_, _≤_, _<_}
+use Prim.Native.Nat.{ℕ, _+_, _-_, _≤_, _<_}
 use native.Mathlib.Omega.{arith}
 use native.Mathlib.Decide.{decLe}
 use lib.ListN.{length, getD, drop, length-map, List·getD-map}
 use lib.Dec.{ltb, leb, eqb}
 use borrow.Author.Tests.{le-leb, lt-leb, lt-ltb, le-ltb}
 use Rattle.lists.specs.Joined.{_∈_, sumOver}
-use Rattle.lists.specs.Searched.{bit, keep}
+use Rattle.lists.specs.Searched.{keep}
 use Rattle.lists.specs.Inner.Tickets.{tickets, struckFrom, skipOver}
 use Rattle.lists.specs.Inner.Struck.{numbered}
 use Rattle.lists.proofs.Places.{getD-map}

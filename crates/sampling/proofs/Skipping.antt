@@ -13,7 +13,7 @@ use Rattle.lists.specs.Joined.{sumOver}
 use Rattle.lists.specs.Ordered.{Pairwise}
 use Rattle.lists.specs.Inner.Tickets.{Apart, gone, skipOver}
 use Rattle.lists.proofs.Struck.{apart-gap, skip-over-at}
-use Rattle.sampling.specs.Inner.Skipping.{spansFrom, heardSpans, passedBy, Told, Skips}
+use Rattle.sampling.specs.Inner.Skipping.{spansFrom, heardSpans, passedBy, Told}
 
 -- ---- the first tickets and the weights
 

@@ -6,16 +6,15 @@ use mathlib.Core.Path.{_≡_, refl, sym, ap, _∙_}
 use mathlib.Core.Logic.{_↔_}
 use mathlib.Core.Bool.{Bool, true, false, not, cond, _&&_, _||_}
 use mathlib.Core.List.{List, [], _∷_, map, List·Memᴰ·head, List·Memᴰ·not-nil, List·Memᴰ·eq-of-singleton, Memᴰ·cast}
-use Prim.Native.Nat.{ℕ, _-_, _≤_, _<_}
+use Prim.Native.Nat.{ℕ, _-_, _<_}
 use native.Mathlib.Omega.{arith}
-use native.Mathlib.Decide.{ℕ-discrete}
 use borrow.Author.Tests.{eqb-true, eq-eqb, ne-eqb, eqb-false, lt-ltb, ltb-true, not-false}
 use lib.ListN.{length}
 use lib.Dec.{ltb, eqb}
-use Rattle.lists.specs.Joined.{_∈_, At, sumOver, concatMap}
+use Rattle.lists.specs.Joined.{_∈_, sumOver, concatMap}
 use Rattle.lists.specs.Ordered.{Pairwise}
 use Rattle.lists.specs.Searched.{bit, howMany, same}
-use Rattle.lists.specs.Inner.Tickets.{firstTicket, Owns, owner, place, offset, StruckAs}
+use Rattle.lists.specs.Inner.Tickets.{firstTicket, owner, place, StruckAs}
 use Rattle.lists.specs.Inner.Struck.{numbered}
 use Rattle.lists.proofs.Members.{At-∈, ∈-concat, concat-∈}
 use Rattle.lists.proofs.Sums.{sum-append}

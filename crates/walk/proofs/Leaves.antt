@@ -5,15 +5,13 @@ use mathlib.Core.List.{List, [], _∷_}
 use Prim.Native.Nat.{ℕ, suc, _+_, _-_, _≤_, _<_}
 use native.Mathlib.Omega.{arith}
 use native.Mathlib.Decide.{decLt}
-use borrow.Author.Tests.{eq-eqb, ne-eqb}
 use lib.Dec.{eqb}
 use lib.ListN.{length, getD, set, take, drop, drop-of-length-le}
 use lib.Seq.{drop-cons, split-at, length-take-le}
 use Rattle.lists.specs.Joined.{sumOver}
 use Rattle.lists.specs.Searched.{bit, times}
-use Rattle.lists.specs.Inner.Tables.{entry}
 use Rattle.lists.specs.Inner.Parts.{Passed}
-use Rattle.lists.proofs.Sums.{sum-ext, sum-one}
+use Rattle.lists.proofs.Sums.{sum-ext}
 use Rattle.lists.proofs.Searches.{∈-times}
 use Rattle.lists.proofs.Owners.{owns-only}
 use Rattle.lists.proofs.Parts.{passed-none, passed-size, passed-many, passed-here, passed-over}

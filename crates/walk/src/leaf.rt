@@ -1,6 +1,6 @@
 // One position: which of a nonterminal's words owns a ticket.
 ghost use mathlib.Core.Path.{_≡_};
-ghost use Prim.Native.Nat.{_≤_, _<_};
+ghost use Prim.Native.Nat.{_<_};
 ghost use lib.ListN.{length};
 ghost use Rattle.charts.specs.Inner.Letters.{letterAt};
 ghost use Rattle.walk.specs.Inner.Steps.{HasWord, WordPlacedAs, WordSought, PickedAs, LeafAs};

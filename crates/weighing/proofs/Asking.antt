@@ -2,9 +2,9 @@
 -- the rules or their counts are read from, and the totals by it are those by the words' weights.
 -- Assumes nothing.
 use mathlib.Core.Path.{_≡_, refl, sym, ap, _∙_}
-use mathlib.Core.Bool.{Bool, true, false, not, _||_}
+use mathlib.Core.Bool.{Bool, true, false, not}
 use mathlib.Core.List.{List, [], _∷_}
-use Prim.Native.Nat.{ℕ, _+_, _≤_, _<_}
+use Prim.Native.Nat.{ℕ, _≤_, _<_}
 use native.Mathlib.Omega.{arith}
 use lib.ListN.{length, getD}
 use lib.Dec.{eqb}
@@ -20,10 +20,10 @@ use Rattle.answers.specs.declared.refusal.Refusal.{Refusal}
 use Rattle.answers.specs.declared.refusal.Refusal.the-variants.{BadWeights, TooManyTickets}
 use Rattle.answers.proofs.Numbers.{number-some}
 use Rattle.answers.proofs.Refusals.{row-applies, row-passed, rows-stop, rows-pass, rows-clear}
-use Rattle.grammar.specs.Layout.{words, start}
-use Rattle.grammar.specs.Chains.{chain, Rule}
+use Rattle.grammar.specs.Layout.{words}
+use Rattle.grammar.specs.Chains.{Rule}
 use Rattle.grammar.specs.Refusals.{grammarRows, Accepted}
-use Rattle.grammar.specs.Inner.Rules.{startIn, ruled, Ruled, Holds}
+use Rattle.grammar.specs.Inner.Rules.{startIn, ruled, Holds}
 use Rattle.grammar.proofs.Kept.{ruled-kept, words-kept, pairs-kept}
 use Rattle.counting.specs.Refusals.{overflows, tooLarge, openRows}
 use Rattle.counting.specs.Inner.Letters.{weighed, byLetter}
@@ -43,7 +43,7 @@ use Rattle.sampling.specs.Inner.Preparing.{AskedAs}
 use Rattle.sampling.proofs.Asking.{asked-none, asked-refused}
 use Rattle.weighing.specs.Weights.{weightOf, badWeights, tooHeavy}
 use Rattle.weighing.specs.Weighted.{weighedRows}
-use Rattle.weighing.specs.Inner.Tables.{Sets, SetAs, Tallies, TalliedAs, Lent, Weighed, WeighedAs}
+use Rattle.weighing.specs.Inner.Tables.{Sets, SetAs, Tallies, TalliedAs, Lent, WeighedAs}
 use Rattle.weighing.proofs.Writing.{set-all}
 
 -- ---- tables that differ in rows that aren't read

@@ -2,9 +2,9 @@
 -- what its words' weights make it. A sentence with a derivation weighs something, as none of its words weighs 0.
 -- Assumes nothing.
 use mathlib.Core.Path.{_≡_, refl, sym, ap, _∙_}
-use mathlib.Core.Bool.{Bool, true}
+use mathlib.Core.Bool.{true}
 use mathlib.Core.List.{List, [], _∷_, Memᴰ·of-map}
-use Prim.Native.Nat.{ℕ, zero, suc, _+_, _*_, _/_, _%_, _≤_, _<_}
+use Prim.Native.Nat.{ℕ, suc, _+_, _/_, _%_, _≤_, _<_}
 use native.Mathlib.Omega.{arith}
 use borrow.Author.Tests.{le-leb, lt-ltb}
 use lib.Dec.{ltb}
@@ -13,7 +13,7 @@ use Rattle.lists.specs.Joined.{_∈_}
 use Rattle.lists.specs.Inner.Tables.{entry, Wide}
 use Rattle.grammar.specs.Layout.{start}
 use Rattle.grammar.specs.Chains.{chain}
-use Rattle.grammar.specs.Trees.{Tree, sentence}
+use Rattle.grammar.specs.Trees.{sentence}
 use Rattle.grammar.specs.Inner.Rules.{startIn, ruled}
 use Rattle.grammar.proofs.Kept.{ruled-same, ruled-kept}
 use Rattle.grammar.proofs.Enumeration.{sound}
@@ -24,12 +24,12 @@ use Rattle.counting.specs.Inner.Sentences.{weight}
 use Rattle.counting.proofs.Asking.{asked-of}
 use Rattle.counting.proofs.Totals.{total-within}
 use Rattle.charts.specs.Inner.Letters.{letterAt, weightBy, stands}
-use Rattle.charts.specs.Inner.Maps.{rowAt, Span, Mapped, ByLength, weightsRow, weightsMap}
-use Rattle.charts.specs.Inner.Plan.{chartRow, lengthIn, needed, endOf}
+use Rattle.charts.specs.Inner.Maps.{rowAt, Span, ByLength, weightsRow, weightsMap}
+use Rattle.charts.specs.Inner.Plan.{lengthIn, needed, endOf}
 use Rattle.charts.specs.Inner.Planning.{PlacedAs}
 use Rattle.charts.specs.Inner.Ready.{Readies, ReadiedAs}
 use Rattle.charts.proofs.Mapping.{map-by, length-weight, length-mapped, all-closed, planned-closed}
-use Rattle.charts.proofs.Placing.{room-short, room-low, placed-rows}
+use Rattle.charts.proofs.Placing.{room-low, placed-rows}
 use Rattle.ranking.specs.Answers.{fullList}
 use Rattle.ranking.specs.Inner.Inside as inside
 use Rattle.ranking.specs.Inner.Inside.{fullIn, Chooses}
@@ -38,8 +38,7 @@ use Rattle.ranking.proofs.Weighing.{listed-long}
 use Rattle.history.specs.Layout.{recordsOf}
 use Rattle.history.specs.Refusals.{Accepted}
 use Rattle.sampling.specs.Question.{plainly}
-use Rattle.sampling.specs.Inner.Collect.{Collects, Still}
-use Rattle.sampling.specs.Inner.Patterns.{Choice}
+use Rattle.sampling.specs.Inner.Collect.{Collects}
 use Rattle.sampling.specs.Inner.Preparing.{NumbersBy, HeardBy, RecordedBy}
 use Rattle.sampling.specs.declared.prepare.Sampled.{Sampled}
 use Rattle.sampling.specs.declared.prepare.Sampled.the-variants.{Ready}
@@ -47,7 +46,7 @@ use Rattle.sampling.proofs.Readying.{hold-same, full-same}
 use Rattle.sampling.proofs.Answering.{none-heard, fitted-recorded}
 use Rattle.weighing.specs.Weights.{weightOf, weighs}
 use Rattle.weighing.specs.Inner.Tables.{Weighed}
-use Rattle.weighing.specs.Inner.Preparing.{behindWeights, FirstsSought, RecordsSought}
+use Rattle.weighing.specs.Inner.Preparing.{behindWeights, FirstsSought}
 use Rattle.weighing.proofs.Weighing.{left-weighty, derived-some}
 
 -- ---- the map of the totals by weight

@@ -3,20 +3,16 @@
 -- Assumes nothing.
 use mathlib.Core.Path.{_≡_, refl, sym, ap, _∙_}
 use mathlib.Core.Bool.{Bool, not}
-use mathlib.Core.List.{List, [], _∷_, _++_, map}
+use mathlib.Core.List.{List, [], map}
 use Prim.Native.Nat.{ℕ, zero, suc, _-_, _≤_, _<_}
 use native.Mathlib.Omega.{arith}
 use lib.ListN.{length, getD, take, replicate, length-replicate}
 use lib.Seq.{getD-take, length-take-le}
-use lib.Dec.{ltb, leb}
 use Rattle.lists.specs.Joined.{sumOver}
-use Rattle.answers.specs.Answer.{Row, Answer, firstThatApplies, refused, answerOf}
+use Rattle.answers.specs.Answer.{Row, firstThatApplies, refused}
 use Rattle.answers.specs.Inner.Refusals.{refusalNumber}
 use Rattle.answers.specs.declared.refusal.Refusal.{Refusal}
 use Rattle.answers.proofs.Numbers.{number-some}
-use Rattle.answers.proofs.Refusals.{rows-stop, rows-pass, answer-refused}
-use Rattle.grammar.specs.Trees.{sentence}
-use Rattle.counting.specs.Inner.Preparing.{preparedNumber}
 use Rattle.counting.specs.declared.prepare.Prepared.{Prepared}
 use Rattle.counting.specs.declared.prepare.Prepared.the-variants as tables
 use Rattle.charts.specs.Inner.Maps.{weightsMap}
@@ -37,10 +33,10 @@ use Rattle.sampling.proofs.Listed.{drawFrom, ticketList, spans-told, drawn-list
 use Rattle.charts.proofs.Placing as charts
 use Rattle.lists.proofs.Tables.{wide-made, made-entry}
 use Rattle.weighing.specs.Weights.{weighs, ticketsOf}
-use Rattle.weighing.specs.Weighted.{weighedRows, weightedRows, ownerOf, drawWeighted}
+use Rattle.weighing.specs.Weighted.{weighedRows, weightedRows, drawWeighted}
 use Rattle.weighing.specs.Inner.Tables.{WeighedAs}
 use Rattle.weighing.specs.Inner.Sums.{weightAt, SumsSought, SummedAs}
-use Rattle.weighing.specs.Inner.Preparing.{Room, Rooms, Cleared, Called, PreparedAs}
+use Rattle.weighing.specs.Inner.Preparing.{Rooms, Cleared, Called, PreparedAs}
 use Rattle.weighing.proofs.Laws.{drawn-from, drawn-refused}
 use Rattle.weighing.proofs.Told.{firsts-tell, firsts-inside, firsts-sum, summed-spans, summed-told}
 

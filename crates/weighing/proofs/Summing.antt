@@ -1,14 +1,13 @@
 -- The sums of the heard derivations' weights, one after another: the sum so far is what the owners of the tickets passed weigh together.
 -- Assumes nothing.
-use mathlib.Core.Path.{_≡_, refl, sym, ap, _∙_}
-use mathlib.Core.List.{List, [], _∷_, _++_}
+use mathlib.Core.Path.{_≡_, refl, ap, _∙_}
+use mathlib.Core.List.{List, [], _∷_}
 use Prim.Native.Nat.{ℕ, suc, _+_, _≤_, _<_}
 use native.Mathlib.Omega.{arith}
 use native.Mathlib.Numerals.{add-one}
 use native.Mathlib.Decide.{ℕ-discrete}
 use lib.ListN.{length, getD, set, take, drop, length-set, take-append-drop}
 use lib.Seq.{getD-set-same, getD-set-other, take-suc}
-use Rattle.lists.specs.Joined.{sumOver}
 use Rattle.lists.proofs.Sums.{sum-append}
 use Rattle.lists.proofs.Members.{getD-∈}
 use Rattle.counting.specs.Refusals.{most}

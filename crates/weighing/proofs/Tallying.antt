@@ -1,16 +1,15 @@
 -- The totals by weight are filled as the counts are, in a part of the table: what is said of the part is said of the whole, row by row.
 -- Assumes nothing.
-use mathlib.Core.Path.{_≡_, refl, sym, ap, _∙_}
-use mathlib.Core.Bool.{Bool, true}
+use mathlib.Core.Path.{_≡_, sym, ap, _∙_}
+use mathlib.Core.Bool.{Bool}
 use mathlib.Core.List.{List, [], _++_, append-nil}
-use Prim.Native.Nat.{ℕ, _+_, _-_, _≤_, _<_}
+use Prim.Native.Nat.{ℕ, _+_, _-_, _<_}
 use native.Mathlib.Omega.{arith}
 use native.Mathlib.Decide.{decLt}
-use lib.ListN.{length, getD, take, drop, length-drop, length-take, length-append, drop-of-length-le}
-use lib.Seq.{getD-drop, getD-take, length-take-le, take-all, drop-at, getD-append-add}
+use lib.ListN.{length, getD, take, drop, length-drop, length-append, drop-of-length-le}
+use lib.Seq.{getD-drop, getD-take, length-take-le, take-all, drop-at}
 use borrow.Rule.Slice.PartMut.{putMid}
-use Rattle.lists.specs.Inner.Tables.{entry, Wide}
-use Rattle.lists.proofs.Places.{getD-left, getD-right}
+use Rattle.lists.proofs.Places.{getD-left}
 use Rattle.counting.specs.Inner.Letters.{weighed, byLetter}
 use Rattle.counting.specs.Inner.Filling.{Filling, FilledAs}
 use Rattle.charts.specs.Inner.Maps.{weightsRow}

@@ -8,12 +8,11 @@ use Prim.Native.Nat.{ℕ, zero, suc, _+_, _-_, _≤_, _<_}
 use native.Mathlib.Omega.{arith}
 use borrow.Author.Tests.{ne-eqb, eqb-false}
 use lib.Dec.{eqb}
-use lib.ListN.{length, getD, take, length-take}
-use lib.Seq.{getD-take, length-take-le}
+use lib.ListN.{length, getD, take}
 use Rattle.lists.specs.Joined.{_∈_, sumOver}
 use Rattle.lists.specs.Inner.Tickets.{Owns, gone}
 use Rattle.lists.specs.Inner.Struck.{numbered}
-use Rattle.lists.proofs.Sums.{sum-ext, sum-map}
+use Rattle.lists.proofs.Sums.{sum-map}
 use Rattle.lists.proofs.Tests.{or-right}
 use Rattle.lists.proofs.Owners.{tickets-at, owns-owner, owns-inside}
 use Rattle.lists.proofs.Struck.{numbered-sum, struck-∈}
@@ -21,7 +20,7 @@ use Rattle.charts.specs.Inner.Maps.{weightsMap}
 use Rattle.ranking.specs.Inner.Inside.{fullIn, weighs, weighIn, ticketsAt}
 use Rattle.sampling.specs.Inner.Skipping.{spansFrom, heardSpans, passedBy, Told}
 use Rattle.sampling.specs.Inner.Drawing.{spansIn}
-use Rattle.weighing.specs.Inner.Sums.{weightAt, weightsAt, SummedAs}
+use Rattle.weighing.specs.Inner.Sums.{weightAt, weightsAt}
 
 -- ---- the weights of what is struck
 

@@ -1,13 +1,13 @@
 -- The weights' row, weight after weight: the first k are there, the others still 0, and no other row has changed.
 -- Assumes nothing.
-use mathlib.Core.Path.{_≡_, refl, sym, ap, _∙_}
+use mathlib.Core.Path.{_≡_, refl, sym, _∙_}
 use mathlib.Core.List.{List, []}
-use Prim.Native.Nat.{ℕ, _+_, _≤_, _<_}
+use Prim.Native.Nat.{ℕ, _+_, _<_}
 use native.Mathlib.Omega.{arith}
 use native.Mathlib.Decide.{decLt}
 use borrow.Author.Count.{below-more}
 use lib.ListN.{length, getD, set, length-set, List·getD-eq-default}
-use Rattle.lists.specs.Inner.Tables.{entry, put, Wide}
+use Rattle.lists.specs.Inner.Tables.{entry, put}
 use Rattle.lists.proofs.Tables.{put-same, put-row, put-beside, wide-put}
 use Rattle.weighing.specs.Weights.{weightOf}
 use Rattle.weighing.specs.Inner.Tables.{Sets, SetTo, SetAs}

@@ -1,9 +1,9 @@
 -- What is left of a list when the elements that fail a test are struck, by places: the tickets of elements that weigh 1 each.
 -- Assumes nothing: these are definitions.
-use mathlib.Core.Bool.{Bool, cond}
+use mathlib.Core.Bool.{Bool}
 use mathlib.Core.List.{List, [], _∷_, map}
 use Prim.Native.Nat.{ℕ, suc}
-use Rattle.lists.specs.Inner.Tickets.{struckFrom, skipOver}
+use Rattle.lists.specs.Inner.Tickets.{struckFrom}
 
 module _ {X : Type 0} where
   -- the places of the elements that fail, rising
@@ -14,7 +14,3 @@ module _ {X : Type 0} where
   abbrev pub numbered : ℕ → List X → List (ℕ × X)
   numbered k [] = []
   numbered k (x ∷ l) = (k, x) ∷ numbered (suc k) l
-
--- q, moved up by one for each place of the rising list that is not above what is reached
-abbrev pub skip : ℕ → List ℕ → ℕ
-skip q bad = skipOver q (map (λ h. (h, 1)) bad)

@@ -7,7 +7,7 @@ use Prim.Native.Nat.{ℕ, _+_, _*_, _%_, _≤_, _<_}
 use lib.Dec.{eqb}
 use lib.ListN.{length}
 use Rattle.lists.specs.Joined.{_∈_, sumOver}
-use Rattle.lists.specs.Inner.Tables.{entry, Wide}
+use Rattle.lists.specs.Inner.Tables.{Wide}
 use Rattle.lists.specs.Inner.Tickets.{Owns}
 use Rattle.grammar.specs.Inner.Rules.{wordAt, wordFrom, countIn, wordsIn, ruled, Ruled}
 use Rattle.grammar.specs.Inner.Links.{Linked}

@@ -1,7 +1,6 @@
 -- `prepare` meets its contract: what the grammar, the question and the weights are refused for, then the history's refusals, then 15; past them the tables,
 -- the first tickets and the sums.
 -- Assumes nothing.
-use mathlib.Core.Path.{_≡_}
 use Prim.Native.Nat.{_≤_}
 use native.Mathlib.Omega.{arith}
 use borrow.Author.Needs.{needs}
