@@ -158,7 +158,7 @@ module _ {X : Type 0} (P : X → Bool) where
 
   pub struck-rising : (l : List X) → Pairwise _<_ (struck P l)
   struck-rising l =
-      pairwise-map Below _<_ (λ (e : ℕ × ℕ). e .0) (struckFrom P (λ x. 1) 0 l) (struck-below P (λ x. 1) l (λ x m f. omega arith)) (λ a b h. h)
+      pairwise-map Below _<_ (λ (e : ℕ × ℕ). e .0) (struckFrom P (λ x. 1) 0 l) (struck-below P (λ x. 1) l (λ x m f. omega arith)) (λ a b h. h .0)
 
   pub struck-fails : (l : List X) (i : ℕ) (z : X) → i ∈ struck P l → (i < length l) × (P (getD l i z) ≡ false)
   struck-fails l i z m =

@@ -271,14 +271,16 @@ module _ {X : Type 0} {v u : X → ℕ} {l : List X} {t : ℕ} {x : X} {n o : �
 
 -- ---- the struck entries
 
--- a begins before b
+-- a begins before b, and ends before it
 abbrev pub Below : ℕ × ℕ → ℕ × ℕ → Type 0
-Below a b = a .0 < b .0
+Below a b = (a .0 < b .0) × (a .0 + a .1 < b .0 + b .1)
 
 apart-below : (l : List (ℕ × ℕ)) → Pairwise Apart l → ((e : ℕ × ℕ) → e ∈ l → 0 < e .1) → Pairwise Below l
 apart-below [] s h = none
 apart-below (x ∷ l) (more f s) h =
-    more {x = x} {l = l} (λ y m. omega (arith, f y m, h x (List·Memᴰ·head refl))) (apart-below l s (λ e m. h e (List·Memᴰ·tail m)))
+    more {x = x} {l = l}
+    (λ y m. (omega (arith, f y m, h x (List·Memᴰ·head refl)), omega (arith, f y m, h y (List·Memᴰ·tail m))))
+    (apart-below l s (λ e m. h e (List·Memᴰ·tail m)))
 
 module _ {X : Type 0} (P : X → Bool) (v : X → ℕ) where
   -- an element that fails, in a list whose first ticket is k
@@ -343,15 +345,16 @@ module _ {X : Type 0} (P : X → Bool) (v : X → ℕ) where
       positive : (e : ℕ × ℕ) → StruckAs P v l e → 0 < e .1
       positive e q = omega (arith, some (q .at) (struck-at-∈ q) (q .fails), ap (λ (c : ℕ × ℕ). c .1) (q .entry))
 
-  -- any rising list of just their first tickets is the list of these
-  pub struck-firsts : (l : List X) (bad : List ℕ) → ((x : X) → x ∈ l → P x ≡ false → 0 < v x) → Pairwise _<_ bad
-      → ((d : ℕ) → d ∈ bad → (e : ℕ × ℕ) × StruckAs P v l e × (e .0 ≡ d)) → ((e : ℕ × ℕ) → StruckAs P v l e → e .0 ∈ bad)
-      → bad ≡ map (λ (e : ℕ × ℕ). e .0) (struckFrom P v 0 l)
-  struck-firsts l bad some rising from into =
-      order-unique _<_ (λ x y a b. omega arith) (λ x y a e. omega arith) bad (map (λ (e : ℕ × ℕ). e .0) (struckFrom P v 0 l)) rising
-      (pairwise-map Below _<_ (λ (e : ℕ × ℕ). e .0) (struckFrom P v 0 l) (struck-below l some) (λ a b h. h))
-      (λ d m. let q = from d m in rw (← q .2) (Memᴰ·map (λ (e : ℕ × ℕ). e .0) (struck-∈ l (q .0) .1 (q .1))))
-      (λ d m. let q = Memᴰ·of-map (λ (e : ℕ × ℕ). e .0) (struckFrom P v 0 l) m in rw (← q .2) (into (q .0) (struck-∈ l (q .0) .0 (q .1))))
+  -- any rising list of just what is told of them is the list of that: of their first tickets, or of where they end
+  pub struck-told : (tell : ℕ × ℕ → ℕ) → ((a b : ℕ × ℕ) → Below a b → tell a < tell b)
+      → (l : List X) (bad : List ℕ) → ((x : X) → x ∈ l → P x ≡ false → 0 < v x) → Pairwise _<_ bad
+      → ((d : ℕ) → d ∈ bad → (e : ℕ × ℕ) × StruckAs P v l e × (tell e ≡ d)) → ((e : ℕ × ℕ) → StruckAs P v l e → tell e ∈ bad)
+      → bad ≡ map tell (struckFrom P v 0 l)
+  struck-told tell rises l bad some rising from into =
+      order-unique _<_ (λ x y a b. omega arith) (λ x y a e. omega arith) bad (map tell (struckFrom P v 0 l)) rising
+      (pairwise-map Below _<_ tell (struckFrom P v 0 l) (struck-below l some) rises)
+      (λ d m. let q = from d m in rw (← q .2) (Memᴰ·map tell (struck-∈ l (q .0) .1 (q .1))))
+      (λ d m. let q = Memᴰ·of-map tell (struckFrom P v 0 l) m in rw (← q .2) (into (q .0) (struck-∈ l (q .0) .0 (q .1))))
 
 -- an owner that fails is struck, by the measure
 module _ {X : Type 0} {v u : X → ℕ} {l : List X} {t : ℕ} {x : X} {n o : ℕ} where

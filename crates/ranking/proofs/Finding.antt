@@ -12,10 +12,12 @@ use borrow.Rule.Slice.PartMut.{postOf}
 use Rattle.lists.specs.Inner.Tables.{entry}
 use Rattle.lists.specs.Searched.{same}
 use Rattle.lists.proofs.Searches.{first-ext, first-one}
+use Rattle.lists.proofs.Owners.{place-inside}
 use Rattle.lists.proofs.Struck.{numbered-at}
 use Rattle.lists.proofs.Tables.{wide-made, made-entry}
 use Rattle.grammar.specs.Inner.Rules.{startIn, ruled}
 use Rattle.counting.specs.Totals.{total}
+use Rattle.counting.specs.Refusals.{most}
 use Rattle.counting.specs.Inner.Owned.{OwnedAs}
 use Rattle.counting.specs.Inner.Counted.{countAt, Asked, Counted}
 use Rattle.grammar.proofs.Kept.{ruled-same}
@@ -35,8 +37,8 @@ use Rattle.charts.proofs.Mapping.{everywhere-mapped, all-closed, planned-closed
 use Rattle.walk.specs.Inner.Sought.{WalkTables, Sought}
 use Rattle.walk.specs.Inner.Steps.{Placed}
 use Rattle.ranking.specs.Inner.Inside.{fullIn, totalIn, entryIn, numberIn, rankIn, weighs, weighIn, ticketsAt, placeIn, Chooses, WriteSought, WrittenAs}
-use Rattle.ranking.specs.Inner.Ranking.{FindSought, FoundAs, PlaceSought, Roomy, NumberSought}
-use Rattle.ranking.proofs.Weighing.{whole-weigh, counts-weight, counts-weigh, counts-tickets, chosen, readings-weigh, placed}
+use Rattle.ranking.specs.Inner.Ranking.{FindSought, FoundAs, PlaceSought, PlacedAs, Roomy, NumberSought}
+use Rattle.ranking.proofs.Weighing.{whole-weigh, counts-weight, counts-weigh, counts-tickets, chosen, readings-weigh, placed, placed-words}
 
 -- ---- the start symbol over all positions
 
@@ -130,13 +132,12 @@ module _ {rules totals choice counts : List (List ℕ)} {n d : ℕ} {out : List 
 
   pub written : (s : ℕ) → s ≡ startIn rules → {words : List ℕ} {place measured weight offset : ℕ}
       → OwnedAs (ruled rules) (weightBy rules choice) (weightBy rules counts) s 0 n d words place measured weight offset
-      → WrittenAs rules choice n d out (words ++ postOf 0 (n - 0) out) place weight
+      → WrittenAs rules choice n d out (words ++ postOf 0 (n - 0) out) place
   written s q {words} {place} r =
       let f = chosen rules e n (w .chooses .counted .short) choice (rw q at r) in
       record {
         words = ap (λ (l : List ℕ). words ++ l) (rest-kept n out) ∙ ap (λ (x : ℕ × List ℕ). x .1 ++ drop n out) (sym f);
         number-is = sym (ap (λ (x : ℕ × List ℕ). x .0) f);
-        weight-is = r .weighs-is ∙ ap (λ (x : ℕ × List ℕ). weighs rules choice (x .1)) (sym f);
       }
 
 -- ---- the derivations of a sentence
@@ -264,10 +265,19 @@ module _ {rules totals letters measure : List (List ℕ)} {n : ℕ} {s : List �
       })
 
   pub place-found : {words : List ℕ} {place measured weight offset : ℕ}
-      → OwnedAs (ruled rules) (weightBy rules letters) (weightBy rules measure) a 0 n 0 words place measured weight offset → place ≡ placeIn rules measure s
+      → OwnedAs (ruled rules) (weightBy rules letters) (weightBy rules measure) a 0 n 0 words place measured weight offset → PlacedAs rules measure s place measured
   place-found {words} {place} {measured} {weight} {offset} r =
       let q : OwnedAs (ruled rules) (weightBy rules letters) (weightBy rules measure) (startIn rules) 0 (length s) 0 words place measured weight offset = rw (w .long, ← e) r in
-      placed rules letters s (λ i h. w .letters i (own i h)) (λ i h. w .small i (own i h)) measure q
+      let in-letters : (i : ℕ) → i < length s → letterAt letters i ≡ getD s i 0 = λ i h. w .letters i (own i h) in
+      let low : (i : ℕ) → i < length s → letterAt letters i < any = λ i h. w .small i (own i h) in
+      let all-fit : weighIn rules measure n ≤ most
+      = rw (whole-weigh rules measure n) at (w .measured .fits 0 (startIn rules) n (start-asked (w .counted)) (whole (w .counted))) in
+      let fit : weighIn rules measure (length s) ≤ most = rw (w .long) all-fit in
+      record {
+        first-is = placed rules letters s in-letters low measure q;
+        weight-is = q .measure-is ∙ ap (weighs rules measure) (placed-words rules letters s in-letters low measure q);
+        fits = omega (arith, place-inside (q .owns), q .measure-is, fit);
+      }
 
 -- ---- *Give* and *Number*: by the counts every sentence weighs 1
 

@@ -3,8 +3,8 @@
 -- sentence alone weighs 1: the whole weighs how many derivations it has, and the owner of ticket 0 is the first.
 -- Assumes nothing.
 use mathlib.Core.Path.{_≡_, refl, sym, ap, _∙_}
-use mathlib.Core.Bool.{true}
-use mathlib.Core.List.{List, [], _∷_}
+use mathlib.Core.Bool.{Bool, true, false}
+use mathlib.Core.List.{List, [], _∷_, List·Memᴰ·head, Memᴰ·append-right}
 use Prim.Native.Nat.{ℕ, suc, _+_, _-_, _≤_, _<_}
 use native.Mathlib.Omega.{arith}
 use lib.ListN.{length, getD}
@@ -17,7 +17,7 @@ use Rattle.lists.specs.Inner.Tables.{entry}
 use Rattle.lists.specs.Inner.Struck.{numbered}
 use Rattle.lists.proofs.Sums.{sum-ext, sum-one}
 use Rattle.lists.proofs.Members.{At-∈}
-use Rattle.lists.proofs.Tests.{bit-and, both-ways}
+use Rattle.lists.proofs.Tests.{bit-and, both-ways, same-eq}
 use Rattle.lists.proofs.Owners.{tickets-plain}
 use Rattle.lists.proofs.Struck.{numbered-∈, tickets-ext, owns-ticket}
 use Rattle.lists.proofs.Searches.{by-first}
@@ -31,6 +31,10 @@ use Rattle.counting.specs.Inner.Letters.{any, letterWeight}
 use Rattle.charts.specs.Inner.Letters.{letterAt, weightBy, admits, stands}
 use Rattle.charts.specs.Inner.Maps.{Everywhere}
 use Rattle.ranking.specs.Inner.Inside.{fullIn, readingsIn, weighs, weighIn, ticketsAt, placeIn}
+
+bit-true : (b : Bool) → 0 < bit b → b ≡ true
+bit-true true h = refl
+bit-true false h = absurd (omega arith)
 
 eqb-flip : (x y : ℕ) → eqb x y ≡ eqb y x
 eqb-flip x y = both-ways (eqb x y) (eqb y x) (λ e. eq-eqb y x (sym (eqb-true x y e))) (λ e. eq-eqb x y (sym (eqb-true y x e)))
@@ -137,3 +141,11 @@ module _ (rules map : List (List ℕ)) (s : List ℕ) (lettered : (i : ℕ) → 
   pub placed : (measure : List (List ℕ)) {words : List ℕ} {place measured w o : ℕ}
       → OwnedAs (ruled rules) (weightBy rules map) (weightBy rules measure) (startIn rules) 0 (length s) 0 words place measured w o → place ≡ placeIn rules measure s
   placed measure r = by-first (r .owns) (λ y. same y s) lettered-is
+
+  -- it has the words of s, as nothing else weighs something
+  pub placed-words : (measure : List (List ℕ)) {words : List ℕ} {place measured w o : ℕ}
+      → OwnedAs (ruled rules) (weightBy rules map) (weightBy rules measure) (startIn rules) 0 (length s) 0 words place measured w o → words ≡ s
+  placed-words measure {words} r =
+      let q = r .owns in
+      let listed : words ∈ fullIn rules (length s) = rw (q .list) (Memᴰ·append-right (q .before) (List·Memᴰ·head refl)) in
+      same-eq words s (bit-true (same words s) (omega (arith, lettered-is words listed, q .own)))

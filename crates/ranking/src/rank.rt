@@ -5,8 +5,8 @@ ghost use Prim.Native.Nat.{ℕ};
 ghost use lib.ListN.{length};
 ghost use Rattle.ranking.specs.Answers.{rankOf};
 ghost use Rattle.ranking.specs.Inner.Says.{rankSays};
-ghost use Rattle.ranking.specs.Inner.Inside.{placeIn, rankIn};
-ghost use Rattle.ranking.specs.Inner.Ranking.{FindSought, FoundAs, PlaceSought, NumberSought, Roomy};
+ghost use Rattle.ranking.specs.Inner.Inside.{rankIn};
+ghost use Rattle.ranking.specs.Inner.Ranking.{FindSought, FoundAs, PlaceSought, PlacedAs, NumberSought, Roomy};
 use crate::unrank;
 use crate::unrank::DerivationNumber;
 use answers::refusal::Refusal;
@@ -19,6 +19,12 @@ use counting::prepare::Prepared;
 use grammar::rules;
 use walk::nodes;
 use walk::nodes::Node;
+
+// The tickets that a derivation owns: the first of them, and how many they are.
+pub struct Span {
+    pub first: u64,
+    pub weight: u64,
+}
 
 pub enum RankAnswer {
     Given {
@@ -51,16 +57,16 @@ pub fn derivations(
     nodes::total(totals, map, node)
 }
 
-// The place of a sentence's first derivation by a measure. The sentence's letters choose, so that ticket 0 is the first's.
+// The tickets of a sentence's first derivation by a measure. The sentence's letters choose, so that their ticket 0 is the first's.
 pub fn place(
     rules: &[[u8; 256]],
     totals: &[[u64; 32]],
     letters: &[[u16; 16]; 17],
     measure: &[[u16; 16]; 17],
     n: usize,
-) -> u64
+) -> Span
     requires { ⌜ ((s : List ℕ) × PlaceSought (now rules) (now totals) (now letters) (now measure) n s) ⌝ }
-    ensures { λ d. ⌜ ((s : List ℕ) → PlaceSought (now (rules .entry)) (now (totals .entry)) (now (letters .entry)) (now (measure .entry)) n s → d ≡ placeIn (now (rules .entry)) (now (measure .entry)) s) ⌝ }
+    ensures { λ d. ⌜ ((s : List ℕ) → PlaceSought (now (rules .entry)) (now (totals .entry)) (now (letters .entry)) (now (measure .entry)) n s → PlacedAs (now (rules .entry)) (now (measure .entry)) s (d .first) (d .weight)) ⌝ }
 {
     let node = Node {
         a: rules::start(rules),
@@ -69,7 +75,10 @@ pub fn place(
     };
     let mut words = [0u8; 16];
     let f = walk::choose(rules, totals, letters, measure, node, 0, &mut words[0..n]);
-    f.place
+    Span {
+        first: f.place,
+        weight: f.measured,
+    }
 }
 
 // With the tables at hand.
@@ -89,8 +98,9 @@ fn number_by(rules: &mut [[u8; 256]], sentence: &[u8], totals: &mut [[u64; 32]])
         return RankAnswer::Refused(Refusal::SentenceUnderivable);
     }
     let counts = maps::EVERYWHERE;
+    let d = place(rules, totals, &map, &counts, n);
     RankAnswer::Given {
-        lowest: DerivationNumber(place(rules, totals, &map, &counts, n)),
+        lowest: DerivationNumber(d.first),
         total: unrank::count(rules, totals, n),
         derivations: k,
     }

@@ -16,12 +16,6 @@ use walk::nodes::Node;
 // How many derivations stand before one (document 01: derivation number). No draw number is one.
 pub struct DerivationNumber(pub u64);
 
-// The owner of a ticket: its number, and how many tickets it has.
-pub struct Owner {
-    pub number: DerivationNumber,
-    pub weight: u64,
-}
-
 pub enum UnrankAnswer {
     Given(u64),
     Refused(Refusal),
@@ -48,8 +42,8 @@ pub fn total(rules: &[[u8; 256]], totals: &[[u64; 32]], choice: &[[u16; 16]; 17]
     nodes::total(totals, choice, node)
 }
 
-// Of the tickets the one with so many of them before it: its owner's sentence into the first bytes of `out`, its owner's number among all, which the
-// counts measure, and what its owner weighs. Where the counts choose too, each derivation has one ticket, and the number is the one given.
+// Of the tickets the one with so many of them before it: its owner's sentence into the first bytes of `out`, and its owner's number among all, which the
+// counts measure. Where the counts choose too, each derivation has one ticket, and the number is the one given.
 pub fn write(
     rules: &[[u8; 256]],
     totals: &[[u64; 32]],
@@ -58,9 +52,9 @@ pub fn write(
     n: usize,
     number: DerivationNumber,
     out: &mut [u8],
-) -> Owner
+) -> DerivationNumber
     requires { ⌜ WriteSought (now rules) (now totals) (now choice) (now counts) n (number .0) (now out) ⌝ }
-    ensures { λ d. ⌜ WrittenAs (now (rules .entry)) (now (choice .entry)) n (number .0) (now (out .entry)) (now (out .exit)) (d .number .0) (d .weight) ⌝ }
+    ensures { λ d. ⌜ WrittenAs (now (rules .entry)) (now (choice .entry)) n (number .0) (now (out .entry)) (now (out .exit)) (d .0) ⌝ }
 {
     let node = Node {
         a: rules::start(rules),
@@ -76,10 +70,7 @@ pub fn write(
         number.0,
         &mut out[0..n],
     );
-    Owner {
-        number: DerivationNumber(f.place),
-        weight: f.weight,
-    }
+    DerivationNumber(f.place)
 }
 
 // With the tables at hand.

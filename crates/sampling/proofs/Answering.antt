@@ -18,7 +18,7 @@ use Rattle.lists.specs.Inner.Tables.{Kept}
 use Rattle.lists.specs.Inner.Struck.{numbered}
 use Rattle.lists.proofs.Sums.{sum-ext, sum-map, concat-ext}
 use Rattle.lists.proofs.Tests.{some-ext}
-use Rattle.lists.proofs.Struck.{numbered-sum, struck-apart, tickets-spans, spans-lt, spans-keep}
+use Rattle.lists.proofs.Struck.{numbered-sum, Below, struck-apart, tickets-spans, spans-lt, spans-keep}
 use Rattle.lists.proofs.Tables.{wide-made, made-entry}
 use Rattle.lists.proofs.Strikes.{singles}
 use Rattle.answers.specs.Answer.{Row, firstThatApplies, given, refused, answerOf, answer}
@@ -47,11 +47,11 @@ use Rattle.history.proofs.Chain.{numbers-zero}
 use Rattle.sorting.specs.Inner.Sorted.{SortedAs}
 use Rattle.sampling.specs.Question.{Question, plainly}
 use Rattle.sampling.specs.Unheard.{suits, ofLength, unheard, totalFor, heardOf, leftOf, ambiguous}
-use Rattle.sampling.specs.Inner.Collect.{fittingAt, barred, spansBy, fitting, numbersIn, ambiguousIn, allNumbersIn, CollectedIs}
+use Rattle.sampling.specs.Inner.Collect.{fittingAt, barred, spansBy, fitting, beginning, numbersIn, ambiguousIn, allNumbersIn, CollectedIs}
 use Rattle.sampling.specs.Inner.Patterns.{behindOf, Choice}
 use Rattle.sampling.specs.Answers.{remainingRows, remainingTo, drawn, drawTo}
 use Rattle.sampling.specs.Inner.Skipping.{heardSpans, passedBy, Skips}
-use Rattle.sampling.specs.Inner.Preparing.{Room, Lent, Tables, LentMatching, Heard, Hold, NumbersAs, HeardBy, RecordsSought, MatchingSought, RecordedBy, RecordedAs, Drawable, SampledIs, SampledBy}
+use Rattle.sampling.specs.Inner.Preparing.{Room, Lent, Tables, LentMatching, OrderedAs, Heard, Held, Hold, NumbersAs, HeardBy, RecordsSought, MatchingSought, RecordedBy, RecordedAs, Drawable, SampledIs, SampledBy}
 use Rattle.sampling.specs.declared.heard.Collected.the-variants.{Numbers}
 use Rattle.sampling.specs.declared.prepare.Sampled.{Sampled}
 use Rattle.sampling.specs.declared.prepare.Sampled.the-variants.{Ready, Refused as NotReady}
@@ -104,27 +104,34 @@ room-all h d = known h d .sized .few
 pub room-short : (h : List ℕ) → length h ≤ 2004 → Room h (replicate 100 0)
 room-short h l d = omega (arith, known h d .sized .size)
 
+pub refused-unready : {r : Refusal} {k : ℕ} → NotReady r ≡ Ready k → ⊥
+refused-unready e = let q : _≡_ {A = ℕ} 0 1 = cc in omega arith
+
 -- ---- the heard places, sorted
 
--- the part with the places is lent to be sorted
+-- the part with them is lent to be sorted
 pub part-few : (k n : ℕ) (l : List ℕ) → k ≤ n → length (take (k - 0) l) ≤ n
 part-few k n l h = omega (arith, length-take (k - 0) l)
 
--- the places stand then at the front of the whole
-pub heard-sorted : (rules : List (List ℕ)) (u : List ℕ → ℕ) (h : List ℕ) (n v : ℕ) (before part rest : List ℕ) (k m : ℕ) → CollectedIs rules u h n v before (Numbers k)
-    → SortedAs (take (k - 0) before) part m → Hold rules u h n v (part ++ rest) (Ready m)
-heard-sorted rules u h n v before part rest k m c s =
+-- they stand then at the front of the whole
+pub sorted-first : (before part rest : List ℕ) (k m : ℕ) → SortedAs (take (k - 0) before) part m → OrderedAs k before (part ++ rest) m
+sorted-first before part rest k m s =
     let z : k - 0 ≡ k = omega arith in
     let s′ = rw z at s in
-    let e = take-append-le m part rest (omega (arith, s .few, s .long)) in (
-      omega (arith, s .few, part-few k (recordsOf h) before (c .1)),
-      record { clear = c .0; rising = rw e (s .rising); just = λ d. rw (e, ← c .2) (s′ .same d) },
-    )
+    let e = take-append-le m part rest (omega (arith, s .few, s .long)) in
+    record { few = λ l. omega (arith, s .few, part-few k k before (omega arith)); rising = λ l. rw e (s .rising); same = λ l d. rw e (s′ .same d) }
+
+-- what is told along the chain, ordered
+pub heard-ordered : (rules : List (List ℕ)) (u : List ℕ → ℕ) (tell : ℕ × ℕ → ℕ) (h : List ℕ) (n v : ℕ) (before after : List ℕ) (k m : ℕ)
+    → CollectedIs rules u tell h n v before (Numbers k) → recordsOf h ≤ length before → OrderedAs k before after m → Held rules u tell h n v after m
+heard-ordered rules u tell h n v before after k m c room s =
+    let l : k ≤ length before = omega (arith, c .1) in
+    (omega (arith, s .few l, c .1), record { clear = c .0; rising = s .rising l; just = λ d. rw (← c .2) (s .same l d) })
 
 -- a history without records has no heard place
-pub none-heard : (rules : List (List ℕ)) (u : List ℕ → ℕ) (h : List ℕ) (n v : ℕ) (numbers : List ℕ) → history.Accepted h → recordsOf h ≡ 0
-    → Hold rules u h n v numbers (Ready 0)
-none-heard rules u h n v numbers diary none =
+pub none-heard : (rules : List (List ℕ)) (u : List ℕ → ℕ) (tell : ℕ × ℕ → ℕ) (h : List ℕ) (n v : ℕ) (numbers : List ℕ) → history.Accepted h → recordsOf h ≡ 0
+    → Held rules u tell h n v numbers 0
+none-heard rules u tell h n v numbers diary none =
     let z = numbers-zero h diary (headOf h) (omega (arith, known h diary .head, none)) in
     let e : sentencesIn h v ≡ [] = ap (λ (l : List ℕ). map (recordWords h) (keep (makesHeard h v) l)) z in
     (omega arith, record { clear = rw e refl; rising = Pairwise.none; just = λ d. rw e ((λ m. m), λ m. m) })
@@ -157,7 +164,7 @@ module _ {rules totals : List (List ℕ)} {h : List ℕ} {n : ℕ} {numbers₀ :
   plain-recorded ok q = heard-recorded rules h (plainly n v) ok (q .hold) chosen-plain
 
   pub plain-none : {numbers : List ℕ} → history.Accepted h → recordsOf h ≡ 0 → RecordedAs rules h (plainly n v) rules totals countsMap numbers (Ready 0)
-  plain-none {numbers} ok none = heard-recorded rules h (plainly n v) ok (none-heard rules (fitting (plainly n v)) h n v numbers ok none) chosen-plain
+  plain-none {numbers} ok none = heard-recorded rules h (plainly n v) ok (none-heard rules (fitting (plainly n v)) beginning h n v numbers ok none) chosen-plain
 
 -- ---- the tickets of the grammar
 
@@ -166,17 +173,18 @@ module _ {g : List ℕ} {rules : List (List ℕ)} (t : grammar.Holds g rules) (h
   unfolding ambiguous
   ambiguous-is = some-ext (λ s. leb 2 (readingsIn rules s)) (λ s. leb 2 (readingsOf g s)) (ofLength h a) (λ s m. ap (leb 2) (readings-are t s))
 
-  numbers-are : (u : List ℕ → ℕ) → allNumbersIn rules u h (a .length) (a .voice) ≡ concatMap (numbersBy g (a .length) u) (sentencesIn h (a .voice))
-  numbers-are u =
-      concat-ext (numbersIn rules u (a .length)) (numbersBy g (a .length) u) (sentencesIn h (a .voice)) (λ s m. rw (readings-are t s, full-is t (a .length)))
+  numbers-are : (u : List ℕ → ℕ) (tell : ℕ × ℕ → ℕ)
+      → allNumbersIn rules u tell h (a .length) (a .voice) ≡ concatMap (numbersBy g (a .length) u tell) (sentencesIn h (a .voice))
+  numbers-are u tell =
+      concat-ext (numbersIn rules u tell (a .length)) (numbersBy g (a .length) u tell) (sentencesIn h (a .voice)) (λ s m. rw (readings-are t s, full-is t (a .length)))
 
-  -- a rising list of just the first tickets that the records add is that of what is struck
-  pub heard-spans : (u : List ℕ → ℕ) → history.Accepted h → (l : List ℕ) → Heard rules u h (a .length) (a .voice) l
-      → l ≡ map (λ (e : ℕ × ℕ). e .0) (spansBy g h (a .length) (a .voice) u)
-  heard-spans u diary l q =
+  -- a rising list of just what is told of the sentences that the records add is that of what is struck
+  pub heard-spans : (u : List ℕ → ℕ) (tell : ℕ × ℕ → ℕ) → ((x y : ℕ × ℕ) → Below x y → tell x < tell y) → history.Accepted h → (l : List ℕ)
+      → Heard rules u tell h (a .length) (a .voice) l → l ≡ map tell (spansBy g h (a .length) (a .voice) u)
+  heard-spans u tell rises diary l q =
       collected g h (a .length) (a .voice) u diary
       (λ s m e. few-readings g h a diary (sym ambiguous-is ∙ q .clear) s (∈-length g h a diary s (∈-heard g h a diary s m) e))
-      l (q .rising) (λ d. rw (← numbers-are u) (q .just d))
+      tell rises l (q .rising) (λ d. rw (← numbers-are u tell) (q .just d))
 
 -- what fits weighs 1: by it the places of what is struck are told
 fitting-spans : (g h : List ℕ) (a : Question) → spansBy g h (a .length) (a .voice) (fitting a) ≡ struckFrom (free g h a) (λ e. 1) 0 (fittingAt g a)
@@ -226,7 +234,7 @@ module _ (g h : List ℕ) (a : Question) (u : List ℕ → ℕ) (asked : List Ro
             diary = x .0;
             clear = sym (ambiguous-is t h a) ∙ x .2 .clear;
             few = x .1;
-            heard = heard-spans t h a u (x .0) (take k numbers) (x .2);
+            heard = heard-spans t h a u beginning (λ y z l. l .0) (x .0) (take k numbers) (x .2);
             full = full-same rules₀ rules (x .3 .kept) (a .length) ∙ full-is t (a .length);
             chooses = x .3 .chooses;
             weigh = x .3 .weigh;
@@ -368,10 +376,10 @@ module _ (rules choice : List (List ℕ)) (n : ℕ) (heard sums : List ℕ) (q :
       = row-passed 16 _ (lt-leb left q l) ∙ row-applies 20 _ (lt-ltb (length out) n m) in
       rw e (sym (answer-refused 20 (left ∷ found .0 ∷ []) out (found .1 ++ drop n out) (lit< tt)))
 
-  pub skipping-written : (l d number weight : ℕ) (words : List ℕ) → q < left → n ≤ length out → l ≡ left → d ≡ skipOver q (heardSpans heard sums)
-      → WrittenAs rules choice n d out words number weight → given (l ∷ number ∷ []) words ≡ drawSkipping rules choice n heard sums q out
+  pub skipping-written : (l d number : ℕ) (words : List ℕ) → q < left → n ≤ length out → l ≡ left → d ≡ skipOver q (heardSpans heard sums)
+      → WrittenAs rules choice n d out words number → given (l ∷ number ∷ []) words ≡ drawSkipping rules choice n heard sums q out
   unfolding drawSkipping firstThatApplies
-  skipping-written l d number weight words h k e f w =
+  skipping-written l d number words h k e f w =
       let g : getD (ticketsAt rules choice n) d (0, []) ≡ found = ap (λ (i : ℕ). getD (ticketsAt rules choice n) i (0, [])) f in
       rw (w .words ∙ ap (λ (x : ℕ × List ℕ). x .1 ++ drop n out) g, e, w .number-is ∙ ap (λ (x : ℕ × List ℕ). x .0) g)
       (sym (answer-accepted (left ∷ found .0 ∷ []) out (found .1 ++ drop n out)

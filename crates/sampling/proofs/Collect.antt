@@ -17,12 +17,13 @@ use Rattle.lists.specs.Inner.Tickets.{firstTicket}
 use Rattle.lists.proofs.Members.{getD-∈}
 use Rattle.lists.proofs.Tests.{same-eq}
 use Rattle.lists.proofs.Searches.{place-lt, place-hit}
+use Rattle.counting.specs.Refusals.{most}
 use Rattle.charts.specs.Inner.Letters.{stands}
 use Rattle.charts.specs.Inner.Maps.{Fitted}
 use Rattle.charts.specs.Inner.Plan.{lengthIn}
 use Rattle.charts.proofs.Mapping.{mapped-kept, clean-start}
 use Rattle.ranking.specs.Inner.Inside.{readingsIn, fullIn, weighs, placeIn}
-use Rattle.ranking.specs.Inner.Ranking.{FindSought, FoundAs, PlaceSought}
+use Rattle.ranking.specs.Inner.Ranking.{FindSought, FoundAs, PlaceSought, PlacedAs}
 use Rattle.ranking.proofs.Finding.{place-asks}
 use Rattle.history.specs.Layout.{recordsOf, headOf, recordWords}
 use Rattle.history.specs.Chain.{numbersFrom}
@@ -43,7 +44,7 @@ use Rattle.sampling.specs.declared.heard.Collected.the-variants.{Numbers
 
 module _ (rules : List (List ℕ)) (u : List ℕ → ℕ) (n : ℕ) (s : List ℕ) where
   other-none : (length s ≡ n → ⊥) → Adds rules u n s Nothing
-  other-none h = let e = ne-eqb (length s) n h in (rw e, rw e)
+  other-none h = let e = ne-eqb (length s) n h in (rw e, λ tell. rw e)
 
   module _ (e : length s ≡ n) where
     l : eqb (length s) n ≡ true
@@ -53,7 +54,7 @@ module _ (rules : List (List ℕ)) (u : List ℕ → ℕ) (n : ℕ) (s : List �
     read-none z =
         let m = lt-leb 2 (readingsIn rules s) (omega arith) in
         let o = ne-eqb (readingsIn rules s) 1 (λ f. omega arith) in
-        (rw (l, m), rw (l, o))
+        (rw (l, m), λ tell. rw (l, o))
 
     read-many : 2 ≤ readingsIn rules s → Adds rules u n s Many
     read-many h = rw (l, le-leb 2 (readingsIn rules s) h)
@@ -65,11 +66,12 @@ module _ (rules : List (List ℕ)) (u : List ℕ → ℕ) (n : ℕ) (s : List �
       o : eqb (readingsIn rules s) 1 ≡ true
       o = eq-eqb (readingsIn rules s) 1 z
 
-      read-one : ltb 0 (u s) ≡ true → Adds rules u n s (Place (firstTicket u (λ t. same t s) (fullIn rules n)))
-      read-one p = (rw (l, m), rw (l, o, p))
+      read-one : ltb 0 (u s) ≡ true → firstTicket u (λ t. same t s) (fullIn rules n) + u s ≤ most
+          → Adds rules u n s (Place (firstTicket u (λ t. same t s) (fullIn rules n)) (u s))
+      read-one p fits = (rw (l, m), (λ tell. rw (l, o, p)), fits)
 
       read-unfit : ltb 0 (u s) ≡ false → Adds rules u n s Nothing
-      read-unfit p = (rw (l, m), rw (l, o, p))
+      read-unfit p = (rw (l, m), λ tell. rw (l, o, p))
 
 -- ---- one sentence
 
@@ -131,11 +133,13 @@ module _ {rules plan map measure : List (List ℕ)} {sets : List ℕ} {totals : 
         pub heard-asks : PlaceSought rules totals′ map′ measure (length s) s
         heard-asks = place-asks q (omega arith) (rw e (measures .mapped)) (rw e (measures .weights))
 
-        pub heard-place : stands measure 0 s ≡ true → {d : ℕ} → d ≡ placeIn rules measure s → HeardFoundAs rules plan map′ measure s sets′ totals′ (Place d)
-        heard-place p {d} h =
+        pub heard-place : stands measure 0 s ≡ true → {d x : ℕ} → PlacedAs rules measure s d x → HeardFoundAs rules plan map′ measure s sets′ totals′ (Place d x)
+        heard-place p {d} {x} h =
             let z : placeIn rules measure s ≡ firstTicket (weighs rules measure) (λ t. same t s) (fullIn rules (lengthIn plan))
             = ap (λ (n : ℕ). firstTicket (weighs rules measure) (λ t. same t s) (fullIn rules n)) e in
-            rw (h ∙ z) (found (read-one rules (weighs rules measure) (lengthIn plan) s e one (sym weigh ∙ p)))
+            let fits : firstTicket (weighs rules measure) (λ t. same t s) (fullIn rules (lengthIn plan)) + weighs rules measure s ≤ most
+            = omega (arith, h .first-is, z, h .weight-is, h .fits) in
+            rw (h .first-is ∙ z, h .weight-is) (found (read-one rules (weighs rules measure) (lengthIn plan) s e one (sym weigh ∙ p) fits))
 
 -- ---- the whole chain
 
@@ -155,24 +159,24 @@ many-ambiguous rules n (s ∷ l) = go (eqb (length s) n) (many-ambiguous rules n
 abbrev pub toCome : (h : List ℕ) (v : ℕ) (r : ℕ) → List (List ℕ)
 toCome h v r = map (recordWords h) (keep (makesHeard h v) (numbersFrom h r))
 
--- the numbers that they add, and whether one of them has two or more derivations
-abbrev pub numbersDue : (rules : List (List ℕ)) (u : List ℕ → ℕ) (h : List ℕ) (n v r : ℕ) → List ℕ
-numbersDue rules u h n v r = concatMap (numbersIn rules u n) (toCome h v r)
+-- what is told of them, and whether one of them has two or more derivations
+abbrev pub numbersDue : (rules : List (List ℕ)) (u : List ℕ → ℕ) (tell : ℕ × ℕ → ℕ) (h : List ℕ) (n v r : ℕ) → List ℕ
+numbersDue rules u tell h n v r = concatMap (numbersIn rules u tell n) (toCome h v r)
 
 abbrev pub manyDue : (rules : List (List ℕ)) (h : List ℕ) (n v r : ℕ) → Bool
 manyDue rules h n v r = someOf (manyIn rules n) (toCome h v r)
 
 -- before the record `at`, with the first `count` numbers found
-pub record Collecting (rules : List (List ℕ)) (u : List ℕ → ℕ) (h : List ℕ) (n v : ℕ) (numbers : List ℕ) (at count : ℕ) : Type 0 where
-  pub due : take count numbers ++ numbersDue rules u h n v at ≡ allNumbersIn rules u h n v
+pub record Collecting (rules : List (List ℕ)) (u : List ℕ → ℕ) (tell : ℕ × ℕ → ℕ) (h : List ℕ) (n v : ℕ) (numbers : List ℕ) (at count : ℕ) : Type 0 where
+  pub due : take count numbers ++ numbersDue rules u tell h n v at ≡ allNumbersIn rules u tell h n v
   pub many : manyDue rules h n v at ≡ ambiguousIn rules h n v
   pub room : count + length (numbersFrom h at) ≤ recordsOf h
   pub long : recordsOf h ≤ length numbers
   pub low : at ≤ recordsOf h
 
-pub collect-start : (rules : List (List ℕ)) (u : List ℕ → ℕ) (h : List ℕ) (n v : ℕ) (numbers : List ℕ) → Accepted h → recordsOf h ≤ length numbers → {at : ℕ}
-    → at ≡ headOf h → Collecting rules u h n v numbers at 0
-collect-start rules u h n v numbers diary long e =
+pub collect-start : (rules : List (List ℕ)) (u : List ℕ → ℕ) (tell : ℕ × ℕ → ℕ) (h : List ℕ) (n v : ℕ) (numbers : List ℕ) → Accepted h → recordsOf h ≤ length numbers
+    → {at : ℕ} → at ≡ headOf h → Collecting rules u tell h n v numbers at 0
+collect-start rules u tell h n v numbers diary long e =
     let all = chained h diary .many in
     rw e
     (record {
@@ -183,14 +187,15 @@ collect-start rules u h n v numbers diary long e =
       low = known h diary .head;
     })
 
-module _ {rules : List (List ℕ)} {u : List ℕ → ℕ} {h : List ℕ} {n v : ℕ} {numbers : List ℕ} {at count : ℕ} (w : Collecting rules u h n v numbers at count) (diary : Accepted h) where
+module _ {rules : List (List ℕ)} {u : List ℕ → ℕ} {tell : ℕ × ℕ → ℕ} {h : List ℕ} {n v : ℕ} {numbers : List ℕ} {at count : ℕ}
+    (w : Collecting rules u tell h n v numbers at count) (diary : Accepted h) where
   -- at the end
-  pub collect-end : at ≡ 0 → CollectedIs rules u h n v numbers (Numbers count)
+  pub collect-end : at ≡ 0 → CollectedIs rules u tell h n v numbers (Numbers count)
   collect-end z =
       let e : toCome h v at ≡ [] = ap (λ (l : List ℕ). map (recordWords h) (keep (makesHeard h v) l)) (numbers-zero h diary at z) in (
         sym (w .many) ∙ ap (someOf (manyIn rules n)) e,
         omega (arith, w .room),
-        sym (append-nil (take count numbers)) ∙ ap (λ (l : List (List ℕ)). take count numbers ++ concatMap (numbersIn rules u n) l) (sym e) ∙ w .due,
+        sym (append-nil (take count numbers)) ∙ ap (λ (l : List (List ℕ)). take count numbers ++ concatMap (numbersIn rules u tell n) l) (sym e) ∙ w .due,
       )
 
   -- a record more
@@ -229,15 +234,15 @@ module _ {rules : List (List ℕ)} {u : List ℕ → ℕ} {h : List ℕ} {n v : 
         go false = refl
 
     -- the numbers that it adds stand behind those so far
-    behind : (k : List ℕ) → manyDue rules h n v at ≡ manyDue rules h n v (nextAt h at) → numbersDue rules u h n v at ≡ k ++ numbersDue rules u h n v (nextAt h at)
+    behind : (k : List ℕ) → manyDue rules h n v at ≡ manyDue rules h n v (nextAt h at) → numbersDue rules u tell h n v at ≡ k ++ numbersDue rules u tell h n v (nextAt h at)
         → length k ≤ 1 → {next count′ : ℕ} {numbers′ : List ℕ} → next ≡ nextAt h at → count′ ≡ count + length k
         → take count′ numbers′ ≡ take count numbers ++ k → length numbers′ ≡ length numbers
-        → Collecting rules u h n v numbers′ next count′
+        → Collecting rules u tell h n v numbers′ next count′
     behind k many adds few e c front kept =
         rw e
         (record {
-          due = ap (λ (l : List ℕ). l ++ numbersDue rules u h n v (nextAt h at)) front
-              ∙ append-assoc (take count numbers) k (numbersDue rules u h n v (nextAt h at))
+          due = ap (λ (l : List ℕ). l ++ numbersDue rules u tell h n v (nextAt h at)) front
+              ∙ append-assoc (take count numbers) k (numbersDue rules u tell h n v (nextAt h at))
               ∙ ap (λ (l : List ℕ). take count numbers ++ l) (sym adds)
               ∙ w .due;
           many = sym many ∙ w .many;
@@ -247,10 +252,10 @@ module _ {rules : List (List ℕ)} {u : List ℕ → ℕ} {h : List ℕ} {n v : 
         })
 
     -- it makes nothing heard
-    pub collect-unheard : {b : Bool} → b ≡ makesHeard h v at → b ≡ false → {next : ℕ} → next ≡ nextAt h at → Collecting rules u h n v numbers next count
+    pub collect-unheard : {b : Bool} → b ≡ makesHeard h v at → b ≡ false → {next : ℕ} → next ≡ nextAt h at → Collecting rules u tell h n v numbers next count
     collect-unheard makes fails e =
         let f = first (sym fails ∙ makes) in
-        behind [] (ap (someOf (manyIn rules n)) f) (ap (concatMap (numbersIn rules u n)) f) (omega arith) e (omega arith)
+        behind [] (ap (someOf (manyIn rules n)) f) (ap (concatMap (numbersIn rules u tell n)) f) (omega arith) e (omega arith)
         (sym (append-nil (take count numbers))) refl
 
     -- it makes its sentence heard, which was read
@@ -260,26 +265,28 @@ module _ {rules : List (List ℕ)} {u : List ℕ → ℕ} {h : List ℕ} {n v : 
           first (sym passes ∙ makes)
           ∙ ap (λ (x : List ℕ). x ∷ toCome h v (nextAt h at)) (sym (read ∙ read-words h at diary (collect-inside .low) (w .low)))
 
-      pub collect-many : Adds rules u n s Many → (numbers′ : List ℕ) → CollectedIs rules u h n v numbers′ Ambiguous
+      pub collect-many : Adds rules u n s Many → (numbers′ : List ℕ) → CollectedIs rules u tell h n v numbers′ Ambiguous
       collect-many adds numbers′ = sym (w .many) ∙ rw (comes, adds)
 
       -- the sentence adds these
-      added : (k : List ℕ) → manyIn rules n s ≡ false → numbersIn rules u n s ≡ k → length k ≤ 1
+      added : (k : List ℕ) → manyIn rules n s ≡ false → numbersIn rules u tell n s ≡ k → length k ≤ 1
           → {next count′ : ℕ} {numbers′ : List ℕ} → next ≡ nextAt h at → count′ ≡ count + length k
           → take count′ numbers′ ≡ take count numbers ++ k → length numbers′ ≡ length numbers
-          → Collecting rules u h n v numbers′ next count′
+          → Collecting rules u tell h n v numbers′ next count′
       added k single numbers-are few =
           behind k
           (ap (someOf (manyIn rules n)) comes ∙ ap (λ (b : Bool). b || manyDue rules h n v (nextAt h at)) single)
-          (ap (concatMap (numbersIn rules u n)) comes ∙ ap (λ (l : List ℕ). l ++ numbersDue rules u h n v (nextAt h at)) numbers-are)
+          (ap (concatMap (numbersIn rules u tell n)) comes ∙ ap (λ (l : List ℕ). l ++ numbersDue rules u tell h n v (nextAt h at)) numbers-are)
           few
 
-      pub collect-none : Adds rules u n s Nothing → {next : ℕ} → next ≡ nextAt h at → Collecting rules u h n v numbers next count
-      collect-none q e = added [] (q .0) (q .1) (omega arith) e (omega arith) (sym (append-nil (take count numbers))) refl
+      pub collect-none : Adds rules u n s Nothing → {next : ℕ} → next ≡ nextAt h at → Collecting rules u tell h n v numbers next count
+      collect-none q e = added [] (q .0) (q .1 tell) (omega arith) e (omega arith) (sym (append-nil (take count numbers))) refl
 
-      pub collect-one : {d : ℕ} → Adds rules u n s (Place d) → {next : ℕ} → next ≡ nextAt h at → Collecting rules u h n v (set numbers count d) next (count + 1)
-      collect-one {d} q e =
-          added (d ∷ []) (q .0) (q .1) (omega arith) e refl (rw (add-one, take-suc-set numbers count d (omega (arith, collect-room, w .long))) refl) (length-set numbers count d)
+      pub collect-one : {d x : ℕ} → Adds rules u n s (Place d x) → {next : ℕ} → next ≡ nextAt h at
+          → Collecting rules u tell h n v (set numbers count (tell (d, x))) next (count + 1)
+      collect-one {d} {x} q e =
+          let t = tell (d, x) in
+          added (t ∷ []) (q .0) (q .1 tell) (omega arith) e refl (rw (add-one, take-suc-set numbers count t (omega (arith, collect-room, w .long))) refl) (length-set numbers count t)
 
 -- the tables serve the first sentence
 pub serves-start : {rules plan map measure : List (List ℕ)} {h : List ℕ} {n : ℕ} {totals : List (List ℕ)} {numbers : List ℕ} → Collects rules plan map measure h n totals numbers
@@ -294,9 +301,9 @@ pub added-case : {rules plan map measure : List (List ℕ)} {s sets : List ℕ} 
     → HeardFoundAs rules plan map measure s sets totals f → f ≡ d → Adds rules (weighs rules measure) n s d
 added-case long q e = rw (long, e) at (q .adds)
 
-pub collect-case : {rules plan measure : List (List ℕ)} {h : List ℕ} {n v : ℕ} {totals : List (List ℕ)} {numbers : List ℕ} {c d : Collected}
-    → CollectedAs rules plan measure h n v totals numbers c → c ≡ d → CollectedIs rules (weighs rules measure) h n v numbers d
-collect-case q e = (rw e at q) .holds
+pub collect-case : {rules plan measure : List (List ℕ)} {h : List ℕ} {n v : ℕ} {totals : List (List ℕ)} {numbers ends : List ℕ} {c d : Collected}
+    → CollectedAs rules plan measure h n v totals numbers ends c → c ≡ d → CollectedAs rules plan measure h n v totals numbers ends d
+collect-case q e = rw e at q
 
 -- the counts and the measure are served to the end
 pub serves-still : {rules plan map measure : List (List ℕ)} {sets : List ℕ} {totals : List (List ℕ)} {n : ℕ} → lengthIn plan ≡ n → Serves rules plan map measure sets totals

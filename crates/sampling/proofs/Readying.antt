@@ -40,9 +40,9 @@ use Rattle.history.specs.Heard.{sentencesIn}
 use Rattle.sampling.specs.Pattern.{matches}
 use Rattle.sampling.specs.Question.{Question, plainly}
 use Rattle.sampling.specs.Unheard.{ofLength}
-use Rattle.sampling.specs.Inner.Collect.{fitting, numbersIn, ambiguousIn, allNumbersIn, Collects, Still}
+use Rattle.sampling.specs.Inner.Collect.{fitting, beginning, numbersIn, ambiguousIn, allNumbersIn, Collects, Still}
 use Rattle.sampling.specs.Inner.Patterns.{behindOf, ChartSought, PatternChartedAs, Choice}
-use Rattle.sampling.specs.Inner.Preparing.{Hold, NumbersBy, NumbersSought, NumbersAs, FittingSought, FittedAs}
+use Rattle.sampling.specs.Inner.Preparing.{Held, Hold, NumbersBy, NumbersSought, NumbersAs, FittingSought, FittedAs}
 use Rattle.sampling.specs.declared.prepare.Sampled.{Sampled}
 use Rattle.sampling.specs.declared.prepare.Sampled.the-variants.{Ready, Refused}
 
@@ -63,31 +63,37 @@ module _ (rules after : List (List ℕ)) (same-rows : (q : ℕ) → q < 4 → ge
         ap (firstTicket u (λ t. same t s)) (full-same n)
         ∙ first-ext (λ t. same t s) u w (fullIn rules n) (λ t m. agree t (sentence-length (ruled rules) (startIn rules) n t m))
 
-    added-same : (s : List ℕ) → numbersIn after u n s ≡ numbersIn rules w n s
-    added-same s =
-        ap (λ (d : ℕ). cond (eqb (length s) n && (eqb (readingsIn after s) 1 && ltb 0 (u s))) (d ∷ []) []) (first-same s)
-        ∙ ap (λ (k : ℕ). cond (eqb (length s) n && (eqb k 1 && ltb 0 (u s))) (firstTicket w (λ t. same t s) (fullIn rules n) ∷ []) []) (readings-same s)
+    added-same : (tell : ℕ × ℕ → ℕ) (s : List ℕ) → numbersIn after u tell n s ≡ numbersIn rules w tell n s
+    added-same tell s =
+        ap (λ (d : ℕ). cond (eqb (length s) n && (eqb (readingsIn after s) 1 && ltb 0 (u s))) (tell (d, u s) ∷ []) []) (first-same s)
+        ∙ ap (λ (k : ℕ). cond (eqb (length s) n && (eqb k 1 && ltb 0 (u s))) (tell (first, u s) ∷ []) []) (readings-same s)
         ∙ go (eqb (length s) n) refl
       where
+        first : ℕ
+        first = firstTicket w (λ t. same t s) (fullIn rules n)
+
         go : (b : Bool) → eqb (length s) n ≡ b
-            → cond (b && (eqb (readingsIn rules s) 1 && ltb 0 (u s))) (firstTicket w (λ t. same t s) (fullIn rules n) ∷ []) []
-            ≡ cond (b && (eqb (readingsIn rules s) 1 && ltb 0 (w s))) (firstTicket w (λ t. same t s) (fullIn rules n) ∷ []) []
+            → cond (b && (eqb (readingsIn rules s) 1 && ltb 0 (u s))) (tell (first, u s) ∷ []) []
+            ≡ cond (b && (eqb (readingsIn rules s) 1 && ltb 0 (w s))) (tell (first, w s) ∷ []) []
         go true e = rw (agree s (eqb-true (length s) n e))
         go false e = refl
 
     module _ (h : List ℕ) (v : ℕ) where
-      numbers-same : allNumbersIn after u h n v ≡ allNumbersIn rules w h n v
-      numbers-same = concat-ext (numbersIn after u n) (numbersIn rules w n) (sentencesIn h v) (λ s m. added-same s)
+      numbers-same : (tell : ℕ × ℕ → ℕ) → allNumbersIn after u tell h n v ≡ allNumbersIn rules w tell h n v
+      numbers-same tell = concat-ext (numbersIn after u tell n) (numbersIn rules w tell n) (sentencesIn h v) (λ s m. added-same tell s)
 
       ambiguity-same : ambiguousIn after h n v ≡ ambiguousIn rules h n v
       ambiguity-same =
           some-ext (λ s. leb 2 (readingsIn after s)) (λ s. leb 2 (readingsIn rules s)) (ofLength h (plainly n v)) (λ s m. ap (leb 2) (readings-same s))
 
-      pub hold-same : (numbers : List ℕ) (s : Sampled) → Hold after u h n v numbers s → Hold rules w h n v numbers s
-      hold-same numbers (Ready k) q = (
+      pub held-same : (tell : ℕ × ℕ → ℕ) (numbers : List ℕ) (k : ℕ) → Held after u tell h n v numbers k → Held rules w tell h n v numbers k
+      held-same tell numbers k q = (
         q .0,
-        record { clear = sym ambiguity-same ∙ q .1 .clear; rising = q .1 .rising; just = λ d. rw (← numbers-same) (q .1 .just d) },
+        record { clear = sym ambiguity-same ∙ q .1 .clear; rising = q .1 .rising; just = λ d. rw (← numbers-same tell) (q .1 .just d) },
       )
+
+      pub hold-same : (numbers : List ℕ) (s : Sampled) → Hold after u h n v numbers s → Hold rules w h n v numbers s
+      hold-same numbers (Ready k) q = held-same beginning numbers k q
       hold-same numbers (Refused r) q = (sym ambiguity-same ∙ q .0, q .1)
 
 -- ---- without a pattern
@@ -180,7 +186,7 @@ module _ {rules totals : List (List ℕ)} {h : List ℕ} {n : ℕ} {numbers : Li
       same-rules : (q : ℕ) → q < 4 → getD after q [] ≡ getD rules q []
       same-rules q l = r .kept q l ∙ k .rows q l
 
-      pub plainly-heard : {v : ℕ} {totals′ : List (List ℕ)} {numbers′ : List ℕ} {s : Sampled} → NumbersBy after plan countsMap h n v totals′ numbers′ s
+      pub plainly-heard : {v : ℕ} {totals′ : List (List ℕ)} {numbers′ ends : List ℕ} {s : Sampled} → NumbersBy after plan countsMap h n v totals′ numbers′ ends s
           → NumbersAs rules h (plainly n v) numbers′ s
       plainly-heard {v} {numbers′ = numbers′} {s = s} q = record { hold = hold-same rules after same-rules (counts-agree after n v (w .counted .short)) h v numbers′ s (q .hold) }
 
@@ -376,6 +382,6 @@ module _ {rules totals : List (List ℕ)} {h : List ℕ} {a : Question} {records
           row i m s true t = let r = ready .planned .rows .some i m s t in (omega (arith, r .0), omega (arith, r .1, behind-room n n-low .0))
           row i m s false t = let r = ready .planned .rows .none i m s t in (omega (arith, r), omega (arith, r, behind-room n n-low .0))
 
-      pub fitted : {totals″ : List (List ℕ)} {numbers′ : List ℕ} {s : Sampled} → NumbersBy rules′ plan choice′ h n (a .voice) totals″ numbers′ s
+      pub fitted : {totals″ : List (List ℕ)} {numbers′ ends : List ℕ} {s : Sampled} → NumbersBy rules′ plan choice′ h n (a .voice) totals″ numbers′ ends s
           → FittedAs rules h a rules′ totals″ choice′ numbers′ s
       fitted {numbers′ = numbers′} {s = s} q = record { hold = hold-same rules rules′ (c .kept) agrees h (a .voice) numbers′ s (q .hold); chosen = chooses-fitting (q .still) }

@@ -1,6 +1,6 @@
 -- The heard derivations by their tickets, where each sentence weighs u. A heard sentence with one derivation that weighs something owns the tickets from
 -- its first on; where no heard sentence has two derivations, every derivation that is struck and weighs something is that of such a sentence. So a rising
--- list of just their first tickets is that of what is struck.
+-- list of just what is told of theirs, the first or where they end, is that of what is struck.
 -- Assumes nothing.
 use mathlib.Core.Path.{_≡_, refl, sym, ap, _∙_}
 use mathlib.Core.Logic.{_↔_}
@@ -21,7 +21,7 @@ use Rattle.lists.proofs.Sums.{sum-append}
 use Rattle.lists.proofs.Tests.{and-left, and-right, or-left, or-right, same-eq, same-refl}
 use Rattle.lists.proofs.Owners.{owned, owns-only}
 use Rattle.lists.proofs.Searches.{by-first, first-map}
-use Rattle.lists.proofs.Struck.{numbered-∈, numbered-sum, unnumbered, struck-at-∈, struck-firsts, by-strike}
+use Rattle.lists.proofs.Struck.{numbered-∈, numbered-sum, unnumbered, Below, struck-at-∈, struck-told, by-strike}
 use Rattle.grammar.specs.Trees.{Tree, sentence}
 use Rattle.ranking.specs.Answers.{fullList, derives, readingsOf}
 use Rattle.history.specs.Refusals as history
@@ -43,18 +43,19 @@ module _ (g : List ℕ) (n : ℕ) (u : List ℕ → ℕ) where
   abbrev pub weightAt : ℕ × Tree → ℕ
   weightAt e = u (sentence (e .1))
 
-  -- the first ticket of a sentence, and of one with n words and one derivation that weighs something; of any other none
-  abbrev pub ticketOf : List ℕ → ℕ
-  ticketOf s = firstTicket u (λ t. same t s) (map sentence (fullList g n))
+  -- the first ticket and the weight of a sentence
+  abbrev pub spanOf : List ℕ → ℕ × ℕ
+  spanOf s = (firstTicket u (λ t. same t s) (map sentence (fullList g n)), u s)
 
-  abbrev pub numbersBy : (s : List ℕ) → List ℕ
-  numbersBy s = cond (eqb (length s) n && (eqb (readingsOf g s) 1 && ltb 0 (u s))) (ticketOf s ∷ []) []
+  -- what is told of them for one with n words and one derivation that weighs something; for any other nothing
+  abbrev pub numbersBy : (tell : ℕ × ℕ → ℕ) (s : List ℕ) → List ℕ
+  numbersBy tell s = cond (eqb (length s) n && (eqb (readingsOf g s) 1 && ltb 0 (u s))) (tell (spanOf s) ∷ []) []
 
-  by-∈ : (s : List ℕ) (d : ℕ) → d ∈ numbersBy s → (length s ≡ n) × (readingsOf g s ≡ 1) × (0 < u s) × (ticketOf s ≡ d)
-  by-∈ s d m = go (eqb (length s) n && (eqb (readingsOf g s) 1 && ltb 0 (u s))) refl m
+  by-∈ : (tell : ℕ × ℕ → ℕ) (s : List ℕ) (d : ℕ) → d ∈ numbersBy tell s → (length s ≡ n) × (readingsOf g s ≡ 1) × (0 < u s) × (tell (spanOf s) ≡ d)
+  by-∈ tell s d m = go (eqb (length s) n && (eqb (readingsOf g s) 1 && ltb 0 (u s))) refl m
     where
-      go : (b : Bool) → (eqb (length s) n && (eqb (readingsOf g s) 1 && ltb 0 (u s))) ≡ b → d ∈ cond b (ticketOf s ∷ []) []
-          → (length s ≡ n) × (readingsOf g s ≡ 1) × (0 < u s) × (ticketOf s ≡ d)
+      go : (b : Bool) → (eqb (length s) n && (eqb (readingsOf g s) 1 && ltb 0 (u s))) ≡ b → d ∈ cond b (tell (spanOf s) ∷ []) []
+          → (length s ≡ n) × (readingsOf g s ≡ 1) × (0 < u s) × (tell (spanOf s) ≡ d)
       go true e k =
           let r = and-right (eqb (length s) n) (eqb (readingsOf g s) 1 && ltb 0 (u s)) e in (
             eqb-true (length s) n (and-left (eqb (length s) n) (eqb (readingsOf g s) 1 && ltb 0 (u s)) e),
@@ -64,8 +65,8 @@ module _ (g : List ℕ) (n : ℕ) (u : List ℕ → ℕ) where
           )
       go false e k = absurd (List·Memᴰ·not-nil k)
 
-  ∈-by : (s : List ℕ) → length s ≡ n → readingsOf g s ≡ 1 → 0 < u s → ticketOf s ∈ numbersBy s
-  ∈-by s e one some = rw (eq-eqb (length s) n e, eq-eqb (readingsOf g s) 1 one, lt-ltb 0 (u s) some) (List·Memᴰ·head refl)
+  ∈-by : (tell : ℕ × ℕ → ℕ) (s : List ℕ) → length s ≡ n → readingsOf g s ≡ 1 → 0 < u s → tell (spanOf s) ∈ numbersBy tell s
+  ∈-by tell s e one some = rw (eq-eqb (length s) n e, eq-eqb (readingsOf g s) 1 one, lt-ltb 0 (u s) some) (List·Memᴰ·head refl)
 
   -- ---- a sentence among them
 
@@ -75,7 +76,7 @@ module _ (g : List ℕ) (n : ℕ) (u : List ℕ → ℕ) where
   pub listed-∈ : (e : ℕ × Tree) → e ∈ listed → e .1 ∈ fullList g n
   listed-∈ e m = At-∈ (fullList g n) (e .0 - 0) (numbered-∈ 0 (fullList g n) m .1)
 
-  ticket-listed : (s : List ℕ) → firstTicket weightAt (says s) listed ≡ ticketOf s
+  ticket-listed : (s : List ℕ) → firstTicket weightAt (says s) listed ≡ spanOf s .0
   ticket-listed s =
       sym (first-map (λ t. u (sentence t)) (derives s) (λ (e : ℕ × Tree). e .1) listed)
       ∙ ap (firstTicket (λ t. u (sentence t)) (derives s)) (unnumbered 0 (fullList g n))
@@ -97,7 +98,7 @@ module _ (g h : List ℕ) (n v : ℕ) (u : List ℕ → ℕ) where
 
   module _ (diary : history.Accepted h) (few : (s : List ℕ) → s ∈ sentencesIn h v → length s ≡ n → readingsOf g s < 2) where
     from : (s : List ℕ) → s ∈ sentencesIn h v → length s ≡ n → readingsOf g s ≡ 1 → 0 < u s
-        → (e : ℕ × ℕ) × StruckAs heavy (weightAt g n u) (listed g n u) e × (e .0 ≡ ticketOf g n u s)
+        → (e : ℕ × ℕ) × StruckAs heavy (weightAt g n u) (listed g n u) e × (e ≡ spanOf g n u s)
     from s m long one some =
         let r = owned {v = λ e. bit (says g n u s e)} {u = weightAt g n u} (listed g n u) 0 no-entry (omega (arith, many g n u s long)) in
         let x = owner (λ e. bit (says g n u s e)) (listed g n u) 0 no-entry in
@@ -106,11 +107,11 @@ module _ (g h : List ℕ) (n v : ℕ) (u : List ℕ → ℕ) where
         = ap (λ (t : List ℕ). not (heard h v t) || eqb (u t) 0) is ∙ rw (∈-heard g h (plainly n v) diary s m, ne-eqb (u s) 0 (λ z. omega arith)) in (
           (place (λ e. bit (says g n u s e)) (weightAt g n u) (listed g n u) 0, weightAt g n u x),
           by-strike heavy fails r,
-          by-first r (says g n u s) (λ y i. refl) ∙ ticket-listed g n u s,
+          rw (by-first r (says g n u s) (λ y i. refl) ∙ ticket-listed g n u s, ap u is),
         )
 
     into : (e : ℕ × ℕ) → StruckAs heavy (weightAt g n u) (listed g n u) e
-        → (s : List ℕ) × (s ∈ sentencesIn h v) × (length s ≡ n) × (readingsOf g s ≡ 1) × (0 < u s) × (e .0 ≡ ticketOf g n u s)
+        → (s : List ℕ) × (s ∈ sentencesIn h v) × (length s ≡ n) × (readingsOf g s ≡ 1) × (0 < u s) × (e ≡ spanOf g n u s)
     into e r =
         let x = r .at in
         let s = sentence (x .1) in
@@ -124,19 +125,21 @@ module _ (g h : List ℕ) (n v : ℕ) (u : List ℕ → ℕ) where
         let one : readingsOf g s ≡ 1 = omega (arith, few s m long, many g n u s long, parts, whole) in
         let o = owns-only {v = λ y. bit (says g n u s y)} {u = weightAt g n u} (r .before) x (r .after) (r .list) (omega (arith, many g n u s long)) (omega arith) in
         let first = by-first o (says g n u s) (λ y k. refl) in
-        (s, m, long, one, omega (arith, eqb-false (weightAt g n u x) 0 weighty), ap (λ (c : ℕ × ℕ). c .0) (r .entry) ∙ first ∙ ticket-listed g n u s)
+        (s, m, long, one, omega (arith, eqb-false (weightAt g n u x) 0 weighty), r .entry ∙ ap (λ (d : ℕ). (d, u s)) (first ∙ ticket-listed g n u s))
 
-    pub collected : (l : List ℕ) → Pairwise _<_ l → ((d : ℕ) → (d ∈ l) ↔ (d ∈ concatMap (numbersBy g n u) (sentencesIn h v)))
-        → l ≡ map (λ (e : ℕ × ℕ). e .0) (spansBy g h n v u)
-    collected l rising just =
-        struck-firsts heavy (weightAt g n u) (listed g n u) l
+    pub collected : (tell : ℕ × ℕ → ℕ) → ((a b : ℕ × ℕ) → Below a b → tell a < tell b) → (l : List ℕ) → Pairwise _<_ l
+        → ((d : ℕ) → (d ∈ l) ↔ (d ∈ concatMap (numbersBy g n u tell) (sentencesIn h v)))
+        → l ≡ map tell (spansBy g h n v u)
+    collected tell rises l rising just =
+        struck-told heavy (weightAt g n u) tell rises (listed g n u) l
         (λ x m f. omega (arith, eqb-false (weightAt g n u x) 0 (or-right (unheardAt x) (eqb (weightAt g n u x) 0) f)))
         rising
         (λ d m.
-        let c = concat-∈ (numbersBy g n u) (sentencesIn h v) (just d .0 m) in
-        let q = by-∈ g n u (c .0) d (c .2) in
+        let c = concat-∈ (numbersBy g n u tell) (sentencesIn h v) (just d .0 m) in
+        let q = by-∈ g n u tell (c .0) d (c .2) in
         let r = from (c .0) (c .1) (q .0) (q .1) (q .2) in
-        (r .0, r .1, r .2 ∙ q .3))
+        (r .0, r .1, ap tell (r .2) ∙ q .3))
         (λ e r.
         let q = into e r in
-        Memᴰ·cast (q .5) (just (ticketOf g n u (q .0)) .1 (∈-concat (numbersBy g n u) (q .0) (sentencesIn h v) (q .1) (∈-by g n u (q .0) (q .2) (q .3) (q .4)))))
+        Memᴰ·cast (ap tell (q .5))
+        (just (tell (spanOf g n u (q .0))) .1 (∈-concat (numbersBy g n u tell) (q .0) (sentencesIn h v) (q .1) (∈-by g n u tell (q .0) (q .2) (q .3) (q .4)))))

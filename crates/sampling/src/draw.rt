@@ -45,8 +45,7 @@ pub fn draw_from(
         return DrawAnswer::Refused(Refusal::BufferTooShort);
     }
     let d = skip::skip(q, heard, sums);
-    let owner = unrank::write(rules, totals, choice, counts, n, d, out);
-    let number = owner.number;
+    let number = unrank::write(rules, totals, choice, counts, n, d, out);
     DrawAnswer::Given(left, number)
 }
 

@@ -1,5 +1,9 @@
 // The heard derivations: of the history's sentences, in a voice and of a length, those that have one derivation, by their places among the derivations
 // whose words stand by a measure.
+ghost use mathlib.Core.Path.{_≡_};
+ghost use Prim.Native.Nat.{_+_, _≤_};
+ghost use lib.ListN.{set};
+ghost use Rattle.counting.specs.Refusals.{most};
 ghost use Rattle.sampling.specs.Inner.Collect.{Serves, HeardFoundAs, Collects, CollectedAs};
 use crate::question::Question;
 use charts::maps;
@@ -8,10 +12,10 @@ use history::reader;
 use history::records;
 use ranking::rank;
 
-// What a heard sentence adds: nothing, the place of its one derivation, or that it has two or more.
+// What a heard sentence adds: nothing, the place of its one derivation and what that weighs, or that it has two or more.
 pub enum Added {
     Nothing,
-    Place(u64),
+    Place(u64, u64),
     Many,
 }
 
@@ -45,12 +49,24 @@ fn find_heard(
         return Added::Nothing;
     }
     if maps::fits(measure, s) {
-        return Added::Place(rank::place(rules, totals, map, measure, s.len()));
+        let d = rank::place(rules, totals, map, measure, s.len());
+        return Added::Place(d.first, d.weight);
     }
     Added::Nothing
 }
 
-// The places along the chain, one record after another; a record's sentence is read only where the record makes it heard.
+// Where a place ends, if there is room for it.
+fn note(ends: &mut [u64], i: usize, first: u64, weight: u64)
+    requires { ⌜ first + weight ≤ most ⌝ }
+    ensures { λ _. ⌜ now (ends .exit) ≡ set (now (ends .entry)) i (first + weight) ⌝ }
+{
+    if i < ends.len() {
+        ends[i] = first + weight;
+    }
+}
+
+// The places along the chain, one record after another, and where they end, as far as room is lent for that; a record's sentence is read only where the
+// record makes it heard.
 pub fn collect(
     rules: &[[u8; 256]],
     plan: &[[u32; 32]; 4],
@@ -60,9 +76,10 @@ pub fn collect(
     question: Question,
     totals: &mut [[u64; 32]],
     numbers: &mut [u64],
+    ends: &mut [u64],
 ) -> Collected
     requires { ⌜ Collects (now rules) (now plan) (now map) (now measure) (now h) (question .length) (now totals) (now numbers) ⌝ }
-    ensures { λ c. ⌜ CollectedAs (now (rules .entry)) (now (plan .entry)) (now (measure .entry)) (now (h .entry)) (question .length) (question .voice) (now (totals .exit)) (now (numbers .exit)) c ⌝ }
+    ensures { λ c. ⌜ CollectedAs (now (rules .entry)) (now (plan .entry)) (now (measure .entry)) (now (h .entry)) (question .length) (question .voice) (now (totals .exit)) (now (numbers .exit)) (now (ends .exit)) c ⌝ }
 {
     let mut sets = [0u32; 290];
     let mut at = reader::first(h);
@@ -76,8 +93,9 @@ pub fn collect(
             match f {
                 Added::Nothing => {}
                 Added::Many => return Collected::Ambiguous,
-                Added::Place(d) => {
+                Added::Place(d, w) => {
                     numbers[count] = d;
+                    note(ends, count, d, w);
                     count += 1;
                 }
             }

@@ -9,7 +9,7 @@ ghost use Rattle.charts.specs.Inner.Maps.{countsMap};
 ghost use Rattle.ranking.specs.Inner.Ranking.{Roomy};
 ghost use Rattle.sampling.specs.Inner.Collect.{Collects};
 ghost use Rattle.sampling.specs.Inner.Patterns.{behindOf};
-ghost use Rattle.sampling.specs.Inner.Preparing.{AskedAs, NumbersBy, NumbersSought, NumbersAs, FittingSought, FittedAs, RecordsSought, MatchingSought, RecordedAs, Lent, LentMatching, SampledAs};
+ghost use Rattle.sampling.specs.Inner.Preparing.{AskedAs, OrderedAs, NumbersBy, NumbersSought, NumbersAs, FittingSought, FittedAs, RecordsSought, MatchingSought, RecordedAs, Lent, LentMatching, SampledAs};
 use crate::heard;
 use crate::heard::Collected;
 use crate::pattern;
@@ -46,7 +46,18 @@ fn order(numbers: &mut [u64]) -> usize
     sorting::sort(numbers, &mut spare)
 }
 
-// The places of the heard derivations, rising, each once, with the tables for the charts of their sentences.
+// The first k of the numbers, if there are so many.
+fn order_first(numbers: &mut [u64], k: usize) -> usize
+    requires { ⌜ k ≤ 1000 ⌝ }
+    ensures { λ m. ⌜ OrderedAs k (now (numbers .entry)) (now (numbers .exit)) m ⌝ }
+{
+    if numbers.len() < k {
+        return 0;
+    }
+    order(&mut numbers[0..k])
+}
+
+// The places of the heard derivations, rising, each once, with the tables for the charts of their sentences. Where room is lent for it, where they end.
 pub fn numbers_by(
     rules: &[[u8; 256]],
     plan: &[[u32; 32]; 4],
@@ -56,15 +67,27 @@ pub fn numbers_by(
     question: Question,
     totals: &mut [[u64; 32]],
     numbers: &mut [u64],
+    ends: &mut [u64],
 ) -> Sampled
     requires { ⌜ Collects (now rules) (now plan) (now map) (now measure) (now h) (question .length) (now totals) (now numbers) ⌝ }
-    ensures { λ s. ⌜ NumbersBy (now (rules .entry)) (now (plan .entry)) (now (measure .entry)) (now (h .entry)) (question .length) (question .voice) (now (totals .exit)) (now (numbers .exit)) s ⌝ }
+    ensures { λ s. ⌜ NumbersBy (now (rules .entry)) (now (plan .entry)) (now (measure .entry)) (now (h .entry)) (question .length) (question .voice) (now (totals .exit)) (now (numbers .exit)) (now (ends .exit)) s ⌝ }
 {
-    let c = heard::collect(rules, plan, map, measure, h, question, totals, numbers);
+    let c = heard::collect(
+        rules,
+        plan,
+        map,
+        measure,
+        h,
+        question,
+        totals,
+        numbers,
+        ends,
+    );
     match c {
         Collected::Ambiguous => Sampled::Refused(Refusal::HeardAmbiguous),
         Collected::Numbers(k) => {
-            let m = order(&mut numbers[0..k]);
+            let m = order_first(numbers, k);
+            order_first(ends, k);
             Sampled::Ready(m)
         }
     }
@@ -93,6 +116,7 @@ fn heard_numbers_in(
     let mut map = [map_row; 17];
     ready::ready(&mut linked, chart, n, &mut plan, &mut map);
     let counts = maps::EVERYWHERE;
+    let mut ends = [0u64; 0];
     numbers_by(
         &linked,
         &plan,
@@ -102,6 +126,7 @@ fn heard_numbers_in(
         question,
         chart,
         numbers,
+        &mut ends,
     )
 }
 
@@ -156,7 +181,18 @@ fn fitting_numbers(
     let map_row = [0u16; 16];
     let mut map = [map_row; 17];
     plan::rows(&plan, behind(question.length), &mut map);
-    numbers_by(rules, &plan, &mut map, choice, h, question, totals, numbers)
+    let mut ends = [0u64; 0];
+    numbers_by(
+        rules,
+        &plan,
+        &mut map,
+        choice,
+        h,
+        question,
+        totals,
+        numbers,
+        &mut ends,
+    )
 }
 
 // 11 to 15. Without a pattern no chart is made for a history without records.

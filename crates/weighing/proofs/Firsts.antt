@@ -38,15 +38,15 @@ use Rattle.ranking.proofs.Weighing.{listed-long}
 use Rattle.history.specs.Layout.{recordsOf}
 use Rattle.history.specs.Refusals.{Accepted}
 use Rattle.sampling.specs.Question.{plainly}
-use Rattle.sampling.specs.Inner.Collect.{Collects}
-use Rattle.sampling.specs.Inner.Preparing.{NumbersBy, HeardBy, RecordedBy}
+use Rattle.sampling.specs.Inner.Collect.{beginning, ending, Collects}
+use Rattle.sampling.specs.Inner.Preparing.{NumbersBy}
 use Rattle.sampling.specs.declared.prepare.Sampled.{Sampled}
 use Rattle.sampling.specs.declared.prepare.Sampled.the-variants.{Ready}
-use Rattle.sampling.proofs.Readying.{hold-same, full-same}
+use Rattle.sampling.proofs.Readying.{held-same, hold-same, full-same}
 use Rattle.sampling.proofs.Answering.{none-heard, fitted-recorded}
 use Rattle.weighing.specs.Weights.{weightOf, weighs}
 use Rattle.weighing.specs.Inner.Tables.{Weighed}
-use Rattle.weighing.specs.Inner.Preparing.{behindWeights, FirstsSought}
+use Rattle.weighing.specs.Inner.Preparing.{behindWeights, FirstsSought, FirstsAs, RecordsAs}
 use Rattle.weighing.proofs.Weighing.{left-weighty, derived-some}
 
 -- ---- the map of the totals by weight
@@ -120,14 +120,16 @@ module _ {g : List ℕ} {n : ℕ} {weights : List ℕ} {rules totals : List (Lis
   weigh-agrees s e = weights-weigh rules weights (w .weights-are) 0 s (omega (arith, counted .short))
 
   -- a history without records has nothing heard
-  pub firsts-none : (h : List ℕ) (v : ℕ) {numbers : List ℕ} → Accepted h → recordsOf h ≡ 0
-      → RecordedBy rules h (plainly n v) (weighs weights) rules totals weightsMap numbers (Ready 0)
-  firsts-none h v {numbers} ok none =
-      fitted-recorded rules h (plainly n v) ok
-      (record {
-        hold = none-heard rules (weighs weights) h n v numbers ok none;
-        chosen = record { kept = λ r l. refl; chooses = weights-choose counted (w .tallied) (w .rules-long); weigh = weigh-agrees };
-      })
+  pub firsts-none : (h : List ℕ) (v : ℕ) {numbers ends : List ℕ} → Accepted h → recordsOf h ≡ 0
+      → RecordsAs rules h n v weights rules totals numbers ends (Ready 0)
+  firsts-none h v {numbers} {ends} ok none = record {
+    recorded = fitted-recorded rules h (plainly n v) ok
+        (record {
+          hold = none-heard rules (weighs weights) beginning h n v numbers ok none;
+          chosen = record { kept = λ r l. refl; chooses = weights-choose counted (w .tallied) (w .rules-long); weigh = weigh-agrees };
+        });
+    ended = λ k e. (0, none-heard rules (weighs weights) ending h n v ends ok none);
+  }
 
   pub firsts-ready : {plan map : List (List ℕ)} → length plan ≡ 4 → length map ≡ 17 → Wide map 16 → endOf behindWeights n ≤ length totals → Readies rules totals n plan map
   firsts-ready p m d room = record {
@@ -145,7 +147,7 @@ module _ {g : List ℕ} {n : ℕ} {weights : List ℕ} {rules totals : List (Lis
 
 -- ---- the collecting
 
-module _ {g : List ℕ} {n : ℕ} {weights : List ℕ} {rules totals : List (List ℕ)} {h numbers : List ℕ} (s : FirstsSought g n weights rules totals h numbers) where
+module _ {g : List ℕ} {n : ℕ} {weights : List ℕ} {rules totals : List (List ℕ)} {h numbers ends : List ℕ} (s : FirstsSought g n weights rules totals h numbers ends) where
   abbrev w : Weighed g n weights rules totals
   w = s .weighed
 
@@ -211,20 +213,25 @@ module _ {g : List ℕ} {n : ℕ} {weights : List ℕ} {rules totals : List (Lis
           }
 
       -- what is collected by the linked rules is what the rules and the weights say
-      pub firsts-heard : {v : ℕ} {totals′ : List (List ℕ)} {numbers′ : List ℕ} {x : Sampled} → NumbersBy after plan weightsMap h n v totals′ numbers′ x
-          → HeardBy rules h (plainly n v) (weighs weights) after totals′ weightsMap numbers′ x
-      firsts-heard {v} {numbers′ = numbers′} {x = x} q = record {
-        hold = hold-same rules after (r .kept) linked-agrees h v numbers′ x (q .hold);
-        chosen = record {
-          kept = r .kept;
-          chooses = record {
-            counted = q .still .counted;
-            known = needed plan;
-            closed = planned-closed short (r .ready .planned);
-            mapped = q .still .mapped;
-            linked = λ i d l. r .ready .linked;
-            weights = λ i d l. linked-long;
+      pub firsts-heard : {v : ℕ} {totals′ : List (List ℕ)} {numbers′ ends′ : List ℕ} {x : Sampled} → length ends′ ≡ length ends
+          → NumbersBy after plan weightsMap h n v totals′ numbers′ ends′ x → FirstsAs rules h n v weights after totals′ numbers′ ends′ x
+      firsts-heard {v} {numbers′ = numbers′} {ends′} {x = x} size q = record {
+        heard = record {
+          hold = hold-same rules after (r .kept) linked-agrees h v numbers′ x (q .hold);
+          chosen = record {
+            kept = r .kept;
+            chooses = record {
+              counted = q .still .counted;
+              known = needed plan;
+              closed = planned-closed short (r .ready .planned);
+              mapped = q .still .mapped;
+              linked = λ i d l. r .ready .linked;
+              weights = λ i d l. linked-long;
+            };
+            weigh = linked-agrees;
           };
-          weigh = linked-agrees;
         };
+        ended = λ k e.
+            let t = q .ended (omega (arith, size, s .ends-room)) k e in
+            (t .0, held-same rules after (r .kept) linked-agrees h v ending ends′ (t .0) (t .1));
       }

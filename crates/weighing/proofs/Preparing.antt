@@ -6,13 +6,16 @@ use mathlib.Core.Bool.{Bool, not}
 use mathlib.Core.List.{List, [], map}
 use Prim.Native.Nat.{ℕ, zero, suc, _-_, _≤_, _<_}
 use native.Mathlib.Omega.{arith}
-use lib.ListN.{length, getD, take, replicate, length-replicate}
+use lib.ListN.{length, getD, take, replicate, length-map, length-replicate}
 use lib.Seq.{getD-take, length-take-le}
 use Rattle.lists.specs.Joined.{sumOver}
+use Rattle.lists.specs.Inner.Tickets.{gone}
 use Rattle.answers.specs.Answer.{Row, firstThatApplies, refused}
 use Rattle.answers.specs.Inner.Refusals.{refusalNumber}
 use Rattle.answers.specs.declared.refusal.Refusal.{Refusal}
 use Rattle.answers.proofs.Numbers.{number-some}
+use Rattle.grammar.specs.Inner.Rules as grammar
+use Rattle.counting.specs.Refusals.{most}
 use Rattle.counting.specs.declared.prepare.Prepared.{Prepared}
 use Rattle.counting.specs.declared.prepare.Prepared.the-variants as tables
 use Rattle.charts.specs.Inner.Maps.{weightsMap}
@@ -22,12 +25,12 @@ use Rattle.history.specs.Heard.{heard}
 use Rattle.history.proofs.Acceptance.{known}
 use Rattle.sampling.specs.Question.{plainly}
 use Rattle.sampling.specs.Inner.Skipping.{heardSpans, Told}
-use Rattle.sampling.specs.Inner.Collect.{spansBy}
+use Rattle.sampling.specs.Inner.Collect.{beginning, ending, spansBy}
 use Rattle.sampling.specs.Inner.Drawing.{spansIn, DrawSought, drawSkipping}
-use Rattle.sampling.specs.Inner.Preparing.{RecordedBy, DrawableBy, SampledBy}
+use Rattle.sampling.specs.Inner.Preparing.{Ended, RecordedBy, DrawableBy, SampledBy}
 use Rattle.sampling.specs.declared.prepare.Sampled.{Sampled}
 use Rattle.sampling.specs.declared.prepare.Sampled.the-variants.{Ready, Refused}
-use Rattle.sampling.proofs.Answering.{weigh-low, unprepared, recorded-prepared, prepared-case, parts-low, room-all, room-short}
+use Rattle.sampling.proofs.Answering.{refused-unready, heard-spans, weigh-low, unprepared, recorded-prepared, prepared-case, parts-low, room-all, room-short}
 use Rattle.sampling.specs.Unheard.{unheard}
 use Rattle.sampling.proofs.Listed.{drawFrom, ticketList, spans-told, drawn-listed}
 use Rattle.charts.proofs.Placing as charts
@@ -35,13 +38,10 @@ use Rattle.lists.proofs.Tables.{wide-made, made-entry}
 use Rattle.weighing.specs.Weights.{weighs, ticketsOf}
 use Rattle.weighing.specs.Weighted.{weighedRows, weightedRows, drawWeighted}
 use Rattle.weighing.specs.Inner.Tables.{WeighedAs}
-use Rattle.weighing.specs.Inner.Sums.{weightAt, SumsSought, SummedAs}
+use Rattle.weighing.specs.Inner.Sums.{SumsSought, SummedAs}
 use Rattle.weighing.specs.Inner.Preparing.{Rooms, Cleared, Called, PreparedAs}
 use Rattle.weighing.proofs.Laws.{drawn-from, drawn-refused}
-use Rattle.weighing.proofs.Told.{firsts-tell, firsts-inside, firsts-sum, summed-spans, summed-told}
-
-refused-unready : {r : Refusal} {k : ℕ} → Refused r ≡ Ready k → ⊥
-refused-unready e = let q : _≡_ {A = ℕ} 0 1 = cc in omega arith
+use Rattle.weighing.proofs.Told.{summed-spans, summed-told}
 
 -- ---- the refusals up to 15
 
@@ -78,48 +78,50 @@ prepared-ready q e t = record { sampled = rw e at q; told = λ i z. let same = r
 
 module _ {g h : List ℕ} {n v : ℕ} {weights : List ℕ} {asked : List Row} {rules totals : List (List ℕ)} {numbers : List ℕ} {k : ℕ}
     (d : DrawableBy g h (plainly n v) (weighs weights) asked rules totals weightsMap numbers k) (room : Accepted h → recordsOf h ≤ length numbers) where
-  abbrev outside : List ℕ → Bool
-  outside s = not (heard h v s)
+  -- what is struck
+  abbrev pub spansOf : List (ℕ × ℕ)
+  spansOf = spansBy g h n v (weighs weights)
 
-  spans-are : spansIn rules weightsMap n outside ≡ spansBy g h n v (weighs weights)
-  spans-are = spans-told g h n v (weighs weights) rules weightsMap (d .full) (d .weigh)
+  -- they are so many
+  few : length spansOf ≡ k
+  few = sym (length-map spansOf beginning) ∙ ap length (sym (d .heard)) ∙ length-take-le k numbers (omega (arith, d .few, room (d .diary)))
 
-  firsts-are : take k numbers ≡ map (λ (e : ℕ × ℕ). e .0) (spansIn rules weightsMap n outside)
-  firsts-are = d .heard ∙ ap (map (λ (e : ℕ × ℕ). e .0)) (sym spans-are)
+  -- together they weigh no more than all
+  light : sumOver (λ (e : ℕ × ℕ). e .1) spansOf ≤ most
+  light =
+      let outside : List ℕ → Bool = λ s. not (heard h v s) in
+      let are : spansIn rules weightsMap n outside ≡ spansOf = spans-told g h n v (weighs weights) rules weightsMap (d .full) (d .weigh) in
+      omega (arith, ap (sumOver (λ (e : ℕ × ℕ). e .1)) are, parts-low rules weightsMap n outside, weigh-low (d .chooses))
 
-  part : take (k - 0) numbers ≡ take k numbers
-  part = let e : k - 0 ≡ k = omega arith in rw e
+  module _ {rules₀ : List (List ℕ)} (t : grammar.Holds g rules₀) {ends : List ℕ} (ends-room : Accepted h → recordsOf h ≤ length ends) (e : Ended rules₀ (weighs weights) h n v ends) where
+    ends-are : take k ends ≡ map ending spansOf
+    ends-are =
+        let told : take (e .0) ends ≡ map ending spansOf = heard-spans t h (plainly n v) (weighs weights) ending (λ x y l. l .1) (d .diary) (take (e .0) ends) (e .1 .1) in
+        let as-many : e .0 ≡ k
+        = sym (length-take-le (e .0) ends (omega (arith, e .1 .0, ends-room (d .diary)))) ∙ ap length told ∙ length-map spansOf ending ∙ few in
+        rw as-many at told
 
-  few : length (take k numbers) ≡ k
-  few = length-take-le k numbers (omega (arith, d .few, room (d .diary)))
+    pub sums-sought : SumsSought spansOf (take (k - 0) numbers) ends
+    sums-sought =
+        let part : k - 0 ≡ k = omega arith in
+        let size : length (take k numbers) ≡ k = ap length (d .heard) ∙ length-map spansOf beginning ∙ few in
+        rw part
+        (record {
+          firsts-are = d .heard;
+          ends-are = rw size ends-are;
+          fits = light;
+          few = omega (arith, size, d .few, known h (d .diary) .sized .few);
+          room = omega (arith, size, d .few, ends-room (d .diary));
+        })
 
-  pub sums-sought : {sums : List ℕ} → (Accepted h → recordsOf h ≤ length sums) → SumsSought rules totals n (take (k - 0) numbers) sums
-  sums-sought sums-room =
-      rw part
-      (record {
-        chooses = d .chooses;
-        inside = firsts-inside rules n outside firsts-are;
-        fits = omega (arith, firsts-sum rules n outside firsts-are, parts-low rules weightsMap n outside, weigh-low (d .chooses));
-        few = omega (arith, few, d .few, known h (d .diary) .sized .few);
-        room = omega (arith, few, d .few, sums-room (d .diary));
-      })
-
-  module _ {before sums : List ℕ} (sums-room : Accepted h → recordsOf h ≤ length before) (q : SummedAs rules n (take (k - 0) numbers) before sums) where
-    abbrev summed : SummedAs rules n (take k numbers) before sums
-    summed = rw part at q
-
-    many : length (take k sums) ≡ length (take k numbers)
-    many = length-take-le k sums (omega (arith, d .few, sums-room (d .diary), summed .long)) ∙ sym few
-
-    each : (i : ℕ) → i < length (take k numbers) → getD (take k sums) i 0 ≡ sumOver (weightAt rules n) (take (suc i) (take k numbers))
-    each i l = getD-take k sums i 0 (omega (arith, few)) ∙ summed .each i (omega arith)
-
-    pub sums-tell : (k ≤ length sums) × Told (take k numbers) (take k sums) × (heardSpans (take k numbers) (take k sums) ≡ spansBy g h n v (weighs weights))
-    sums-tell = (
-      omega (arith, d .few, sums-room (d .diary), summed .long),
-      summed-told (weightAt rules n) (take k numbers) (take k sums) many each,
-      summed-spans (weightAt rules n) (take k numbers) (take k sums) many each ∙ firsts-tell rules n outside firsts-are ∙ spans-are,
-    )
+    pub sums-tell : {sums : List ℕ} → SummedAs spansOf ends sums
+        → (k ≤ length sums) × Told (take k numbers) (take k sums) × (heardSpans (take k numbers) (take k sums) ≡ spansOf)
+    sums-tell {sums} q =
+        let long : k ≤ length sums = omega (arith, d .few, ends-room (d .diary), q .long) in
+        let many : length (take k sums) ≡ length spansOf = length-take-le k sums long ∙ sym few in
+        let each : (i : ℕ) → i < length spansOf → getD (take k sums) i 0 ≡ gone (suc i) spansOf
+        = λ i l. getD-take k sums i 0 (omega (arith, few)) ∙ q .each i l in
+        rw (d .heard) (long, summed-told spansOf (take k sums) many each, summed-spans spansOf (take k sums) many each)
 
 -- ---- the draw
 

@@ -1,12 +1,8 @@
 // What a draw by weights needs: the tables of the grammar with the totals by weight, then the heard derivations' first tickets, rising, each once.
 ghost use mathlib.Core.List.{List};
 ghost use Prim.Native.Nat.{ℕ};
-ghost use Rattle.charts.specs.Inner.Maps.{weightsMap};
-ghost use Rattle.sampling.specs.Question.{plainly};
-ghost use Rattle.sampling.specs.Inner.Preparing.{HeardBy, RecordedBy};
-ghost use Rattle.weighing.specs.Weights.{weighs};
 ghost use Rattle.weighing.specs.Inner.Tables.{Tallies, TalliedAs, Lent, WeighedAs};
-ghost use Rattle.weighing.specs.Inner.Preparing.{FirstsSought, RecordsSought, Called, PreparedAs};
+ghost use Rattle.weighing.specs.Inner.Preparing.{FirstsSought, FirstsAs, RecordsSought, RecordsAs, Called, PreparedAs};
 use crate::sums;
 use crate::weights;
 use answers::refusal::Refusal;
@@ -58,16 +54,17 @@ fn weigh(
     Prepared::Refused(Refusal::TooManyTickets)
 }
 
-// The first tickets of the heard derivations: their sentences' charts stand behind the totals by weight, which measure.
+// The first tickets of the heard derivations, and where they end: their sentences' charts stand behind the totals by weight, which measure.
 fn first_tickets(
     rules: &mut [[u8; 256]],
     totals: &mut [[u64; 32]],
     h: &[u8],
     question: Question,
     numbers: &mut [u64],
+    ends: &mut [u64],
 ) -> Sampled
-    requires { ⌜ ((g weights : List ℕ) × FirstsSought g (question .length) weights (now rules) (now totals) (now h) (now numbers)) ⌝ }
-    ensures { λ s. ⌜ ((g weights : List ℕ) → FirstsSought g (question .length) weights (now (rules .entry)) (now (totals .entry)) (now (h .entry)) (now (numbers .entry)) → HeardBy (now (rules .entry)) (now (h .entry)) (plainly (question .length) (question .voice)) (weighs weights) (now (rules .exit)) (now (totals .exit)) weightsMap (now (numbers .exit)) s) ⌝ }
+    requires { ⌜ ((g weights : List ℕ) × FirstsSought g (question .length) weights (now rules) (now totals) (now h) (now numbers) (now ends)) ⌝ }
+    ensures { λ s. ⌜ ((g weights : List ℕ) → FirstsSought g (question .length) weights (now (rules .entry)) (now (totals .entry)) (now (h .entry)) (now (numbers .entry)) (now (ends .entry)) → FirstsAs (now (rules .entry)) (now (h .entry)) (question .length) (question .voice) weights (now (rules .exit)) (now (totals .exit)) (now (numbers .exit)) (now (ends .exit)) s) ⌝ }
 {
     let set_row = [0u32; 32];
     let mut plan = [set_row; 4];
@@ -85,6 +82,7 @@ fn first_tickets(
         question,
         totals,
         numbers,
+        ends,
     )
 }
 
@@ -95,9 +93,10 @@ fn records(
     h: &[u8],
     question: Question,
     numbers: &mut [u64],
+    ends: &mut [u64],
 ) -> Sampled
-    requires { ⌜ ((g weights : List ℕ) × RecordsSought g (question .length) weights (now rules) (now totals) (now h) (now numbers)) ⌝ }
-    ensures { λ s. ⌜ ((g weights : List ℕ) → RecordsSought g (question .length) weights (now (rules .entry)) (now (totals .entry)) (now (h .entry)) (now (numbers .entry)) → RecordedBy (now (rules .entry)) (now (h .entry)) (plainly (question .length) (question .voice)) (weighs weights) (now (rules .exit)) (now (totals .exit)) weightsMap (now (numbers .exit)) s) ⌝ }
+    requires { ⌜ ((g weights : List ℕ) × RecordsSought g (question .length) weights (now rules) (now totals) (now h) (now numbers) (now ends)) ⌝ }
+    ensures { λ s. ⌜ ((g weights : List ℕ) → RecordsSought g (question .length) weights (now (rules .entry)) (now (totals .entry)) (now (h .entry)) (now (numbers .entry)) (now (ends .entry)) → RecordsAs (now (rules .entry)) (now (h .entry)) (question .length) (question .voice) weights (now (rules .exit)) (now (totals .exit)) (now (numbers .exit)) (now (ends .exit)) s) ⌝ }
 {
     let a = checks::check(h);
     match a {
@@ -106,12 +105,12 @@ fn records(
             if k == 0 {
                 return Sampled::Ready(0);
             }
-            first_tickets(rules, totals, h, question, numbers)
+            first_tickets(rules, totals, h, question, numbers, ends)
         }
     }
 }
 
-// 1 to 9, 22, 10, 24 and 25, then 11 to 15; then what the heard ones weigh.
+// 1 to 9, 22, 10, 24 and 25, then 11 to 15; then what the heard ones weigh, where it was told where they end.
 pub fn prepare(
     g: &[u8],
     h: &[u8],
@@ -130,17 +129,11 @@ pub fn prepare(
         Prepared::Refused(r) => return Sampled::Refused(r),
         Prepared::Ready => {}
     }
-    let s = records(rules, totals, h, question, numbers);
+    let s = records(rules, totals, h, question, numbers, sums);
     match s {
         Sampled::Refused(r) => Sampled::Refused(r),
         Sampled::Ready(k) => {
-            sums::fill(
-                rules,
-                totals,
-                question.length as usize,
-                &numbers[0..k],
-                sums,
-            );
+            sums::fill(&numbers[0..k], sums);
             Sampled::Ready(k)
         }
     }

@@ -82,7 +82,6 @@ pub record WriteSought (rules totals choice counts : List (List ℕ)) (n t : ℕ
   pub room : n ≤ length out
 
 -- it is written, and what follows it is kept
-pub record WrittenAs (rules choice : List (List ℕ)) (n t : ℕ) (before after : List ℕ) (number weight : ℕ) : Type 0 where
+pub record WrittenAs (rules choice : List (List ℕ)) (n t : ℕ) (before after : List ℕ) (number : ℕ) : Type 0 where
   pub words : after ≡ getD (ticketsAt rules choice n) t (0, []) .1 ++ drop n before
   pub number-is : number ≡ getD (ticketsAt rules choice n) t (0, []) .0
-  pub weight-is : weight ≡ weighs rules choice (getD (ticketsAt rules choice n) t (0, []) .1)

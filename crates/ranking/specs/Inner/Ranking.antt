@@ -3,10 +3,11 @@
 use mathlib.Core.Path.{_≡_}
 use mathlib.Core.Bool.{Bool}
 use mathlib.Core.List.{List}
-use Prim.Native.Nat.{ℕ, _≤_, _<_}
+use Prim.Native.Nat.{ℕ, _+_, _≤_, _<_}
 use lib.ListN.{length, getD}
 use Rattle.lists.specs.Inner.Tables.{entry, Wide}
 use Rattle.grammar.specs.Inner.Links.{Unlinked, Linked}
+use Rattle.counting.specs.Refusals.{most}
 use Rattle.counting.specs.Inner.Counted.{Counted}
 use Rattle.counting.specs.Inner.Letters.{any, weighed}
 use Rattle.charts.specs.Inner.Letters.{letterAt}
@@ -14,7 +15,7 @@ use Rattle.charts.specs.Inner.Maps.{Closed, Mapped}
 use Rattle.charts.specs.Inner.Plan.{chartRow, room}
 use Rattle.charts.specs.Inner.Chart.{Blank, Clean, Filled}
 use Rattle.charts.specs.Inner.Ready.{Ready}
-use Rattle.ranking.specs.Inner.Inside.{readingsIn}
+use Rattle.ranking.specs.Inner.Inside.{readingsIn, weighs, placeIn}
 
 -- what all sentences of the length share, and the sets beside the rows of their charts, which begin at `first`
 pub record FindSought (rules plan map : List (List ℕ)) (first : ℕ) (s sets : List ℕ) (totals : List (List ℕ)) : Type 0 where
@@ -43,6 +44,12 @@ pub record PlaceSought (rules totals map measure : List (List ℕ)) (n : ℕ) (s
   pub letters : (p : ℕ) → p < n → letterAt map p ≡ getD s p 0
   pub small : (p : ℕ) → p < n → letterAt map p < any
   pub measures : (p : ℕ) → p < n → letterAt measure p ≡ weighed → 14 ≤ length rules
+
+-- the first ticket by the measure of the sentence s, and what it weighs
+pub record PlacedAs (rules measure : List (List ℕ)) (s : List ℕ) (first weight : ℕ) : Type 0 where
+  pub first-is : first ≡ placeIn rules measure s
+  pub weight-is : weight ≡ weighs rules measure s
+  pub fits : first + weight ≤ most
 
 -- room for the chart of n positions, in a table of zeros
 pub record Roomy (n : ℕ) (totals : List (List ℕ)) : Type 0 where

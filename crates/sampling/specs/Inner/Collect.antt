@@ -1,10 +1,10 @@
--- What collecting the heard derivations asks and gives back, by the table of rules alone. They are told by their first tickets, where each sentence
--- weighs u: by a measure's letters; 1 where it fits a pattern, and else nothing; or what words' weights make it.
+-- What collecting the heard derivations asks and gives back, by the table of rules alone. They are told by their first tickets, and where room is lent
+-- also by where these end, where each sentence weighs u: by a measure's letters; 1 where it fits a pattern, and else nothing; or what words' weights make it.
 -- Assumes nothing: these are definitions.
 use mathlib.Core.Path.{_≡_}
 use mathlib.Core.Bool.{Bool, true, false, cond, _&&_}
 use mathlib.Core.List.{List, [], _∷_}
-use Prim.Native.Nat.{ℕ, _≤_, _<_}
+use Prim.Native.Nat.{ℕ, _+_, _≤_, _<_}
 use lib.ListN.{length, take}
 use lib.Dec.{ltb, leb, eqb}
 use Rattle.lists.specs.Joined.{_∈_, concatMap}
@@ -13,6 +13,7 @@ use Rattle.lists.specs.Inner.Tickets.{firstTicket, spans}
 use Rattle.lists.specs.Inner.Struck.{struck, numbered}
 use Rattle.lists.specs.Inner.Tables.{entry}
 use Rattle.grammar.specs.Trees.{Tree, sentence}
+use Rattle.counting.specs.Refusals.{most}
 use Rattle.counting.specs.Inner.Counted.{Counted}
 use Rattle.counting.specs.Inner.Letters.{weighed}
 use Rattle.charts.specs.Inner.Letters.{letterAt, stands}
@@ -48,10 +49,17 @@ spansBy g h n v u = spans (λ (e : ℕ × Tree). outside h v (e .1)) (λ e. u (s
 abbrev pub fitting : (a : Question) (s : List ℕ) → ℕ
 fitting a s = bit (matches (a .pattern) s)
 
--- the first ticket of a sentence with n words and one derivation that weighs something; of any other none
-abbrev pub numbersIn : (rules : List (List ℕ)) (u : List ℕ → ℕ) (n : ℕ) (s : List ℕ) → List ℕ
-numbersIn rules u n s =
-    cond (eqb (length s) n && (eqb (readingsIn rules s) 1 && ltb 0 (u s))) (firstTicket u (λ t. same t s) (fullIn rules n) ∷ []) []
+-- what may be told of a first ticket and a weight: the first, or the first behind the last
+abbrev pub beginning : ℕ × ℕ → ℕ
+beginning e = e .0
+
+abbrev pub ending : ℕ × ℕ → ℕ
+ending e = e .0 + e .1
+
+-- what is told of a sentence with n words and one derivation that weighs something; of any other nothing
+abbrev pub numbersIn : (rules : List (List ℕ)) (u : List ℕ → ℕ) (tell : ℕ × ℕ → ℕ) (n : ℕ) (s : List ℕ) → List ℕ
+numbersIn rules u tell n s =
+    cond (eqb (length s) n && (eqb (readingsIn rules s) 1 && ltb 0 (u s))) (tell (firstTicket u (λ t. same t s) (fullIn rules n), u s) ∷ []) []
 
 -- the sentence has n words and two or more derivations
 abbrev pub manyIn : (rules : List (List ℕ)) (n : ℕ) (s : List ℕ) → Bool
@@ -61,9 +69,9 @@ manyIn rules n s = eqb (length s) n && leb 2 (readingsIn rules s)
 abbrev pub ambiguousIn : (rules : List (List ℕ)) (h : List ℕ) (n v : ℕ) → Bool
 ambiguousIn rules h n v = someOf (λ s. leb 2 (readingsIn rules s)) (ofLength h (plainly n v))
 
--- those of the sentences of a history, in the voice and of the length, along the chain
-abbrev pub allNumbersIn : (rules : List (List ℕ)) (u : List ℕ → ℕ) (h : List ℕ) (n v : ℕ) → List ℕ
-allNumbersIn rules u h n v = concatMap (numbersIn rules u n) (sentencesIn h v)
+-- what is told of the sentences of a history, in the voice and of the length, along the chain
+abbrev pub allNumbersIn : (rules : List (List ℕ)) (u : List ℕ → ℕ) (tell : ℕ × ℕ → ℕ) (h : List ℕ) (n v : ℕ) → List ℕ
+allNumbersIn rules u tell h n v = concatMap (numbersIn rules u tell n) (sentencesIn h v)
 
 -- ---- one sentence
 
@@ -85,8 +93,8 @@ pub record Serves (rules plan map measure : List (List ℕ)) (sets : List ℕ) (
 
 -- what the sentence s adds: by how many derivations it has, and whether it weighs something
 abbrev pub Adds : (rules : List (List ℕ)) (u : List ℕ → ℕ) (n : ℕ) (s : List ℕ) → Added → Type 0
-Adds rules u n s Nothing = (manyIn rules n s ≡ false) × (numbersIn rules u n s ≡ [])
-Adds rules u n s (Place d) = (manyIn rules n s ≡ false) × (numbersIn rules u n s ≡ d ∷ [])
+Adds rules u n s Nothing = (manyIn rules n s ≡ false) × ((tell : ℕ × ℕ → ℕ) → numbersIn rules u tell n s ≡ [])
+Adds rules u n s (Place d w) = (manyIn rules n s ≡ false) × ((tell : ℕ × ℕ → ℕ) → numbersIn rules u tell n s ≡ tell (d, w) ∷ []) × (d + w ≤ most)
 Adds rules u n s Many = manyIn rules n s ≡ true
 
 pub record HeardFoundAs (rules plan map measure : List (List ℕ)) (s sets : List ℕ) (totals : List (List ℕ)) (f : Added) : Type 0 where
@@ -106,16 +114,18 @@ pub record Collects (rules plan map measure : List (List ℕ)) (h : List ℕ) (n
   pub diary : Accepted h
   pub room : recordsOf h ≤ length numbers
 
--- the places along the chain, or that a sentence has two or more derivations
-abbrev pub CollectedIs : (rules : List (List ℕ)) (u : List ℕ → ℕ) (h : List ℕ) (n v : ℕ) (numbers : List ℕ) → Collected → Type 0
-CollectedIs rules u h n v numbers (Numbers k) = (ambiguousIn rules h n v ≡ false) × (k ≤ recordsOf h) × (take k numbers ≡ allNumbersIn rules u h n v)
-CollectedIs rules u h n v numbers Ambiguous = ambiguousIn rules h n v ≡ true
+-- what is told along the chain, or that a sentence has two or more derivations
+abbrev pub CollectedIs : (rules : List (List ℕ)) (u : List ℕ → ℕ) (tell : ℕ × ℕ → ℕ) (h : List ℕ) (n v : ℕ) (numbers : List ℕ) → Collected → Type 0
+CollectedIs rules u tell h n v numbers (Numbers k) = (ambiguousIn rules h n v ≡ false) × (k ≤ recordsOf h) × (take k numbers ≡ allNumbersIn rules u tell h n v)
+CollectedIs rules u tell h n v numbers Ambiguous = ambiguousIn rules h n v ≡ true
 
 -- the counts and the measure's totals are as they were
 pub record Still (rules plan measure totals : List (List ℕ)) (n : ℕ) : Type 0 where
   pub counted : Counted rules totals n
   pub mapped : Mapped rules totals measure n (needed plan)
 
-pub record CollectedAs (rules plan measure : List (List ℕ)) (h : List ℕ) (n v : ℕ) (totals : List (List ℕ)) (numbers : List ℕ) (c : Collected) : Type 0 where
-  pub holds : CollectedIs rules (weighs rules measure) h n v numbers c
+-- the places, and where there is room for it also where they end
+pub record CollectedAs (rules plan measure : List (List ℕ)) (h : List ℕ) (n v : ℕ) (totals : List (List ℕ)) (numbers ends : List ℕ) (c : Collected) : Type 0 where
+  pub holds : CollectedIs rules (weighs rules measure) beginning h n v numbers c
+  pub ended : recordsOf h ≤ length ends → CollectedIs rules (weighs rules measure) ending h n v ends c
   pub still : Still rules plan measure totals n

@@ -23,7 +23,7 @@ use Rattle.ranking.specs.Inner.Inside.{fullIn, weighs, Chooses}
 use Rattle.history.specs.Layout.{recordsOf}
 use Rattle.history.specs.Refusals.{historyRows, Accepted}
 use Rattle.sampling.specs.Question.{Question}
-use Rattle.sampling.specs.Inner.Collect.{spansBy, fitting, ambiguousIn, allNumbersIn, Still}
+use Rattle.sampling.specs.Inner.Collect.{spansBy, fitting, beginning, ending, ambiguousIn, allNumbersIn, Still}
 use Rattle.sampling.specs.Inner.Patterns.{Patterned, Choice}
 use Rattle.sampling.specs.Unheard.{ambiguous}
 use Rattle.sampling.specs.Answers.{askedRows}
@@ -45,20 +45,35 @@ pub record AskedAs (g : List ℕ) (a : Question) (rules₀ rules totals₀ total
 abbrev pub Room : (h numbers : List ℕ) → Type 0
 Room h numbers = Accepted h → recordsOf h ≤ length numbers
 
--- the first tickets of a history's sentences that weigh something, rising, each once
-pub record Heard (rules : List (List ℕ)) (u : List ℕ → ℕ) (h : List ℕ) (n v : ℕ) (heard : List ℕ) : Type 0 where
+-- what is told of a history's sentences that weigh something, rising, each once
+pub record Heard (rules : List (List ℕ)) (u : List ℕ → ℕ) (tell : ℕ × ℕ → ℕ) (h : List ℕ) (n v : ℕ) (heard : List ℕ) : Type 0 where
   pub clear : ambiguousIn rules h n v ≡ false
   pub rising : Pairwise _<_ heard
-  pub just : (d : ℕ) → (d ∈ heard) ↔ (d ∈ allNumbersIn rules u h n v)
+  pub just : (d : ℕ) → (d ∈ heard) ↔ (d ∈ allNumbersIn rules u tell h n v)
 
--- these; or that line 15 applies
+-- the first k numbers, if there are so many, in rising order, each once: they are then m
+pub record OrderedAs (k : ℕ) (before after : List ℕ) (m : ℕ) : Type 0 where
+  pub few : k ≤ length before → m ≤ k
+  pub rising : k ≤ length before → Pairwise _<_ (take m after)
+  pub same : k ≤ length before → (d : ℕ) → (d ∈ take m after) ↔ (d ∈ take k before)
+
+-- so many numbers with it
+abbrev pub Held : (rules : List (List ℕ)) (u : List ℕ → ℕ) (tell : ℕ × ℕ → ℕ) (h : List ℕ) (n v : ℕ) (numbers : List ℕ) (k : ℕ) → Type 0
+Held rules u tell h n v numbers k = (k ≤ recordsOf h) × Heard rules u tell h n v (take k numbers)
+
+-- their first tickets; or that line 15 applies
 abbrev pub Hold : (rules : List (List ℕ)) (u : List ℕ → ℕ) (h : List ℕ) (n v : ℕ) (numbers : List ℕ) → Sampled → Type 0
-Hold rules u h n v numbers (Ready k) = (k ≤ recordsOf h) × Heard rules u h n v (take k numbers)
+Hold rules u h n v numbers (Ready k) = Held rules u beginning h n v numbers k
 Hold rules u h n v numbers (Refused r) = (ambiguousIn rules h n v ≡ true) × (refusalNumber r ≡ 15)
 
+-- and where they end
+abbrev pub Ended : (rules : List (List ℕ)) (u : List ℕ → ℕ) (h : List ℕ) (n v : ℕ) (ends : List ℕ) → Type 0
+Ended rules u h n v ends = (j : ℕ) × Held rules u ending h n v ends j
+
 -- by a measure; the counts and the measure's totals are as they were
-pub record NumbersBy (rules plan measure : List (List ℕ)) (h : List ℕ) (n v : ℕ) (totals : List (List ℕ)) (numbers : List ℕ) (s : Sampled) : Type 0 where
+pub record NumbersBy (rules plan measure : List (List ℕ)) (h : List ℕ) (n v : ℕ) (totals : List (List ℕ)) (numbers ends : List ℕ) (s : Sampled) : Type 0 where
   pub hold : Hold rules (weighs rules measure) h n v numbers s
+  pub ended : recordsOf h ≤ length ends → (k : ℕ) → s ≡ Ready k → Ended rules (weighs rules measure) h n v ends
   pub still : Still rules plan measure totals n
 
 -- the counts of the length, an accepted history, and room for its places
@@ -101,7 +116,7 @@ pub record MatchingSought (rules totals : List (List ℕ)) (h : List ℕ) (a : Q
 -- the first tickets, of an accepted history, and the totals of the choice; or the first of 11 to 15 that applies
 abbrev pub Recorded : (rules₀ : List (List ℕ)) (h : List ℕ) (a : Question) (u : List ℕ → ℕ) (rules totals choice : List (List ℕ)) (numbers : List ℕ) → Sampled → Type 0
 Recorded rules₀ h a u rules totals choice numbers (Ready k) =
-    Accepted h × (k ≤ recordsOf h) × Heard rules₀ u h (a .length) (a .voice) (take k numbers) × Choice rules₀ a u rules totals choice
+    Accepted h × (k ≤ recordsOf h) × Heard rules₀ u beginning h (a .length) (a .voice) (take k numbers) × Choice rules₀ a u rules totals choice
 Recorded rules₀ h a u rules totals choice numbers (Refused r) =
     refusalNumber r ≡ firstThatApplies (historyRows h ++ ((ambiguousIn rules₀ h (a .length) (a .voice), 15) ∷ []))
 

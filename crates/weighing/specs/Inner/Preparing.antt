@@ -12,7 +12,7 @@ use Rattle.history.specs.Refusals.{Accepted}
 use Rattle.sampling.specs.Question.{plainly}
 use Rattle.sampling.specs.Inner.Skipping.{heardSpans, Told}
 use Rattle.sampling.specs.Inner.Collect.{spansBy}
-use Rattle.sampling.specs.Inner.Preparing.{SampledBy}
+use Rattle.sampling.specs.Inner.Preparing.{Ended, HeardBy, RecordedBy, SampledBy}
 use Rattle.sampling.specs.declared.prepare.Sampled.{Sampled}
 use Rattle.sampling.specs.declared.prepare.Sampled.the-variants.{Ready}
 use Rattle.weighing.specs.Weights.{weighs}
@@ -23,18 +23,28 @@ use Rattle.weighing.specs.Inner.Tables.{Lent, Weighed}
 abbrev pub behindWeights : ℕ
 behindWeights = 35
 
--- the tables, an accepted history with some records, room for their first tickets and for the charts of their sentences
-pub record FirstsSought (g : List ℕ) (n : ℕ) (weights : List ℕ) (rules totals : List (List ℕ)) (h numbers : List ℕ) : Type 0 where
+-- the tables, an accepted history with some records, room for their first tickets, for where these end, and for the charts of their sentences
+pub record FirstsSought (g : List ℕ) (n : ℕ) (weights : List ℕ) (rules totals : List (List ℕ)) (h numbers ends : List ℕ) : Type 0 where
   pub weighed : Weighed g n weights rules totals
   pub diary : Accepted h
   pub room : recordsOf h ≤ length numbers
+  pub ends-room : recordsOf h ≤ length ends
   pub charts : endOf behindWeights n ≤ length totals
 
+pub record FirstsAs (rules₀ : List (List ℕ)) (h : List ℕ) (n v : ℕ) (weights : List ℕ) (rules totals : List (List ℕ)) (numbers ends : List ℕ) (s : Sampled) : Type 0 where
+  pub heard : HeardBy rules₀ h (plainly n v) (weighs weights) rules totals weightsMap numbers s
+  pub ended : (k : ℕ) → s ≡ Ready k → Ended rules₀ (weighs weights) h n v ends
+
 -- the same of a history that isn't looked at yet
-pub record RecordsSought (g : List ℕ) (n : ℕ) (weights : List ℕ) (rules totals : List (List ℕ)) (h numbers : List ℕ) : Type 0 where
+pub record RecordsSought (g : List ℕ) (n : ℕ) (weights : List ℕ) (rules totals : List (List ℕ)) (h numbers ends : List ℕ) : Type 0 where
   pub weighed : Weighed g n weights rules totals
   pub room : Accepted h → recordsOf h ≤ length numbers
+  pub ends-room : Accepted h → recordsOf h ≤ length ends
   pub charts : Accepted h → 1 ≤ recordsOf h → endOf behindWeights n ≤ length totals
+
+pub record RecordsAs (rules₀ : List (List ℕ)) (h : List ℕ) (n v : ℕ) (weights : List ℕ) (rules totals : List (List ℕ)) (numbers ends : List ℕ) (s : Sampled) : Type 0 where
+  pub recorded : RecordedBy rules₀ h (plainly n v) (weighs weights) rules totals weightsMap numbers s
+  pub ended : (k : ℕ) → s ≡ Ready k → Ended rules₀ (weighs weights) h n v ends
 
 -- room for a history: for as many tickets and sums as it has records, and for charts if it has any
 pub record Room (n : ℕ) (h : List ℕ) (totals : List (List ℕ)) (numbers sums : List ℕ) : Type 0 where

@@ -1,33 +1,27 @@
--- What summing the weights of the heard derivations asks and gives back.
+-- What summing the weights of the heard derivations asks and gives back. They are a list of first tickets and weights.
 -- Assumes nothing: these are definitions.
 use mathlib.Core.Path.{_≡_}
-use mathlib.Core.List.{List, []}
+use mathlib.Core.List.{List, map}
 use Prim.Native.Nat.{ℕ, suc, _≤_}
 use lib.ListN.{length, getD, take}
-use Rattle.lists.specs.Joined.{_∈_, sumOver}
+use Rattle.lists.specs.Joined.{sumOver}
+use Rattle.lists.specs.Inner.Tickets.{gone}
 use Rattle.counting.specs.Refusals.{most}
-use Rattle.charts.specs.Inner.Maps.{weightsMap}
-use Rattle.ranking.specs.Inner.Inside.{weighs, weighIn, ticketsAt, Chooses}
+use Rattle.sampling.specs.Inner.Collect.{beginning, ending}
 
--- what the owner of a ticket weighs, and the owners of several together
-abbrev pub weightAt : (rules : List (List ℕ)) (n t : ℕ) → ℕ
-weightAt rules n t = weighs rules weightsMap (getD (ticketsAt rules weightsMap n) t (0, []) .1)
+-- their first tickets and, in as many places, where they end
+pub record SumsSought (l : List (ℕ × ℕ)) (firsts ends : List ℕ) : Type 0 where
+  pub firsts-are : firsts ≡ map beginning l
+  pub ends-are : take (length firsts) ends ≡ map ending l
+  pub fits : sumOver (λ (e : ℕ × ℕ). e .1) l ≤ most
+  pub few : length firsts ≤ 1000
+  pub room : length firsts ≤ length ends
 
-abbrev pub weightsAt : (rules : List (List ℕ)) (n : ℕ) (tickets : List ℕ) → ℕ
-weightsAt rules n tickets = sumOver (weightAt rules n) tickets
-
--- tickets whose owners together have no more than all, and room for as many sums
-pub record SumsSought (rules totals : List (List ℕ)) (n : ℕ) (heard sums : List ℕ) : Type 0 where
-  pub chooses : Chooses rules totals weightsMap n
-  pub inside : (t : ℕ) → t ∈ heard → suc t ≤ weighIn rules weightsMap n
-  pub fits : weightsAt rules n heard ≤ most
-  pub few : length heard ≤ 1000
-  pub room : length heard ≤ length sums
-
--- each of the first k sums is what the owners of so many tickets weigh
-pub record SummedTo (rules : List (List ℕ)) (n k : ℕ) (heard before after : List ℕ) : Type 0 where
+-- each of the first k ends has become what so many of them weigh
+pub record SummedTo (l : List (ℕ × ℕ)) (k : ℕ) (before after : List ℕ) : Type 0 where
   pub long : length after ≡ length before
-  pub each : (i : ℕ) → suc i ≤ k → getD after i 0 ≡ weightsAt rules n (take (suc i) heard)
+  pub each : (i : ℕ) → suc i ≤ k → getD after i 0 ≡ gone (suc i) l
+  pub rest : (i : ℕ) → k ≤ i → getD after i 0 ≡ getD before i 0
 
-abbrev pub SummedAs : (rules : List (List ℕ)) (n : ℕ) (heard before after : List ℕ) → Type 0
-SummedAs rules n heard before after = SummedTo rules n (length heard) heard before after
+abbrev pub SummedAs : (l : List (ℕ × ℕ)) (before after : List ℕ) → Type 0
+SummedAs l before after = SummedTo l (length l) before after

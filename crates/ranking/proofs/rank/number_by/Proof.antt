@@ -72,7 +72,7 @@ returns-2 c =
     let f = d .derivations .ensures chartRow (sought r) in
     let short = f .ready .blank .counted .short in
     rank-found _ _ (some e) (f .derivations)
-    (p .place .ensures _ (place-asks-counts f (some e) counts-map) ∙ counts-place _ counts-map (now (start r .args .sentence)) short)
+    (p .place .ensures _ (place-asks-counts f (some e) counts-map) .first-is ∙ counts-place _ counts-map (now (start r .args .sentence)) short)
     (c .count .ensures)
     ∙ rank-kept _ _ _ (r .ready .ensures .kept)
 

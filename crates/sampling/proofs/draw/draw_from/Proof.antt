@@ -50,11 +50,11 @@ write-requires c κs =
 
 returns-3 : tie.Need-returns-3
 returns-3 c =
-    let w = c .before .before .before in
+    let w = c .before .before in
     let k = w .before .before in
     let e = k .before in
     let t = e .before .before .before in
-    skipping-written _ _ _ _ _ _ _ _ _ _ _ _ (omega (arith, total t .total .ensures, heard t .1, e .before .if1 .left)) (e .if2 .left) (omega (arith, total t .total .ensures, heard t .1)) (k .skip .ensures) (w .write .ensures)
+    skipping-written _ _ _ _ _ _ _ _ _ _ _ (omega (arith, total t .total .ensures, heard t .1, e .before .if1 .left)) (e .if2 .left) (omega (arith, total t .total .ensures, heard t .1)) (k .skip .ensures) (w .write .ensures)
 
 pub draw-from-spec : {M : Type 1} → statement M
 draw-from-spec =

@@ -29,7 +29,7 @@ returns c =
     let f = c .before .before .before in
     let w = start f .pre in
     record {
-      hold = none-heard _ _ _ _ _ (now (start f .args .numbers)) (w .sought .diary) (sym (w .records-are) ∙ c .if1 .taken);
+      hold = none-heard _ _ _ _ _ _ (now (start f .args .numbers)) (w .sought .diary) (sym (w .records-are) ∙ c .if1 .taken);
       chosen = chooses-fitting w (f .fill .ensures) (still-charted w (f .fill .ensures));
     }
 
@@ -41,14 +41,14 @@ rows-requires c κs =
 
 numbers-by-requires : tie.Need-numbers-by-requires
 numbers-by-requires c κs =
-    let r = c .before .before .before .before .before .before in
+    let r = c .before .before .before .before .before .before .before in
     let f = filled r in
     asks-fitting (start f .pre) (f .fill .ensures) (rw (begun r .behind .ensures) at (r .rows .ensures))
 
 returns-2 : tie.Need-returns-2
 returns-2 c =
-    let k = c .before .before .before in
-    let r = k .before .before .before .before .before .before .before in
+    let k = c .before .before .before .before in
+    let r = k .before .before .before .before .before .before .before .before in
     let f = filled r in
     fitted (start f .pre) (f .fill .ensures) (rw (begun r .behind .ensures) at (r .rows .ensures)) (k .numbers-by .ensures)
 
@@ -62,6 +62,7 @@ fitting-numbers-spec =
     returns
     (λ c κs. search needs)
     rows-requires
+    (λ c. search needs)
     numbers-by-requires
     (λ c. search needs)
     (λ c. search needs)

@@ -32,7 +32,7 @@ ready-requires c κs =
 
 numbers-by-requires : tie.Need-numbers-by-requires
 numbers-by-requires c κs =
-    let r = c .before .before .before .before .before .before .before in
+    let r = c .before .before .before .before .before .before .before .before in
     let p = copies r in
     let a = counts p in
     let s = start a .pre in
@@ -40,8 +40,8 @@ numbers-by-requires c κs =
 
 returns : tie.Need-returns
 returns c =
-    let k = c .before .before .before in
-    let r = k .before .before .before .before .before .before .before .before in
+    let k = c .before .before .before .before in
+    let r = k .before .before .before .before .before .before .before .before .before in
     let p = copies r in
     let a = counts p in
     let s = start a .pre in
@@ -56,6 +56,7 @@ heard-numbers-in-spec =
     copy-requires-2
     (λ c. search needs)
     ready-requires
+    (λ c. search needs)
     (λ c. search needs)
     numbers-by-requires
     (λ c. search needs)

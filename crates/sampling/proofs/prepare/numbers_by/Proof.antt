@@ -1,59 +1,57 @@
 -- `numbers_by` meets its contract: what is collected, sorted, each once.
 -- Assumes nothing.
 use mathlib.Core.Path.{refl}
-use mathlib.Core.List.{List}
-use Prim.Native.Nat.{ℕ, _≤_}
+use Prim.Native.Nat.{_≤_}
 use native.Mathlib.Omega.{arith}
 use borrow.Author.Needs.{needs}
 use denote.Ref.{now}
 use lib.ListN.{length}
 use Rattle.history.specs.Layout.{recordsOf}
 use Rattle.history.proofs.Acceptance.{known}
-use Rattle.ranking.specs.Inner.Inside.{weighs}
-use Rattle.sampling.specs.Inner.Collect.{CollectedIs}
-use Rattle.sampling.specs.declared.heard.Collected.the-variants.{Numbers}
 use Rattle.sampling.proofs.Collect.{collect-case}
-use Rattle.sampling.proofs.Answering.{part-few, heard-sorted}
+use Rattle.sampling.proofs.Answering.{refused-unready, heard-ordered}
 use Rattle.sampling.proofs.prepare.numbers_by.Statement.{statement}
 use Rattle.sampling.proofs.prepare.numbers_by.Tie as tie
 
 abbrev start : tie.After-collect → tie.Start
-start c = c .before .before .before .before .before .before
+start c = c .before .before .before .before .before .before .before .before
 
-abbrev collected : tie.After-known-told → tie.After-collect
-collected c = c .before .before .before .before .before .before
+-- how many places were found is known
+abbrev collected : tie.After-c → tie.After-collect
+collected c = c .before .before .before .before .before .before .before
 
--- the places, before they are sorted
-abbrev found : tie.After-collect → List ℕ
-found c = c .collect .last .1 .1 .1 .1 .1 .1 .1 .0
+few : (c : tie.After-c) → c .c .given .0 .0 ≤ 1000
+few c =
+    let k = collected c in
+    let found = collect-case (k .collect .ensures) (c .c .given .1) in
+    omega (arith, found .holds .1, known _ (start k .pre .diary) .sized .few)
 
-numbered : (c : tie.After-known-told)
-    → let a = start (collected c) .args in
-    CollectedIs (now (a .rules)) (weighs (now (a .rules)) (now (a .measure))) (now (a .h)) (a .question .length) (a .question .voice) (found (collected c)) (Numbers (c .before .c .given .0 .0))
-numbered c = collect-case (collected c .collect .ensures) (c .before .c .given .1)
+order-first-requires : tie.Need-order-first-requires
+order-first-requires c κs = few (c .before .before)
 
-lengthy : (c : tie.After-collect) → recordsOf (now (start c .args .h)) ≤ length (found c)
-lengthy c = omega (arith, c .collect .kept .1 .1 .1 .1 .1 .1 .1 .0, start c .pre .room)
-
-part-order-end : tie.Need-part-order-end
-part-order-end c = let n = numbered c in let l = lengthy (collected c) in omega (arith, n .1, l)
-
-order-requires : tie.Need-order-requires
-order-requires c κs =
-    let k = c .before in
-    let n = numbered k in
-    part-few (k .before .c .given .0 .0) 1000 (found (collected k)) (omega (arith, n .1, known _ (start (collected k) .pre .diary) .sized .few))
+order-first-requires-2 : tie.Need-order-first-requires-2
+order-first-requires-2 c κs = few (c .before .before .before .before .before .before)
 
 returns : tie.Need-returns
 returns c =
-    let k = c .before .before .before .before .before in
-    record { hold = (collect-case (k .collect .ensures) (c .enum-told .given .1), refl); still = k .collect .ensures .still }
+    let k = c .before .before .before .before .before .before .before in
+    let found = collect-case (k .collect .ensures) (c .enum-told .given .1) in
+    record { hold = (found .holds, refl); ended = λ long j e. absurd (refused-unready e); still = found .still }
 
 returns-2 : tie.Need-returns-2
 returns-2 c =
-    let s = c .before .before in
-    let t = s .before .before in
-    record { hold = heard-sorted _ _ _ _ _ _ _ _ _ _ (numbered t) (s .order .ensures); still = collected t .collect .ensures .still }
+    let o = c .before .before in
+    let t = o .before .before .before .before .before .before .before in
+    let k = collected t in
+    let found = collect-case (k .collect .ensures) (t .c .given .1) in
+    let first = o .before .before .before .before in
+    record {
+      hold = heard-ordered _ _ _ _ _ _ _ _ _ _ (found .holds) (omega (arith, k .collect .kept .1 .1 .1 .1 .1 .1 .1 .0, start k .pre .room)) (first .order-first .ensures);
+      ended = λ long j e.
+          let room : recordsOf (now (start k .args .h)) ≤ length (k .collect .last .1 .1 .1 .1 .1 .1 .1 .1 .0) = omega (arith, o .order-first2 .kept .0, long) in
+          (_, heard-ordered _ _ _ _ _ _ _ _ _ _ (found .ended room) room (o .order-first2 .ensures));
+      still = found .still;
+    }
 
 pub numbers-by-spec : {M : Type 1} → statement M
 numbers-by-spec =
@@ -62,13 +60,13 @@ numbers-by-spec =
     (λ c κs. search needs)
     (λ c. search needs)
     (λ c. search needs)
+    order-first-requires
+    order-first-requires-2
     (λ c. search needs)
-    (λ c. search needs)
-    part-order-end
-    order-requires
     (λ c. search needs)
     (λ c. search needs)
     returns
+    (λ c. search needs)
     (λ c. search needs)
     (λ c. search needs)
     returns-2)

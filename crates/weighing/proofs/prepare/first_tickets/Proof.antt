@@ -9,13 +9,13 @@ use Rattle.weighing.proofs.prepare.first_tickets.Statement.{statement}
 use Rattle.weighing.proofs.prepare.first_tickets.Tie as tie
 
 abbrev start : tie.After-ready → tie.Start
-start c = c .before .before .before .before .before .before .before
+start c = c .before .before .before .before .before .before .before .before
 
 abbrev readied : tie.After-rows → tie.After-ready
 readied c = c .before .before .before .before
 
 ready-requires : tie.Need-ready-requires
-ready-requires c κs = let s = c .before .before .before .before .before .before .pre .2 in firsts-ready (s .weighed) refl refl (wide-made 17 16 0) (s .charts)
+ready-requires c κs = let s = c .before .before .before .before .before .before .before .pre .2 in firsts-ready (s .weighed) refl refl (wide-made 17 16 0) (s .charts)
 
 rows-requires : tie.Need-rows-requires
 rows-requires c κs =
@@ -25,16 +25,16 @@ rows-requires c κs =
 
 numbers-by-requires : tie.Need-numbers-by-requires
 numbers-by-requires c κs =
-    let p = c .before .before .before .before .before .before in
+    let p = c .before .before .before .before .before .before .before in
     let r = readied p in
     firsts-collect (start r .pre .2) (r .ready .ensures) (p .rows .ensures)
 
 returns : tie.Need-returns
 returns c g weights s =
-    let k = c .before .before .before in
-    let p = k .before .before .before .before .before .before .before in
+    let k = c .before .before .before .before .before in
+    let p = k .before .before .before .before .before .before .before .before in
     let r = readied p in
-    firsts-heard s (r .ready .ensures) (p .rows .ensures) (k .numbers-by .ensures)
+    firsts-heard s (r .ready .ensures) (p .rows .ensures) (k .numbers-by .kept .1 .1 .1 .1 .1 .1 .1 .1 .0) (k .numbers-by .ensures)
 
 pub first-tickets-spec : {M : Type 1} → statement M
 first-tickets-spec =
@@ -43,6 +43,7 @@ first-tickets-spec =
     ready-requires
     rows-requires
     numbers-by-requires
+    (λ c. search needs)
     (λ c. search needs)
     (λ c. search needs)
     (λ c. search needs)
