@@ -1,4 +1,4 @@
--- A row that is 0 outside a set, cleared member after member: it is 0 outside the members left, and at the end all 0.
+-- A row that is 0 outside a set, cleared by a member: it is 0 outside the members left, and all 0 where none is left.
 -- Assumes nothing.
 use mathlib.Core.Path.{_≡_, refl, sym, ap, _∙_}
 use mathlib.Core.List.{List, [], _∷_}
@@ -31,10 +31,10 @@ module _ {s row : ℕ} {before : List (List ℕ)} (q : Clears s row before) wher
   clear-start = record { same = sym (set-getD before row []); wide = q .wide .row row (q .inside); zero = q .zero }
 
   module _ {now : List (List ℕ)} {left : ℕ} (w : ClearWalk row before now left) where
-    pub clear-long : length now ≡ length before
+    clear-long : length now ≡ length before
     clear-long = ap length (w .same) ∙ length-set before row (getD now row [])
 
-    pub clear-inside : row < length now
+    clear-inside : row < length now
     clear-inside = omega (arith, clear-long, q .inside)
 
     pub clear-end : left ≡ 0 → now ≡ blanked before row

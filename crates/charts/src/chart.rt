@@ -19,17 +19,21 @@ use grammar::rules;
 
 // ---- a row to begin with
 
-// A row that is 0 outside the set becomes all 0.
+// A row that is 0 outside the set becomes all 0. One number is cleared by itself, of several the whole row: that takes less time than one after another.
 fn clear(set: u32, row: usize, totals: &mut [[u64; 32]])
     requires { ⌜ Clears set row (now totals) ⌝ }
     ensures { λ _. ⌜ now (totals .exit) ≡ blanked (now (totals .entry)) row ⌝ }
 {
-    let mut left = set;
-    while left != 0 {
-        let a = sets::lowest(left);
-        totals[row][a] = 0;
-        left = sets::after_lowest(left);
+    if set == 0 {
+        return;
     }
+    let others = sets::after_lowest(set);
+    if others != 0 {
+        totals[row] = [0u64; 32];
+        return;
+    }
+    let a = sets::lowest(set);
+    totals[row][a] = 0;
 }
 
 // ---- one position

@@ -16,7 +16,7 @@ use Rattle.lists.specs.Ordered.{Distinct, none, more}
 use Rattle.lists.specs.Inner.Tickets.{ahead, owner, place, firstTicket, Owns}
 use Rattle.lists.specs.Searched.{bit, howMany, firstPlace, times}
 use Rattle.lists.proofs.Sums.{sum-append, sum-plus, sum-const, sum-one, sum-le, sum-single, length-upFrom}
-use Rattle.lists.proofs.Tests.{bit-le}
+use Rattle.lists.proofs.Tests.{bit-true, bit-le}
 use Rattle.lists.proofs.Owners.{owned, owns-place, place-inside, owns-only, owns-ext, owner-at}
 
 -- ---- how many
@@ -29,10 +29,6 @@ module _ {X : Type 0} where
   many-at P (x ∷ l) (suc i) z h e = omega (arith, many-at P l i z (omega arith) e)
 
 -- ---- the place of one that passes
-
-bit-true : (b : Bool) → 0 < bit b → b ≡ true
-bit-true true h = refl
-bit-true false h = absurd (omega arith)
 
 module _ {X : Type 0} (P : X → Bool) where
   -- its first ticket by u is the place, by u, of the owner of ticket 0, where each that passes has a ticket

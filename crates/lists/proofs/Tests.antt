@@ -20,6 +20,10 @@ pub bit-le : (b : Bool) → bit b ≤ 1
 bit-le true = omega arith
 bit-le false = omega arith
 
+pub bit-true : (b : Bool) → 0 < bit b → b ≡ true
+bit-true true h = refl
+bit-true false h = absurd (omega arith)
+
 pub bit-and : (a b : Bool) → bit (a && b) ≡ bit a * bit b
 bit-and true b = omega arith
 bit-and false b = omega arith

@@ -3,7 +3,7 @@
 -- sentence alone weighs 1: the whole weighs how many derivations it has, and the owner of ticket 0 is the first.
 -- Assumes nothing.
 use mathlib.Core.Path.{_≡_, refl, sym, ap, _∙_}
-use mathlib.Core.Bool.{Bool, true, false}
+use mathlib.Core.Bool.{true}
 use mathlib.Core.List.{List, [], _∷_, List·Memᴰ·head, Memᴰ·append-right}
 use Prim.Native.Nat.{ℕ, suc, _+_, _-_, _≤_, _<_}
 use native.Mathlib.Omega.{arith}
@@ -17,7 +17,7 @@ use Rattle.lists.specs.Inner.Tables.{entry}
 use Rattle.lists.specs.Inner.Struck.{numbered}
 use Rattle.lists.proofs.Sums.{sum-ext, sum-one}
 use Rattle.lists.proofs.Members.{At-∈}
-use Rattle.lists.proofs.Tests.{bit-and, both-ways, same-eq}
+use Rattle.lists.proofs.Tests.{bit-true, bit-and, both-ways, same-eq}
 use Rattle.lists.proofs.Owners.{tickets-plain}
 use Rattle.lists.proofs.Struck.{numbered-∈, tickets-ext, owns-ticket}
 use Rattle.lists.proofs.Searches.{by-first}
@@ -31,10 +31,6 @@ use Rattle.counting.specs.Inner.Letters.{any, letterWeight}
 use Rattle.charts.specs.Inner.Letters.{letterAt, weightBy, admits, stands}
 use Rattle.charts.specs.Inner.Maps.{Everywhere}
 use Rattle.ranking.specs.Inner.Inside.{fullIn, readingsIn, weighs, weighIn, ticketsAt, placeIn}
-
-bit-true : (b : Bool) → 0 < bit b → b ≡ true
-bit-true true h = refl
-bit-true false h = absurd (omega arith)
 
 eqb-flip : (x y : ℕ) → eqb x y ≡ eqb y x
 eqb-flip x y = both-ways (eqb x y) (eqb y x) (λ e. eq-eqb y x (sym (eqb-true x y e))) (λ e. eq-eqb x y (sym (eqb-true y x e)))

@@ -110,7 +110,7 @@ refused-unready e = let q : _≡_ {A = ℕ} 0 1 = cc in omega arith
 -- ---- the heard places, sorted
 
 -- the part with them is lent to be sorted
-pub part-few : (k n : ℕ) (l : List ℕ) → k ≤ n → length (take (k - 0) l) ≤ n
+part-few : (k n : ℕ) (l : List ℕ) → k ≤ n → length (take (k - 0) l) ≤ n
 part-few k n l h = omega (arith, length-take (k - 0) l)
 
 -- they stand then at the front of the whole

@@ -18,7 +18,7 @@ use Rattle.lists.specs.Inner.Tickets.{firstTicket, owner, place, StruckAs}
 use Rattle.lists.specs.Inner.Struck.{numbered}
 use Rattle.lists.proofs.Members.{At-∈, ∈-concat, concat-∈}
 use Rattle.lists.proofs.Sums.{sum-append}
-use Rattle.lists.proofs.Tests.{and-left, and-right, or-left, or-right, same-eq, same-refl}
+use Rattle.lists.proofs.Tests.{bit-true, and-left, and-right, or-left, or-right, same-eq, same-refl}
 use Rattle.lists.proofs.Owners.{owned, owns-only}
 use Rattle.lists.proofs.Searches.{by-first, first-map}
 use Rattle.lists.proofs.Struck.{numbered-∈, numbered-sum, unnumbered, Below, struck-at-∈, struck-told, by-strike}
@@ -30,10 +30,6 @@ use Rattle.sampling.specs.Question.{plainly}
 use Rattle.sampling.specs.Unheard.{outside}
 use Rattle.sampling.specs.Inner.Collect.{spansBy}
 use Rattle.sampling.proofs.Barred.{listed-length, no-entry, heard-∈, ∈-heard}
-
-bit-true : (b : Bool) → 0 < bit b → b ≡ true
-bit-true true h = refl
-bit-true false h = absurd (omega arith)
 
 module _ (g : List ℕ) (n : ℕ) (u : List ℕ → ℕ) where
   -- the derivations with their numbers, and what they weigh

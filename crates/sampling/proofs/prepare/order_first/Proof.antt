@@ -2,7 +2,7 @@
 -- Assumes nothing.
 use native.Mathlib.Omega.{arith}
 use borrow.Author.Needs.{needs}
-use Rattle.sampling.proofs.Answering.{part-few, sorted-first}
+use Rattle.sampling.proofs.Answering.{sorted-first}
 use Rattle.sampling.proofs.prepare.order_first.Statement.{statement}
 use Rattle.sampling.proofs.prepare.order_first.Tie as tie
 

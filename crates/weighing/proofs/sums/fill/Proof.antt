@@ -2,10 +2,9 @@
 -- measure is how many are left. Assumes nothing.
 use mathlib.Core.Path.{_≡_, refl}
 use mathlib.Core.List.{List}
-use Prim.Native.Nat.{ℕ, _-_, _≤_, _<_}
+use Prim.Native.Nat.{ℕ, _-_, _<_}
 use native.Mathlib.Omega.{arith}
 use borrow.Author.Needs.{needs}
-use denote.Ref.{now}
 use lib.ListN.{length}
 use Rattle.weighing.specs.Inner.Sums.{SumsSought}
 use Rattle.weighing.proofs.Summing.{Summing, summing-start, summing-above, summing-fits, summing-turn, summing-end}
