@@ -8,7 +8,7 @@ use Prim.Native.Nat.{ℕ, zero, suc, _+_, _*_, _/_, _%_, _≤_, _<_}
 use native.Mathlib.Omega.{arith}
 use native.Mathlib.Nat.{mod-lt, div-add-mod'}
 use native.Mathlib.Numerals.{add-one}
-use native.Mathlib.Decide.{ℕ-discrete, decLe}
+use native.Mathlib.Decide.{ℕ-discrete}
 use borrow.Author.Tests.{eq-eqb, ne-eqb}
 use lib.Dec.{lit<}
 use lib.ListN.{length, getD, set, length-set}
@@ -17,7 +17,7 @@ use Rattle.lists.proofs.Tables.{put-same, put-row, put-beside, put-other-row, w
 use Rattle.grammar.specs.Inner.Rules.{wordAt, leftAt, rightAt, wordFrom, pairFrom, countIn}
 use Rattle.grammar.specs.Inner.Links.{last, bothAt, Keyed, Unlinked, LinkedAs}
 use Rattle.grammar.specs.Inner.Linking.{LinkedTo, Beside, LinksWords, LinksPairs, LinkedMoreAs}
-use Rattle.grammar.proofs.Ruling.{rising, word-below, pair-below}
+use Rattle.grammar.proofs.Ruling.{one-holder, word-below, pair-below}
 use Rattle.grammar.proofs.Kept.{ruled-kept}
 
 -- ---- the last place with a key
@@ -83,15 +83,7 @@ record Owned (k : Kind) (t : List (List ℕ)) (a i : ℕ) : Type 0 where
 
 -- a place is in the run of one nonterminal only
 one-owner : {k : Kind} {t : List (List ℕ)} {a b i : ℕ} → ((b : ℕ) → b < countIn t → k .from t b ≤ k .from t (b + 1)) → Owned k t a i → Owned k t b i → a ≡ b
-one-owner {k} {t} {a} {b} rises o p =
-    elim (decLe (a + 1) b) [
-      | yes z ↦ absurd (omega (arith, rising (k .from t) (a + 1) b (λ d l. rises d (omega (arith, p .inside))) z, o .upper, p .lower))
-      | no z ↦
-          elim (decLe (b + 1) a) [
-            | yes y ↦ absurd (omega (arith, rising (k .from t) (b + 1) a (λ d l. rises d (omega (arith, o .inside))) y, o .lower, p .upper))
-            | no y ↦ omega arith
-          ]
-    ]
+one-owner {k} {t} rises o p = one-holder (k .from t) rises (o .inside) (p .inside) (o .lower) (o .upper) (p .lower) (p .upper)
 
 -- links whose rows are as they were
 keyed-kept : {k : Kind} {first end : ℕ} → Fit k first end → {t s : List (List ℕ)} {n : ℕ} → Beside t s

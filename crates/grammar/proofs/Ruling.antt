@@ -98,6 +98,19 @@ module _ (from : ℕ → ℕ) where
         | no e ↦ omega (arith, rising M N (λ a l. r a (omega arith)) (omega arith), rw (add-one N) at (r N (omega arith)))
       ]
 
+  -- and a place lies with one nonterminal only
+  pub one-holder : {N a b i : ℕ} → ((d : ℕ) → d < N → from d ≤ from (d + 1)) → a < N → b < N → from a ≤ i → i < from (a + 1) → from b ≤ i → i < from (b + 1)
+      → a ≡ b
+  one-holder {N} {a} {b} r a-in b-in a-from a-to b-from b-to =
+      elim (decLe (a + 1) b) [
+        | yes z ↦ absurd (omega (arith, rising (a + 1) b (λ d l. r d (omega arith)) z))
+        | no z ↦
+            elim (decLe (b + 1) a) [
+              | yes y ↦ absurd (omega (arith, rising (b + 1) a (λ d l. r d (omega arith)) y))
+              | no y ↦ omega arith
+            ]
+      ]
+
 module _ (rules : List (List ℕ)) (a i : ℕ) where
   pub word-listed : wordFrom rules a ≤ i → i < wordFrom rules (a + 1) → wordAt rules i ∈ wordsIn rules a
   unfolding wordsIn

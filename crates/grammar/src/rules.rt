@@ -37,6 +37,10 @@ pub const PAIR_OWNER: usize = 8;
 pub const WITH_PAIR: usize = 9;
 // The weights of the words.
 pub const WEIGHTS: usize = 13;
+// What the nonterminal's words before one weigh together, at its place: the low byte and the high one.
+pub const BEFORE_LOW: usize = 14;
+
+pub const BEFORE_HIGH: usize = 15;
 
 pub fn wide(x: u8) -> usize
     ensures { λ r. ⌜ (r ≡ x) × (r < 256) ⌝ }

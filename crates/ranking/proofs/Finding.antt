@@ -27,7 +27,7 @@ use Rattle.counting.specs.declared.prepare.Prepared.the-variants.{Ready as Pass
 use Rattle.counting.proofs.Asking.{asked-whole}
 use Rattle.counting.proofs.Counts.{T-sentences}
 use Rattle.charts.proofs.Placing.{room-short, room-low}
-use Rattle.counting.specs.Inner.Letters.{any, weighed}
+use Rattle.counting.specs.Inner.Letters.{any, weighed, Summed}
 use Rattle.charts.specs.Inner.Letters.{letterAt, weightBy}
 use Rattle.charts.specs.Inner.Maps.{totalAt, Span, Mapped, Everywhere, LetteredAs}
 use Rattle.charts.specs.Inner.Plan.{lengthIn, needed}
@@ -210,7 +210,7 @@ module _ {rules plan map : List (List ℕ)} {first : ℕ} {s sets : List ℕ} {t
 -- a sentence with derivations, once its chart is filled, and a measure whose totals the table has over the same spans
 module _ {rules plan map : List (List ℕ)} {first : ℕ} {s : List ℕ} {before : List (List ℕ)} {sets : List ℕ} {totals : List (List ℕ)} {k : ℕ}
     (f : FoundAs rules plan map first s before sets totals k) (some : 1 ≤ k) {measure : List (List ℕ)} where
-  pub place-asks : Mapped rules totals measure (length s) (needed plan) → ((p : ℕ) → p < length s → letterAt measure p ≡ weighed → 14 ≤ length rules)
+  pub place-asks : Mapped rules totals measure (length s) (needed plan) → ((p : ℕ) → p < length s → letterAt measure p ≡ weighed → Summed rules)
       → PlaceSought rules totals map measure (length s) s
   place-asks m measures = record {
     long = refl;

@@ -18,8 +18,8 @@ use Rattle.lists.proofs.Parts.{passed-none, passed-size, passed-many, passed-he
 use Rattle.grammar.specs.Inner.Rules.{wordAt, wordFrom, wordsIn}
 use Rattle.grammar.proofs.Ruling.{word-count, word-here}
 use Rattle.counting.specs.Refusals.{most}
-use Rattle.counting.specs.Inner.Letters.{any, weighed, byLetter}
-use Rattle.counting.proofs.Lettered.{by-any, by-word, by-same, letter-ones}
+use Rattle.counting.specs.Inner.Letters.{any, weighed, byLetter, beforeAt}
+use Rattle.counting.proofs.Lettered.{by-any, by-word, by-same, letter-ones, letter-weights}
 use Rattle.walk.specs.Inner.Steps.{HasWord, WordPlacedAs, WordSought, PickedAs, LeafAs}
 
 module _ {rules : List (List ℕ)} {by to a t : ℕ} (s : WordSought rules by to a t) where
@@ -83,22 +83,40 @@ module _ {rules : List (List ℕ)} {by to a t : ℕ} (s : WordSought rules by to
       some = ∈-times by words (omega (arith, many, s .ticket));
     }
 
-    pub word-picked : (f : to ≡ any) {i : ℕ} → WordPlacedAs rules by a i → PickedAs rules by to a t by (i - wordFrom rules a) 1 1 0
-    word-picked f {i} h =
-        let j = i - wordFrom rules a in
-        let inside : j < length words = omega (arith, size, h .from, h .to) in
-        let back : wordFrom rules a + j ≡ i = omega (arith, h .from) in
-        let z : getD words j 0 ≡ by = word-here rules a j (omega (arith, h .from, h .to)) ∙ ap (wordAt rules) back ∙ h .word in
-        let one = by-same rules by by not-any not-weighed refl in
-        let all : sumOver (byLetter rules by) words ≡ byLetter rules by by = omega (arith, many, one, s .table .once a by (s .inside), s .ticket) in
-        let none : t ≡ 0 = omega (arith, s .ticket, all, one) in
-        let q = owns-only {v = byLetter rules by} {u = byLetter rules to} (take j words) by (drop (suc j) words) (rw z at (split-at words j 0 inside)) all (omega (arith, one)) in
-        let n : sumOver (byLetter rules to) (take j words) ≡ j = ones to f (take j words) ∙ length-take-le j words (omega arith) in
-        record {
-          owns = rw none (rw n at q);
-          measured-is = sym (by-any rules to by f);
-          weight-is = sym one;
-        }
+    module _ {i : ℕ} (h : WordPlacedAs rules by a i) where
+      abbrev j : ℕ
+      j = i - wordFrom rules a
+
+      inside : j < length words
+      inside = omega (arith, size, h .from, h .to)
+
+      pub place-low : i ≤ 255
+      place-low = omega (arith, h .to, few)
+
+      back : wordFrom rules a + j ≡ i
+      back = omega (arith, h .from)
+
+      -- its place is what the words before it measure
+      picked-at : {place measured : ℕ} → place ≡ sumOver (byLetter rules to) (take j words) → measured ≡ byLetter rules to by
+          → PickedAs rules by to a t by place measured 1 0
+      picked-at p m =
+          let z : getD words j 0 ≡ by = word-here rules a j (omega (arith, h .from, h .to)) ∙ ap (wordAt rules) back ∙ h .word in
+          let one = by-same rules by by not-any not-weighed refl in
+          let all : sumOver (byLetter rules by) words ≡ byLetter rules by by = omega (arith, many, one, s .table .once a by (s .inside), s .ticket) in
+          let none : t ≡ 0 = omega (arith, s .ticket, all, one) in
+          record {
+            owns = rw (none, p) (owns-only {v = byLetter rules by} {u = byLetter rules to} (take j words) by (drop (suc j) words) (rw z at (split-at words j 0 inside)) all (omega (arith, one)));
+            measured-is = m;
+            weight-is = sym one;
+          }
+
+      -- where each counts once that is how many they are, and by weight it stands in the table
+      pub word-picked : to ≡ any → PickedAs rules by to a t by j 1 1 0
+      word-picked f = picked-at (sym (ones to f (take j words) ∙ length-take-le j words (omega (arith, inside)))) (sym (by-any rules to by f))
+
+      pub word-weighed : to ≡ weighed → {place measured : ℕ} → place ≡ beforeAt rules i → measured ≡ byLetter rules to by
+          → PickedAs rules by to a t by place measured 1 0
+      word-weighed f e = picked-at (e ∙ ap (beforeAt rules) (sym back) ∙ s .measures f .before a j (s .inside) inside ∙ sym (letter-weights rules to f (take j words)))
 
 -- ---- a scan
 

@@ -8,6 +8,7 @@ use crate::Found;
 use charts::maps::LETTERS;
 use counting::letters;
 use counting::letters::ANY;
+use counting::letters::WEIGHED;
 use grammar::rules;
 use grammar::rules::NEXT_WORD;
 use grammar::rules::WITH_WORD;
@@ -61,7 +62,7 @@ fn scan(rules: &[[u8; 256]], by: u16, to: u16, a: usize, ticket: u64) -> Picked
     }
 }
 
-// The word that owns the ticket. Where the measure counts each word once there is no scan.
+// The word that owns the ticket. Where the measure counts each word once there is no scan, nor where one word is asked for and the weights measure.
 fn pick(rules: &[[u8; 256]], by: u16, to: u16, a: usize, ticket: u64) -> Picked
     requires { ⌜ WordSought (now rules) by to a ticket ⌝ }
     ensures { λ r. ⌜ PickedAs (now (rules .entry)) by to a ticket (r .word) (r .place) (r .measured) (r .weight) (r .offset) ⌝ }
@@ -83,6 +84,19 @@ fn pick(rules: &[[u8; 256]], by: u16, to: u16, a: usize, ticket: u64) -> Picked
                 word: by as u8,
                 place: (i - from) as u64,
                 measured: 1,
+                weight: 1,
+                offset: 0,
+            };
+        }
+    }
+    if by < ANY {
+        if to == WEIGHED {
+            let i = place_of(rules, by as usize, a);
+            let word = by as u8;
+            return Picked {
+                word,
+                place: letters::before(rules, i),
+                measured: letters::weight(rules, to, word),
                 weight: 1,
                 offset: 0,
             };

@@ -136,7 +136,7 @@ module _ {g : List ℕ} {n v : ℕ} (weights : List ℕ) {rules₀ rules totals�
         same : (r : ℕ) → r < 4 → getD set r [] ≡ getD rules r []
         same r h = s .others r (λ z. omega arith)
 
-        set-long : 14 ≤ length set
+        set-long : 16 ≤ length set
         set-long = omega (arith, s .long, k .rules-kept .long, l .rules-long)
 
         holds : Holds g set
@@ -145,7 +145,7 @@ module _ {g : List ℕ} {n v : ℕ} (weights : List ℕ) {rules₀ rules totals�
         pub tally-sought : Tallies set n totals
         tally-sought = record {
           table = holds .table;
-          weights = set-long;
+          weights = omega (arith, set-long);
           some = tabled .counted .some;
           short = tabled .counted .short;
           long = omega (arith, k .totals-kept .long, l .long);

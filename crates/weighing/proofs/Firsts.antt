@@ -17,11 +17,12 @@ use Rattle.grammar.specs.Trees.{sentence}
 use Rattle.grammar.specs.Inner.Rules.{startIn, ruled}
 use Rattle.grammar.proofs.Kept.{ruled-same, ruled-kept}
 use Rattle.grammar.proofs.Enumeration.{sound}
-use Rattle.counting.specs.Inner.Letters.{any, weighed, byLetter}
+use Rattle.counting.specs.Inner.Letters.{any, weighed, byLetter, Summed}
 use Rattle.counting.specs.Totals.{totalBy}
 use Rattle.counting.specs.Inner.Counted.{Asked, Counted, Tallied}
 use Rattle.counting.specs.Inner.Sentences.{weight}
-use Rattle.counting.proofs.Asking.{asked-of}
+use Rattle.counting.proofs.Asking.{asked-of, counted-kept}
+use Rattle.counting.proofs.Lettered.{summed-by}
 use Rattle.counting.proofs.Totals.{total-within}
 use Rattle.charts.specs.Inner.Letters.{letterAt, weightBy, stands}
 use Rattle.charts.specs.Inner.Maps.{rowAt, Span, ByLength, weightsRow, weightsMap}
@@ -45,7 +46,7 @@ use Rattle.sampling.specs.declared.prepare.Sampled.the-variants.{Ready}
 use Rattle.sampling.proofs.Readying.{held-same, hold-same, full-same}
 use Rattle.sampling.proofs.Answering.{none-heard, fitted-recorded}
 use Rattle.weighing.specs.Weights.{weightOf, weighs}
-use Rattle.weighing.specs.Inner.Tables.{Weighed}
+use Rattle.weighing.specs.Inner.Tables.{Weighed, SumsUp, SummedUpAs}
 use Rattle.weighing.specs.Inner.Preparing.{behindWeights, FirstsSought, FirstsAs, RecordsAs}
 use Rattle.weighing.proofs.Weighing.{left-weighty, derived-some}
 
@@ -126,24 +127,38 @@ module _ {g : List ℕ} {n : ℕ} {weights : List ℕ} {rules totals : List (Lis
     recorded = fitted-recorded rules h (plainly n v) ok
         (record {
           hold = none-heard rules (weighs weights) beginning h n v numbers ok none;
-          chosen = record { kept = λ r l. refl; chooses = weights-choose counted (w .tallied) (w .rules-long); weigh = weigh-agrees };
+          chosen = record { kept = λ r l. refl; chooses = weights-choose counted (w .tallied) (omega (arith, w .rules-long)); weigh = weigh-agrees };
         });
     ended = λ k e. (0, none-heard rules (weighs weights) ending h n v ends ok none);
   }
 
-  pub firsts-ready : {plan map : List (List ℕ)} → length plan ≡ 4 → length map ≡ 17 → Wide map 16 → endOf behindWeights n ≤ length totals → Readies rules totals n plan map
-  firsts-ready p m d room = record {
-    blank = record { counted = counted; zeros = w .none; room = omega arith };
-    unlinked = record {
-      table = counted .table;
-      long = omega (arith, w .rules-long);
-      no-words = λ x l. w .unlinked 4 x (omega arith) (omega arith);
-      no-pairs = λ x l. w .unlinked (9 + x / 256) (x % 256) (omega arith) (omega arith);
-    };
-    plan-long = p;
-    map-long = m;
-    map-wide = d;
-  }
+  pub firsts-sum : SumsUp rules
+  firsts-sum = record { table = counted .table; long = w .rules-long }
+
+  -- summing up leaves the rules, the weights, and the rows of the links
+  module _ {summed : List (List ℕ)} (u : SummedUpAs rules summed) where
+    summed-row : (r : ℕ) → r < 14 → getD summed r [] ≡ getD rules r []
+    summed-row r l = u .others r (λ e. omega arith) (λ e. omega arith)
+
+    summed-counted : Counted summed totals n
+    summed-counted = counted-kept (omega (arith, u .long, w .rules-long)) (u .wide) (λ r l. summed-row r (omega arith)) counted
+
+    summed-unlinked : (r i : ℕ) → 4 ≤ r → r < 13 → entry summed r i ≡ 0
+    summed-unlinked r i l h = ap (λ (x : List ℕ). getD x i 0) (summed-row r (omega arith)) ∙ w .unlinked r i l h
+
+    pub firsts-ready : {plan map : List (List ℕ)} → length plan ≡ 4 → length map ≡ 17 → Wide map 16 → endOf behindWeights n ≤ length totals → Readies summed totals n plan map
+    firsts-ready p m d room = record {
+      blank = record { counted = summed-counted; zeros = w .none; room = omega arith };
+      unlinked = record {
+        table = summed-counted .table;
+        long = omega (arith, u .summed .long);
+        no-words = λ x l. summed-unlinked 4 x (omega arith) (omega arith);
+        no-pairs = λ x l. summed-unlinked (9 + x / 256) (x % 256) (omega arith) (omega arith);
+      };
+      plan-long = p;
+      map-long = m;
+      map-wide = d;
+    }
 
 -- ---- the collecting
 
@@ -154,19 +169,24 @@ module _ {g : List ℕ} {n : ℕ} {weights : List ℕ} {rules totals : List (Lis
   short : n ≤ 16
   short = counted w .short
 
-  module _ {after plan map₀ : List (List ℕ)} (r : ReadiedAs rules after plan map₀ totals n) where
-    -- linking leaves the rules, and the weights
-    row-kept : (i : ℕ) → entry after 13 i ≡ entry rules 13 i
-    row-kept i = ap (λ (l : List ℕ). getD l i 0) (r .rest 13 (omega arith))
+  module _ {summed after plan map₀ : List (List ℕ)} (u : SummedUpAs rules summed) (r : ReadiedAs summed after plan map₀ totals n) where
+    -- linking leaves the rules, the weights, and what is summed up of them
+    rules-kept : (q : ℕ) → q < 4 → getD after q [] ≡ getD rules q []
+    rules-kept q l = r .kept q l ∙ summed-row w u q (omega arith)
 
-    linked-long : 14 ≤ length after
-    linked-long = omega (arith, r .size, w .rules-long)
+    row-kept : (i : ℕ) → entry after 13 i ≡ entry rules 13 i
+    row-kept i = ap (λ (l : List ℕ). getD l i 0) (r .rest 13 (omega arith) ∙ summed-row w u 13 (omega arith))
+
+    linked-summed : Summed after
+    linked-summed =
+        summed-by summed (omega (arith, r .size, u .summed .long)) (r .kept) (r .rest 13 (omega arith))
+        (λ a i l h. rw (r .rest 14 (omega arith), r .rest 15 (omega arith)) (u .summed .before a i l h))
 
     linked-counted : Counted after totals n
     linked-counted = r .ready .blank .counted
 
     linked-tallied : Tallied after (byLetter after weighed) (drop weightsRow totals) n
-    linked-tallied = tallied-kept (linked-counted .table .long) (linked-counted .table .wide) (r .kept) row-kept (w .tallied)
+    linked-tallied = tallied-kept (linked-counted .table .long) (linked-counted .table .wide) rules-kept row-kept (w .tallied)
 
     linked-agrees : (t : List ℕ) → length t ≡ n → inside.weighs after weightsMap t ≡ weighs weights t
     linked-agrees t e = weights-weigh after weights (λ i. row-kept i ∙ w .weights-are i) 0 t (omega (arith, short))
@@ -201,11 +221,11 @@ module _ {g : List ℕ} {n : ℕ} {weights : List ℕ} {rules totals : List (Lis
             measures = record {
               mapped = length-mapped after by-weight totals linked-tallied (needed plan);
               rows = λ i m d. omega (arith, row i m d, d .inside, short);
-              weights = λ i l z. linked-long;
+              weights = λ i l z. linked-summed;
               stand = λ t m.
                   let long = listed-long after n t m in
                   weights-stand 0 t (omega (arith, short))
-                  ∙ sym (ap (ltb 0) (linked-agrees t long) ∙ lt-ltb 0 (weighs weights t) (weigh-some w t (rw (full-same rules after (r .kept) n) at m)));
+                  ∙ sym (ap (ltb 0) (linked-agrees t long) ∙ lt-ltb 0 (weighs weights t) (weigh-some w t (rw (full-same rules after rules-kept n) at m)));
               plain = λ l t e. weights-stand 0 t (omega (arith, short));
             };
             diary = s .diary;
@@ -217,21 +237,21 @@ module _ {g : List ℕ} {n : ℕ} {weights : List ℕ} {rules totals : List (Lis
           → NumbersBy after plan weightsMap h n v totals′ numbers′ ends′ x → FirstsAs rules h n v weights after totals′ numbers′ ends′ x
       firsts-heard {v} {numbers′ = numbers′} {ends′} {x = x} size q = record {
         heard = record {
-          hold = hold-same rules after (r .kept) linked-agrees h v numbers′ x (q .hold);
+          hold = hold-same rules after rules-kept linked-agrees h v numbers′ x (q .hold);
           chosen = record {
-            kept = r .kept;
+            kept = rules-kept;
             chooses = record {
               counted = q .still .counted;
               known = needed plan;
               closed = planned-closed short (r .ready .planned);
               mapped = q .still .mapped;
               linked = λ i d l. r .ready .linked;
-              weights = λ i d l. linked-long;
+              weights = λ i d l. omega (arith, linked-summed .long);
             };
             weigh = linked-agrees;
           };
         };
         ended = λ k e.
             let t = q .ended (omega (arith, size, s .ends-room)) k e in
-            (t .0, held-same rules after (r .kept) linked-agrees h v ending ends′ (t .0) (t .1));
+            (t .0, held-same rules after rules-kept linked-agrees h v ending ends′ (t .0) (t .1));
       }

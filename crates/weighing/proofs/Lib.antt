@@ -3,6 +3,7 @@ pub mod Tickets
 pub mod Weighing
 pub mod Laws
 pub mod Writing
+pub mod Before
 pub mod Summing
 pub mod Tallying
 pub mod Asking

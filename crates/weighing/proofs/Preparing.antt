@@ -170,9 +170,9 @@ module _ {g h : List ℕ} {n v : ℕ} {weights : List ℕ} {rules totals : List 
 -- ---- the tables that a call makes
 
 pub call-made : {n : ℕ} {h : List ℕ} {totals : List (List ℕ)} {numbers sums : List ℕ} → Rooms n h totals numbers sums
-    → Called n h (replicate 14 (replicate 256 0)) totals numbers sums
+    → Called n h (replicate 16 (replicate 256 0)) totals numbers sums
 call-made r = record {
-  lent = record { rules-long = omega arith; rules-wide = wide-made 14 256 0; unruled = made-entry 14 256; long = r .long; wide = r .wide; zeros = r .zeros };
+  lent = record { rules-long = omega arith; rules-wide = wide-made 16 256 0; unruled = made-entry 16 256; long = r .long; wide = r .wide; zeros = r .zeros };
   room = r .room;
 }
 

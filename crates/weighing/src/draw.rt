@@ -27,7 +27,7 @@ fn draw_in(
     ensures { λ r. ⌜ drawSays r (now (out .exit)) ≡ drawWeighted (now (g .entry)) (now (h .entry)) (question .length) (question .voice) (now (weights .entry)) (ticket .0) (now (out .entry)) ⌝ }
 {
     let byte_row = [0u8; 256];
-    let mut rules = [byte_row; 14];
+    let mut rules = [byte_row; 16];
     let p = prepare::prepare(g, h, question, weights, &mut rules, totals, numbers, sums);
     match p {
         Sampled::Refused(r) => DrawAnswer::Refused(r),

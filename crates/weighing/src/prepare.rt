@@ -66,6 +66,7 @@ fn first_tickets(
     requires { ⌜ ((g weights : List ℕ) × FirstsSought g (question .length) weights (now rules) (now totals) (now h) (now numbers) (now ends)) ⌝ }
     ensures { λ s. ⌜ ((g weights : List ℕ) → FirstsSought g (question .length) weights (now (rules .entry)) (now (totals .entry)) (now (h .entry)) (now (numbers .entry)) (now (ends .entry)) → FirstsAs (now (rules .entry)) (now (h .entry)) (question .length) (question .voice) weights (now (rules .exit)) (now (totals .exit)) (now (numbers .exit)) (now (ends .exit)) s) ⌝ }
 {
+    weights::sum_up(rules);
     let set_row = [0u32; 32];
     let mut plan = [set_row; 4];
     let map_row = [0u16; 16];

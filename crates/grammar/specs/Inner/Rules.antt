@@ -1,6 +1,7 @@
 -- The table of rules: everything that is read of a grammar, in rows by name (src/rules.rt). The words, and the left and the right
 -- nonterminals of the pair rules, each nonterminal's one after another in chain order; where those of each nonterminal begin, and the
--- grammar's own numbers. The next one's beginning is their end. Later rows hold links from rule to rule (Links.antt) and the weights of the words.
+-- grammar's own numbers. The next one's beginning is their end. Later rows hold links from rule to rule (Links.antt), the weights of the words,
+-- and what the words before each weigh.
 -- Assumes nothing: these are definitions.
 use mathlib.Core.Path.{_≡_}
 use mathlib.Core.List.{List, _++_, map}

@@ -9,7 +9,7 @@ use Rattle.lists.specs.Inner.Tables.{entry, Wide}
 use Rattle.grammar.specs.Inner.Links.{Unlinked, Linked}
 use Rattle.counting.specs.Refusals.{most}
 use Rattle.counting.specs.Inner.Counted.{Counted}
-use Rattle.counting.specs.Inner.Letters.{any, weighed}
+use Rattle.counting.specs.Inner.Letters.{any, weighed, Summed}
 use Rattle.charts.specs.Inner.Letters.{letterAt}
 use Rattle.charts.specs.Inner.Maps.{Closed, Mapped}
 use Rattle.charts.specs.Inner.Plan.{chartRow, room}
@@ -43,7 +43,7 @@ pub record PlaceSought (rules totals map measure : List (List ℕ)) (n : ℕ) (s
   pub measured : Mapped rules totals measure n known
   pub letters : (p : ℕ) → p < n → letterAt map p ≡ getD s p 0
   pub small : (p : ℕ) → p < n → letterAt map p < any
-  pub measures : (p : ℕ) → p < n → letterAt measure p ≡ weighed → 14 ≤ length rules
+  pub measures : (p : ℕ) → p < n → letterAt measure p ≡ weighed → Summed rules
 
 -- the first ticket by the measure of the sentence s, and what it weighs
 pub record PlacedAs (rules measure : List (List ℕ)) (s : List ℕ) (first weight : ℕ) : Type 0 where

@@ -15,7 +15,7 @@ use Rattle.lists.specs.Inner.Tables.{entry}
 use Rattle.grammar.specs.Trees.{Tree, sentence}
 use Rattle.counting.specs.Refusals.{most}
 use Rattle.counting.specs.Inner.Counted.{Counted}
-use Rattle.counting.specs.Inner.Letters.{weighed}
+use Rattle.counting.specs.Inner.Letters.{weighed, Summed}
 use Rattle.charts.specs.Inner.Letters.{letterAt, stands}
 use Rattle.charts.specs.Inner.Maps.{rowAt, Span, Mapped}
 use Rattle.charts.specs.Inner.Plan.{lengthIn, needed, endOf}
@@ -80,7 +80,7 @@ allNumbersIn rules u tell h n v = concatMap (numbersIn rules u tell n) (sentence
 pub record Measures (rules plan measure totals : List (List ℕ)) (first n : ℕ) : Type 0 where
   pub mapped : Mapped rules totals measure n (needed plan)
   pub rows : (p m : ℕ) → Span n p m → rowAt measure p m < first
-  pub weights : (p : ℕ) → p < n → letterAt measure p ≡ weighed → 14 ≤ length rules
+  pub weights : (p : ℕ) → p < n → letterAt measure p ≡ weighed → Summed rules
   pub stand : (s : List ℕ) → s ∈ fullIn rules n → stands measure 0 s ≡ ltb 0 (weighs rules measure s)
   pub plain : rowAt measure 0 1 < 17 → (s : List ℕ) → length s ≡ n → stands measure 0 s ≡ true
 

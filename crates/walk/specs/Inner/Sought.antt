@@ -11,7 +11,7 @@ use Rattle.grammar.specs.Inner.Rules.{ruled}
 use Rattle.grammar.specs.Inner.Links.{Linked}
 use Rattle.counting.specs.Totals.{total}
 use Rattle.counting.specs.Inner.Counted.{Asked, Counted}
-use Rattle.counting.specs.Inner.Letters.{any, weighed}
+use Rattle.counting.specs.Inner.Letters.{any, weighed, Summed}
 use Rattle.charts.specs.Inner.Letters.{letterAt, weightBy}
 use Rattle.charts.specs.Inner.Maps.{Span, Closed, Mapped}
 
@@ -22,10 +22,10 @@ pub record WalkTables (rules totals choice measure : List (List ℕ)) (n : ℕ) 
   pub closed : Closed rules n known
   pub by : Mapped rules totals choice n known
   pub to : Mapped rules totals measure n known
-  -- a word that the choice asks for is found by its links; weights are there if they are asked for
+  -- a word that the choice asks for is found by its links; weights are there if they are asked for, for the measure summed up
   pub linked : (p : ℕ) → p < n → letterAt choice p < any → Linked rules
   pub weights : (p : ℕ) → p < n → (letterAt choice p ≡ weighed) → 14 ≤ length rules
-  pub measures : (p : ℕ) → p < n → (letterAt measure p ≡ weighed) → 14 ≤ length rules
+  pub measures : (p : ℕ) → p < n → (letterAt measure p ≡ weighed) → Summed rules
 
 -- a ticket of the nonterminal a over the m positions from p on
 pub record Sought (rules totals choice measure : List (List ℕ)) (a p m t : ℕ) : Type 0 where

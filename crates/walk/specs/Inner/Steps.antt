@@ -13,7 +13,7 @@ use Rattle.grammar.specs.Inner.Rules.{wordAt, wordFrom, countIn, wordsIn, ruled
 use Rattle.grammar.specs.Inner.Links.{Linked}
 use Rattle.counting.specs.Refusals.{most}
 use Rattle.counting.specs.Inner.Owned.{HalvesAs, ChosenAs}
-use Rattle.counting.specs.Inner.Letters.{any, weighed, byLetter}
+use Rattle.counting.specs.Inner.Letters.{any, weighed, byLetter, Summed}
 use Rattle.charts.specs.Inner.Letters.{weightBy}
 use Rattle.charts.specs.Inner.Maps.{rowAt, totalAt}
 use Rattle.walk.specs.Inner.Sought.{Sought}
@@ -56,7 +56,7 @@ pub record WordSought (rules : List (List ℕ)) (by to a t : ℕ) : Type 0 where
   pub inside : a < countIn rules
   pub linked : by < any → Linked rules
   pub weights : by ≡ weighed → 14 ≤ length rules
-  pub measures : to ≡ weighed → 14 ≤ length rules
+  pub measures : to ≡ weighed → Summed rules
   pub ticket : t < sumOver (byLetter rules by) (wordsIn rules a)
   pub fits : sumOver (byLetter rules to) (wordsIn rules a) ≤ most
 

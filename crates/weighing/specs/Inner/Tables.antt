@@ -1,4 +1,5 @@
--- The tables of a draw by weights: the words' weights stand in a row of the table of rules, the totals by them behind the counts.
+-- The tables of a draw by weights: the words' weights stand in a row of the table of rules, what the words before each weigh in two more, the totals by
+-- weight behind the counts.
 -- Assumes nothing: these are definitions.
 use mathlib.Core.Path.{_≡_}
 use mathlib.Core.Bool.{Bool, true, false, not}
@@ -11,7 +12,7 @@ use Rattle.grammar.specs.Layout.{words}
 use Rattle.grammar.specs.Refusals.{Accepted}
 use Rattle.grammar.specs.Inner.Rules.{startIn, ruled, Ruled}
 use Rattle.counting.specs.Refusals.{overflows}
-use Rattle.counting.specs.Inner.Letters.{weighed, byLetter}
+use Rattle.counting.specs.Inner.Letters.{weighed, byLetter, Summed}
 use Rattle.counting.specs.Inner.Counted.{Tallied}
 use Rattle.counting.specs.Inner.Preparing.{preparedNumber, Tabled}
 use Rattle.counting.specs.declared.prepare.Prepared.{Prepared}
@@ -40,6 +41,20 @@ pub record SetTo (weights : List ℕ) (k : ℕ) (before after : List (List ℕ))
 abbrev pub SetAs : (weights : List ℕ) (before after : List (List ℕ)) → Type 0
 SetAs weights before after = SetTo weights (length weights) before after
 
+-- ---- what the words before each weigh
+
+-- what summing it up asks: rules, their weights, and two rows more
+pub record SumsUp (rules : List (List ℕ)) : Type 0 where
+  pub table : Ruled rules
+  pub long : 16 ≤ length rules
+
+-- what it promises: it is there, and the other rows are as they were
+pub record SummedUpAs (before after : List (List ℕ)) : Type 0 where
+  pub summed : Summed after
+  pub long : length after ≡ length before
+  pub wide : Wide after 256
+  pub others : (r : ℕ) → (r ≡ 14 → ⊥) → (r ≡ 15 → ⊥) → getD after r [] ≡ getD before r []
+
 -- ---- the totals by weight
 
 -- what filling them asks: rules with their weights, and rows of zeros from the first of theirs on
@@ -65,7 +80,7 @@ pub record TalliedAs (rules : List (List ℕ)) (n : ℕ) (before after : List (L
 
 -- the tables that a call lends: all 0
 pub record Lent (rules totals : List (List ℕ)) : Type 0 where
-  pub rules-long : 14 ≤ length rules
+  pub rules-long : 16 ≤ length rules
   pub rules-wide : Wide rules 256
   pub unruled : (r i : ℕ) → entry rules r i ≡ 0
   pub long : 35 ≤ length totals
@@ -76,7 +91,7 @@ pub record Lent (rules totals : List (List ℕ)) : Type 0 where
 pub record Weighed (g : List ℕ) (n : ℕ) (weights : List ℕ) (rules totals : List (List ℕ)) : Type 0 where
   pub bank : Accepted g
   pub tabled : Tabled g n rules totals
-  pub rules-long : 14 ≤ length rules
+  pub rules-long : 16 ≤ length rules
   pub weights-are : (w : ℕ) → entry rules 13 w ≡ weightOf weights w
   pub unlinked : (r i : ℕ) → 4 ≤ r → r < 13 → entry rules r i ≡ 0
   pub tallied : Tallied rules (byLetter rules weighed) (drop weightsRow totals) n

@@ -58,7 +58,7 @@ scan-spec =
     loop-holds
     word-at-requires
     (λ c κs. c .before .before .before .pre .weights)
-    (λ c κs. c .before .before .before .before .pre .measures)
+    (λ c κs e. omega (arith, c .before .before .before .before .pre .measures e .long))
     returns
     add-place
     (λ c. let l = at-loop (c .before) in omega (arith, scanning-low (start l .pre) (l .loop .inv)))
