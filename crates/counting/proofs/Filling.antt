@@ -74,7 +74,7 @@ module _ {rules totals : List (List ℕ)} {u : ℕ → ℕ} {m a : ℕ} (d : Der
       there : i - pairFrom rules a < length (pairsIn rules a)
       there = omega (arith, pair-count rules a)
 
-      listed : (B, C) ∈ pairsIn rules a
+      pub listed : (B, C) ∈ pairsIn rules a
       listed = rw (← here) (getD-∈ (pairsIn rules a) (i - pairFrom rules a) (0, 0) there)
 
       step : sum + partSum (countAt totals) B C m (m - 1) + sumOver (pairTotal (λ p. totalBy (ruled rules) u) 0 m) (drop (i + 1 - pairFrom rules a) (pairsIn rules a)) ≡ totalBy (ruled rules) u a m
@@ -87,11 +87,17 @@ module _ {rules totals : List (List ℕ)} {u : ℕ → ℕ} {m a : ℕ} (d : Der
       pub summing-asks : {to : ℕ} → to ≡ m - 1 → Halves totals B C m to
       summing-asks e = halves-asked d listed (omega arith)
 
+      pub summing-added : {v : ℕ} → v ≡ sum + partSum (countAt totals) B C m (m - 1) → Summing rules u a m (i + 1) v
+      summing-added f = record { from = omega arith; to = omega arith; due = omega (arith, step, f) }
+
+      pub summing-past : most < sum + partSum (countAt totals) B C m (m - 1) → most < totalBy (ruled rules) u a m
+      summing-past f = omega (arith, step, f)
+
       pub summing-step : {v : ℕ} {t : Tally} → t ≡ Fits v → TalliedAs (sum + partSum (countAt totals) B C m (m - 1)) t → Summing rules u a m (i + 1) v
-      summing-step e f = record { from = omega arith; to = omega arith; due = omega (arith, step, says-fits e f) }
+      summing-step e f = summing-added (says-fits e f)
 
       pub summing-over : {t : Tally} → t ≡ Over → TalliedAs (sum + partSum (countAt totals) B C m (m - 1)) t → most < totalBy (ruled rules) u a m
-      summing-over e f = omega (arith, step, says-over e f)
+      summing-over e f = summing-past (says-over e f)
 
 -- ---- the loop over a nonterminal's words
 
@@ -227,8 +233,8 @@ module _ {rules start : List (List ℕ)} {u : ℕ → ℕ} {m set : ℕ} (f : Ro
         halves = λ x i. let h = f .halves a chosen x i in (below-still (h .0), below-still (h .1));
       }
 
-      pub row-over : {t : Tally} → t ≡ Over → TalliedAs (totalBy (ruled rules) u a m) t → RowFilledAs rules u start totals m set false
-      row-over e s = record { row = λ z. absurd (false≢true z); over = λ _. (a, chosen, says-over e s); kept = w .kept }
+      pub row-over : most < totalBy (ruled rules) u a m → RowFilledAs rules u start totals m set false
+      row-over s = record { row = λ z. absurd (false≢true z); over = λ _. (a, chosen, s); kept = w .kept }
 
       abbrev wide : Wide totals 32
       wide = w .kept .wide
@@ -246,23 +252,23 @@ module _ {rules start : List (List ℕ)} {u : ℕ → ℕ} {m set : ℕ} (f : Ro
         past-own : {k : ℕ} → longestAt (stored totals a m v) a < k → k ≤ m → (longestAt totals a < k) × (v ≡ 0)
         past-own l u = longer-past (rw (low-same totals m a v row-long wide (chosen .0) (f .some) (f .short)) at l) u
 
-      pub row-step : (next : ℕ) → members next ≡ drop 1 (members left) → {after : List (List ℕ)} {v : ℕ} {t : Tally} → after ≡ stored totals a m v → v ≤ most
-          → t ≡ Fits v → TalliedAs (totalBy (ruled rules) u a m) t → RowTo rules u start after m set next
-      row-step next rest {v = v} s small e says =
-          let is : v ≡ totalBy (ruled rules) u a m = says-fits e says in
+      pub row-step : (next : ℕ) → members next ≡ drop 1 (members left) → {after : List (List ℕ)} → totalBy (ruled rules) u a m ≤ most
+          → after ≡ stored totals a m (totalBy (ruled rules) u a m) → RowTo rules u start after m set next
+      row-step next rest small s =
+          let v = totalBy (ruled rules) u a m in
           let turned = turn left a first next rest in
           rw s
           (record {
             right = λ A i o. elim (ℕ-discrete A a) [
-              | yes z ↦ rw z (own v ∙ is)
+              | yes z ↦ rw z (own v)
               | no n ↦ beside v A n ∙ w .right A i (turn-out left a next turned A (i .0) o n)
             ];
             fits = λ A i o. elim (ℕ-discrete A a) [
-              | yes z ↦ rw z (omega (arith, is))
+              | yes z ↦ rw z small
               | no n ↦ w .fits A i (turn-out left a next turned A (i .0) o n)
             ];
             longest = λ A i o l. elim (ℕ-discrete A a) [
-              | yes z ↦ rw z (sym is ∙ past-own v (rw z at l) (omega arith) .1)
+              | yes z ↦ rw z (past-own v (rw z at l) (omega arith) .1)
               | no n ↦ w .longest A i (turn-out left a next turned A (i .0) o n) (past v n l)
             ];
             only = λ A h o. elim (ℕ-discrete A a) [
@@ -289,10 +295,7 @@ pub record Rising (rules : List (List ℕ)) (u : ℕ → ℕ) (start totals : Li
   pub zeros : (k A : ℕ) → m ≤ k → k ≤ 16 → countAt totals A k ≡ 0
   pub kept : Kept 17 32 start totals
 
-module _ {rules start : List (List ℕ)} {letter n : ℕ} (f : Filling rules letter n start) where
-  abbrev u : ℕ → ℕ
-  u = byLetter rules letter
-
+module _ {rules start : List (List ℕ)} {n : ℕ} (u : ℕ → ℕ) (f : Filling rules n start) where
   -- at first no row is there
   pub rising-start : Rising rules u start start n 1
   rising-start = record {

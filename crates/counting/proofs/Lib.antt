@@ -11,6 +11,7 @@ pub mod Finding
 pub mod PairSums
 pub mod InOrder
 pub mod Filling
+pub mod Besides
 pub mod Tabled
 pub mod Preparing
 pub mod Walks

@@ -30,7 +30,7 @@ use Rattle.counting.specs.Refusals.{tooLarge, openRows, preparedRows}
 use Rattle.lists.specs.Inner.Tables.{Kept}
 use Rattle.counting.specs.Inner.Counted.{countAt}
 use Rattle.counting.specs.Inner.Letters.{any}
-use Rattle.counting.specs.Inner.Filling.{Filling, FilledAs}
+use Rattle.counting.specs.Inner.Filling.{Beside, Filling, FilledAs}
 use Rattle.counting.specs.Inner.Preparing.{OpenedAs, Lent, Tabled, PreparedAs}
 use Rattle.counting.specs.Answers.{countOf}
 use Rattle.counting.specs.Inner.Says.{countSays}
@@ -39,6 +39,7 @@ use Rattle.counting.specs.declared.prepare.Prepared.the-variants.{Ready,
 use Rattle.counting.specs.declared.count.CountAnswer.the-variants as counted
 use Rattle.lists.proofs.Tables.{kept-same}
 use Rattle.counting.proofs.Asking.{asked-whole}
+use Rattle.counting.proofs.Besides.{alone}
 use Rattle.counting.proofs.Tabled.{tabled-T, tabled-large}
 
 pub refused-ready : {r : Refusal} → Refused r ≡ Ready → ⊥
@@ -107,10 +108,11 @@ module _ {g : List ℕ} {n : ℕ} {rules₀ rules totals₀ : List (List ℕ)} {
         let k : firstThatApplies (openRows g n) ≡ 0 = sym (o .refusal) ∙ rw e in
         rows-pass (openRows g n) ((tooLarge g n, 10) ∷ []) refl k
 
-    pub prepare-asks : Filling rules any n totals₀
+    pub prepare-asks : Beside rules any 0 (λ u t. Filling rules n t) totals₀
     prepare-asks =
         let q = o .ready e in
-        record { table = q .holds .table; weights = λ z. absurd (omega arith); some = q .some; short = q .short; long = lent .long; wide = lent .wide; zeros = lent .zeros }
+        alone any (λ z. absurd (omega arith))
+        (record { table = q .holds .table; some = q .some; short = q .short; long = lent .long; wide = lent .wide; zeros = lent .zeros })
 
     module _ {totals : List (List ℕ)} {fits : Bool} (f : FilledAs rules (λ w. 1) n totals₀ totals fits) where
       fits-says : fits ≡ not (tooLarge g n)

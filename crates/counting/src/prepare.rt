@@ -44,7 +44,7 @@ pub fn prepare(g: &[u8], n: u64, rules: &mut [[u8; 256]], totals: &mut [[u64; 32
         Prepared::Refused(r) => return Prepared::Refused(r),
         Prepared::Ready => {}
     }
-    if tallies::fill(rules, ANY, n as usize, totals) {
+    if tallies::fill(rules, ANY, n as usize, 0, totals) {
         return Prepared::Ready;
     }
     Prepared::Refused(Refusal::TooManyDerivations)

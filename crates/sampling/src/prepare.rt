@@ -266,7 +266,7 @@ pub fn ask(
     if 15 < question.voice {
         return Prepared::Refused(Refusal::BadVoice);
     }
-    if !tallies::fill(rules, ANY, question.length as usize, totals) {
+    if !tallies::fill(rules, ANY, question.length as usize, 0, totals) {
         return Prepared::Refused(Refusal::TooManyDerivations);
     }
     if pattern::bad(pattern, fields::words(g)) {

@@ -1,50 +1,48 @@
--- What the grammar, the question and the weights are answered, line by line: once 1 to 9, 22 and 10 are passed, 24 and 25. The weights' row is none that
--- the rules or their counts are read from, and the totals by it are those by the words' weights.
+-- What the grammar, the question and the weights are answered, line by line: past 1 to 9 and 22, 10, 24 and 25. The weights' row is none that the rules or
+-- their counts are read from, and the totals by it are those by the words' weights. No count is above its total by weight, so where these fit 10 doesn't
+-- apply; where one doesn't, or the weights are bad, the counts alone tell whether it does.
 -- Assumes nothing.
 use mathlib.Core.Path.{_≡_, refl, sym, ap, _∙_}
-use mathlib.Core.Bool.{Bool, true, false, not}
-use mathlib.Core.List.{List, [], _∷_}
+use mathlib.Core.Bool.{Bool, true, false, not, false≢true}
+use mathlib.Core.List.{List, [], _∷_, _++_, append-assoc}
 use Prim.Native.Nat.{ℕ, _≤_, _<_}
 use native.Mathlib.Omega.{arith}
 use lib.ListN.{length, getD}
-use lib.Dec.{eqb}
-use borrow.Author.Tests.{eqb-true, not-true, not-false}
+use borrow.Author.Tests.{not-true, not-false, lt-ltb, le-ltb}
 use Rattle.lists.specs.Inner.Tables.{entry, Wide}
-use Rattle.lists.specs.Searched.{someOf}
-use Rattle.lists.proofs.Tests.{or-left, both-ways}
+use Rattle.lists.proofs.Tests.{both-ways}
 use Rattle.answers.specs.Answer.{Row, firstThatApplies}
 use Rattle.answers.specs.Length.{badLength}
 use Rattle.answers.specs.Voice.{badVoice}
 use Rattle.answers.specs.Inner.Refusals.{refusalNumber}
 use Rattle.answers.specs.declared.refusal.Refusal.{Refusal}
-use Rattle.answers.specs.declared.refusal.Refusal.the-variants.{BadWeights, TooManyTickets}
+use Rattle.answers.specs.declared.refusal.Refusal.the-variants.{BadVoice}
 use Rattle.answers.proofs.Numbers.{number-some}
-use Rattle.answers.proofs.Refusals.{row-applies, row-passed, rows-stop, rows-pass, rows-clear}
-use Rattle.grammar.specs.Layout.{words}
-use Rattle.grammar.specs.Chains.{Rule}
+use Rattle.answers.proofs.Refusals.{row-applies, row-passed, rows-stop, rows-pass, rows-tail, rows-clear}
+use Rattle.grammar.specs.Layout.{words, headOf}
+use Rattle.grammar.specs.Chains.{Rule, chain}
 use Rattle.grammar.specs.Refusals.{grammarRows, Accepted}
 use Rattle.grammar.specs.Inner.Rules.{startIn, ruled, Holds}
 use Rattle.grammar.proofs.Kept.{ruled-kept, words-kept, pairs-kept}
+use Rattle.grammar.proofs.Walks.{rest-inside, words-∈}
 use Rattle.counting.specs.Refusals.{overflows, tooLarge, openRows}
 use Rattle.counting.specs.Inner.Letters.{weighed, byLetter}
-use Rattle.counting.specs.Inner.Preparing as tables
-use Rattle.counting.specs.Inner.Preparing.{Tabled}
+use Rattle.counting.specs.Inner.Filling.{EachCounts, Beside, BesideAs, Filling, FilledAs}
+use Rattle.counting.specs.Inner.Preparing.{Opened, OpenedAs}
 use Rattle.counting.specs.declared.prepare.Prepared.{Prepared}
 use Rattle.counting.specs.declared.prepare.Prepared.the-variants.{Ready, Refused}
 use Rattle.counting.proofs.Needed.{overflows-needed}
 use Rattle.counting.proofs.Totals.{total-within}
-use Rattle.counting.proofs.Tabled.{tabled-overflows}
-use Rattle.counting.proofs.Asking.{counted-rows, counted-kept}
+use Rattle.counting.proofs.Tabled.{tabled-overflows, tabled-large}
 use Rattle.counting.proofs.Preparing.{refused-ready}
+use Rattle.charts.specs.Inner.Maps.{weightsRow}
 use Rattle.sampling.specs.Pattern.{badPattern}
-use Rattle.sampling.specs.Question.{plainly}
-use Rattle.sampling.specs.Answers.{askedRows}
-use Rattle.sampling.specs.Inner.Preparing.{AskedAs}
-use Rattle.sampling.proofs.Asking.{asked-none, asked-refused}
 use Rattle.weighing.specs.Weights.{weightOf, badWeights, tooHeavy}
 use Rattle.weighing.specs.Weighted.{weighedRows}
-use Rattle.weighing.specs.Inner.Tables.{Sets, SetAs, Tallies, TalliedAs, Lent, WeighedAs}
+use Rattle.weighing.specs.Inner.Tables.{Sets, SetAs, lastRows, Lent, WeighedAs}
+use Rattle.weighing.proofs.Weighing.{left-good}
 use Rattle.weighing.proofs.Writing.{set-all}
+use Rattle.weighing.proofs.Tallying.{tally-asks, tally-size, tally-counts, tally-counted, tally-none, tally-behind}
 
 -- ---- tables that differ in rows that aren't read
 
@@ -71,128 +69,154 @@ overflows-same : (rules : ℕ → List Rule) (v u : ℕ → ℕ → ℕ) (S n : 
 overflows-same rules v u S n same =
     both-ways (overflows rules v S n) (overflows rules u S n) (overflows-over rules v u S n same) (overflows-over rules u v S n (λ p w. sym (same p w)))
 
--- ---- the tables that are lent
+-- ---- the tables, once 1 to 9 are passed
 
-pub weigh-lent : {rules totals : List (List ℕ)} → Lent rules totals → tables.Lent rules totals
-weigh-lent l = record {
-  rules-room = record { long = omega (arith, l .rules-long); wide = l .rules-wide };
-  long = omega (arith, l .long);
-  wide = l .wide;
-  zeros = λ r A h. l .zeros r A;
-}
+module _ {g : List ℕ} {n : ℕ} {rules₀ rules totals₀ : List (List ℕ)} {p : Prepared} (l : Lent rules₀ totals₀) (o : OpenedAs g n rules₀ rules p) (e : p ≡ Ready) where
+  none-opened : firstThatApplies (openRows g n) ≡ 0
+  none-opened = sym (o .refusal) ∙ rw e
 
-module _ {g : List ℕ} {n v : ℕ} (weights : List ℕ) {rules₀ rules totals₀ totals : List (List ℕ)} {p : Prepared} (l : Lent rules₀ totals₀)
-    (k : AskedAs g (plainly n v) rules₀ rules totals₀ totals p) where
-  -- the lines behind 10
-  abbrev later : List Row
-  later = (badWeights (words g) weights, 24) ∷ (tooHeavy g n weights, 25) ∷ []
+  bank : Accepted g
+  bank = rows-clear (grammarRows g) ((badLength n, 9) ∷ []) refl none-opened .0
 
-  weigh-refused : {rules′ totals′ : List (List ℕ)} {r : Refusal} → length totals′ ≡ length totals₀ → firstThatApplies (weighedRows g n v weights) ≡ refusalNumber r
-      → WeighedAs g n v weights rules′ totals₀ totals′ (Refused r)
-  weigh-refused size e = record { refusal = sym e; ready = λ z. absurd (refused-ready z); size = size }
+  -- the rows behind the rules are as they were lent
+  empty : (r i : ℕ) → 4 ≤ r → entry rules r i ≡ 0
+  empty r i h = ap (λ (x : List ℕ). getD x i 0) (o .kept .rest r h) ∙ l .unruled r i
 
-  pub weigh-unasked : {r : Refusal} → p ≡ Refused r → WeighedAs g n v weights rules totals₀ totals (Refused r)
-  weigh-unasked {r} e =
-      weigh-refused (k .totals-kept .long) (rows-stop (askedRows g (plainly n v)) later (omega (arith, number-some r, asked-refused k r e)) ∙ sym (asked-refused k r e))
+  pub set-asks : {weights : List ℕ} → badWeights (words g) weights ≡ false → words g < 256 → Sets weights rules
+  set-asks {weights} good low = record {
+    long = omega (arith, o .kept .long, l .rules-long);
+    wide = o .kept .wide;
+    few = omega (arith, left-good (words g) weights good);
+    none = λ w. empty 13 w (omega arith);
+  }
 
-  module _ (e : p ≡ Ready) where
-    abbrev tabled : Tabled g n rules totals
-    tabled = k .ready e
+  module _ {weights : List ℕ} {set : List (List ℕ)} (s : SetAs weights rules set) where
+    same : (r : ℕ) → r < 4 → getD set r [] ≡ getD rules r []
+    same r h = s .others r (λ z. omega arith)
 
-    bank : Accepted g
-    bank =
-        let asked-rest : List Row = (badVoice v, 22) ∷ (tooLarge g n, 10) ∷ (badPattern (words g) [], 21) ∷ [] in
-        rows-clear (grammarRows g) ((badLength n, 9) ∷ []) refl (rows-clear (openRows g n) asked-rest refl (asked-none k e) .0) .0
+    set-long : 16 ≤ length set
+    set-long = omega (arith, s .long, o .kept .long, l .rules-long)
 
-    past-asked : firstThatApplies (weighedRows g n v weights) ≡ firstThatApplies later
-    past-asked = rows-pass (askedRows g (plainly n v)) later refl (asked-none k e)
-
-    pub weigh-bad : badWeights (words g) weights ≡ true → WeighedAs g n v weights rules totals₀ totals (Refused BadWeights)
-    weigh-bad z = weigh-refused (k .totals-kept .long) (past-asked ∙ row-applies 24 ((tooHeavy g n weights, 25) ∷ []) z)
+    pub set-opened : Opened g n set
+    set-opened =
+        let q = o .ready e in
+        record { holds = holds-kept (omega (arith, set-long)) (s .wide) same (q .holds); some = q .some; short = q .short }
 
     module _ (good : badWeights (words g) weights ≡ false) where
-      many : length weights ≡ words g
-      unfolding badWeights
-      many =
-          eqb-true (length weights) (words g)
-          (not-false (eqb (length weights) (words g)) (or-left (not (eqb (length weights) (words g))) (someOf (λ x. eqb x 0) weights) good))
+      -- the words are below W, and none of them weighs 0
+      each : EachCounts set (byLetter set weighed)
+      each A w h i =
+          let holds = set-opened .holds in
+          let word = rw (holds .words-are A (omega (arith, holds .count-is))) at i in
+          let left = left-good (words g) weights good in
+          omega (arith, set-all s w, left .1 w (omega (arith, left .0, rest-inside g bank (headOf g A) (words-∈ (chain g A) word))))
 
-      -- the rows behind the rules, and those behind the counts, are as they were lent
-      empty : (r i : ℕ) → 4 ≤ r → entry rules r i ≡ 0
-      empty r i h = ap (λ (x : List ℕ). getD x i 0) (k .rules-kept .rest r h) ∙ l .unruled r i
+      pub tally-sought : Beside set weighed weightsRow (λ u t. Filling set n t) totals₀
+      tally-sought = tally-asks l set-opened (omega (arith, set-long)) each
 
-      none : (r A : ℕ) → 17 ≤ r → entry totals r A ≡ 0
-      none r A h = ap (λ (x : List ℕ). getD x A 0) (k .totals-kept .rest r h) ∙ l .zeros r A
+-- ---- the lines behind 9
 
-      pub set-asks : words g < 256 → Sets weights rules
-      set-asks low = record {
-        long = omega (arith, k .rules-kept .long, l .rules-long);
-        wide = k .rules-kept .wide;
-        few = omega (arith, many);
-        none = λ w. empty 13 w (omega arith);
-      }
+-- 24 and 25, where one of them applies
+last-applies : (bad heavy : Bool) → (bad ≡ false → heavy ≡ true) → firstThatApplies ((bad, 24) ∷ (heavy, 25) ∷ []) ≡ firstThatApplies ((bad, 24) ∷ (true, 25) ∷ [])
+unfolding firstThatApplies
+last-applies true heavy h = refl
+last-applies false heavy h = rw (h refl)
 
-      module _ {set : List (List ℕ)} (s : SetAs weights rules set) where
-        same : (r : ℕ) → r < 4 → getD set r [] ≡ getD rules r []
-        same r h = s .others r (λ z. omega arith)
+-- what the counts alone tell
+module _ {rules before after : List (List ℕ)} {n : ℕ} {fits : Bool} (bad : Bool) (f : FilledAs rules (λ w. 1) n before after fits) where
+  pub told-large : fits ≡ false → 10 ≡ firstThatApplies (lastRows rules n bad)
+  told-large z = sym (row-applies 10 _ (not-false _ (sym (f .says) ∙ z)))
 
-        set-long : 16 ≤ length set
-        set-long = omega (arith, s .long, k .rules-kept .long, l .rules-long)
+  told-few : fits ≡ true → firstThatApplies (lastRows rules n bad) ≡ firstThatApplies ((bad, 24) ∷ (true, 25) ∷ [])
+  told-few z = row-passed 10 _ (not-true _ (sym (f .says) ∙ z))
 
+  pub told-bad : fits ≡ true → bad ≡ true → 24 ≡ firstThatApplies (lastRows rules n bad)
+  told-bad z b = sym (told-few z ∙ row-applies 24 ((true, 25) ∷ []) b)
+
+  pub told-heavy : fits ≡ true → bad ≡ false → 25 ≡ firstThatApplies (lastRows rules n bad)
+  told-heavy z b = sym (told-few z ∙ row-passed 24 ((true, 25) ∷ []) b ∙ row-applies 25 [] refl)
+
+module _ {g : List ℕ} {n : ℕ} (v : ℕ) (weights : List ℕ) {rules₀ rules totals₀ : List (List ℕ)} {p : Prepared} (l : Lent rules₀ totals₀) (o : OpenedAs g n rules₀ rules p) where
+  abbrev weightRows : List Row
+  weightRows = (badWeights (words g) weights, 24) ∷ (tooHeavy g n weights, 25) ∷ []
+
+  abbrev later : List Row
+  later = (badVoice v, 22) ∷ (tooLarge g n, 10) ∷ (badPattern (words g) [], 21) ∷ weightRows
+
+  rows-are : weighedRows g n v weights ≡ openRows g n ++ later
+  rows-are = append-assoc (openRows g n) ((badVoice v, 22) ∷ (tooLarge g n, 10) ∷ (badPattern (words g) [], 21) ∷ []) weightRows
+
+  weigh-refused : {rules′ totals : List (List ℕ)} {r : Refusal} → length totals ≡ length totals₀ → firstThatApplies (weighedRows g n v weights) ≡ refusalNumber r
+      → WeighedAs g n v weights rules′ totals₀ totals (Refused r)
+  weigh-refused size e = record { refusal = sym e; ready = λ z. absurd (refused-ready z); size = size }
+
+  pub weigh-unopened : {r : Refusal} → p ≡ Refused r → WeighedAs g n v weights rules totals₀ totals₀ (Refused r)
+  weigh-unopened {r} e =
+      let k : firstThatApplies (openRows g n) ≡ refusalNumber r = sym (o .refusal) ∙ rw e in
+      weigh-refused refl (ap firstThatApplies rows-are ∙ rows-stop (openRows g n) later (omega (arith, number-some r)) ∙ k)
+
+  module _ (e : p ≡ Ready) where
+    past-opening : firstThatApplies (weighedRows g n v weights) ≡ firstThatApplies later
+    past-opening = ap firstThatApplies rows-are ∙ rows-pass (openRows g n) later refl (none-opened l o e)
+
+    pub weigh-voice : 15 < v → WeighedAs g n v weights rules totals₀ totals₀ (Refused BadVoice)
+    weigh-voice h = weigh-refused refl (past-opening ∙ row-applies 22 _ (lt-ltb 15 v h))
+
+    module _ (voiced : v ≤ 15) where
+      -- there is no pattern, so 21 doesn't apply
+      past-voice : firstThatApplies (weighedRows g n v weights) ≡ firstThatApplies ((tooLarge g n, 10) ∷ weightRows)
+      unfolding badPattern
+      past-voice =
+          past-opening ∙ row-passed 22 _ (le-ltb 15 v voiced)
+          ∙ rows-tail ((tooLarge g n, 10) ∷ []) ((badPattern (words g) [], 21) ∷ weightRows) weightRows (row-passed 21 weightRows refl)
+
+      -- 10, or else 24 or 25, by any table that holds the rules
+      refused-last : {rules′ totals : List (List ℕ)} {r : Refusal} (bad : Bool) → Holds g rules′ → bad ≡ badWeights (words g) weights → (bad ≡ false → tooHeavy g n weights ≡ true)
+          → length totals ≡ length totals₀ → refusalNumber r ≡ firstThatApplies (lastRows rules′ n bad) → WeighedAs g n v weights rules′ totals₀ totals (Refused r)
+      refused-last bad holds b heavy size k =
+          let rest : List Row = (bad, 24) ∷ (true, 25) ∷ [] in
+          let same : firstThatApplies weightRows ≡ firstThatApplies rest = rw (← b) (last-applies bad (tooHeavy g n weights) heavy) in
+          weigh-refused size (past-voice ∙ rows-tail ((tooLarge g n, 10) ∷ []) weightRows rest same ∙ sym (rw (← tabled-large holds n) at k))
+
+      pub weigh-bad : {r : Refusal} → badWeights (words g) weights ≡ true → refusalNumber r ≡ firstThatApplies (lastRows rules n true)
+          → WeighedAs g n v weights rules totals₀ totals₀ (Refused r)
+      weigh-bad z k = refused-last true (o .ready e .holds) (sym z) (λ y. absurd (false≢true (sym y))) refl k
+
+      module _ (good : badWeights (words g) weights ≡ false) {set : List (List ℕ)} (s : SetAs weights rules set) {totals : List (List ℕ)} {fits : Bool}
+          (t : BesideAs set weighed weightsRow (λ u b t. FilledAs set u n b t) totals₀ totals fits) where
         holds : Holds g set
-        holds = holds-kept (omega (arith, set-long)) (s .wide) same (tabled .holds)
+        holds = set-opened l o e s .holds
 
-        pub tally-sought : Tallies set n totals
-        tally-sought = record {
-          table = holds .table;
-          weights = omega (arith, set-long);
-          some = tabled .counted .some;
-          short = tabled .counted .short;
-          long = omega (arith, k .totals-kept .long, l .long);
-          wide = tabled .counted .wide;
-          zeros = λ r A h. none r A (omega arith);
-        }
+        -- the totals of the table's row are those by the words' weights
+        fits-says : fits ≡ not (tooHeavy g n weights)
+        unfolding tooHeavy
+        fits-says =
+            t .own .says
+            ∙ ap not
+            (overflows-same (ruled set) (λ p w. byLetter set weighed w) (λ p w. weightOf weights w) (startIn set) n (λ p w. set-all s w)
+            ∙ sym (tabled-overflows holds (λ p w. weightOf weights w) n))
 
-        module _ {totals′ : List (List ℕ)} {fits : Bool} (t : TalliedAs set n totals totals′ fits) where
-          -- the totals of the table's row are those by the words' weights
-          heavy-is : overflows (ruled set) (λ p w. byLetter set weighed w) (startIn set) n ≡ tooHeavy g n weights
-          unfolding tooHeavy
-          heavy-is =
-              overflows-same (ruled set) (λ p w. byLetter set weighed w) (λ p w. weightOf weights w) (startIn set) n (λ p w. set-all s w)
-              ∙ sym (tabled-overflows holds (λ p w. weightOf weights w) n)
+        pub weigh-heavy : {r : Refusal} → fits ≡ false → refusalNumber r ≡ firstThatApplies (lastRows set n false) → WeighedAs g n v weights set totals₀ totals (Refused r)
+        weigh-heavy z k = refused-last false holds (sym good) (λ y. not-false (tooHeavy g n weights) (sym fits-says ∙ z)) (tally-size l t) k
 
-          fits-says : fits ≡ not (tooHeavy g n weights)
-          fits-says = t .says ∙ ap not heavy-is
-
-          past-good : firstThatApplies (weighedRows g n v weights) ≡ firstThatApplies ((tooHeavy g n weights, 25) ∷ [])
-          past-good = past-asked ∙ row-passed 24 ((tooHeavy g n weights, 25) ∷ []) good
-
-          pub weigh-heavy : fits ≡ false → WeighedAs g n v weights set totals₀ totals′ (Refused TooManyTickets)
-          weigh-heavy z =
-              weigh-refused (t .size ∙ k .totals-kept .long) (past-good ∙ row-applies 25 [] (not-false (tooHeavy g n weights) (sym fits-says ∙ z)))
-
-          pub weigh-ready : fits ≡ true → WeighedAs g n v weights set totals₀ totals′ Ready
-          unfolding firstThatApplies
-          weigh-ready z =
-              let light = not-true (tooHeavy g n weights) (sym fits-says ∙ z) in
-              record {
-                refusal = sym (past-good ∙ row-passed 25 [] light);
-                ready = λ _. record {
-                  bank = bank;
-                  tabled = record {
-                    holds = holds;
-                    fits = tabled .fits;
-                    counted = counted-kept (omega (arith, set-long)) (s .wide) same
-                        (counted-rows (tabled .counted) (omega (arith, t .size, k .totals-kept .long, l .long)) (t .wide) (λ r h. t .ahead r (omega (arith, tabled .counted .short))));
-                  };
-                  rules-long = set-long;
-                  weights-are = set-all s;
-                  unlinked = λ r i a b. ap (λ (x : List ℕ). getD x i 0) (s .others r (λ z. omega arith)) ∙ empty r i a;
-                  tallied = t .tallied z;
-                  good = good;
-                  light = light;
-                  none = λ A. ap (λ (x : List ℕ). getD x A 0) (t .ahead 17 (omega arith)) ∙ none 17 A (omega arith);
-                  behind = λ r A h. ap (λ (x : List ℕ). getD x A 0) (t .behind r h) ∙ none r A (omega arith);
-                };
-                size = t .size ∙ k .totals-kept .long;
-              }
+        pub weigh-ready : fits ≡ true → WeighedAs g n v weights set totals₀ totals Ready
+        unfolding firstThatApplies
+        weigh-ready z =
+            let light = not-true (tooHeavy g n weights) (sym fits-says ∙ z) in
+            let few = not-true (tooLarge g n) (sym (tally-counts l t z .says ∙ sym (ap not (tabled-large holds n)))) in
+            record {
+              refusal = sym (past-voice ∙ row-passed 10 weightRows few ∙ row-passed 24 ((tooHeavy g n weights, 25) ∷ []) good ∙ row-passed 25 [] light);
+              ready = λ _. record {
+                bank = bank l o e;
+                tabled = record { holds = holds; fits = few; counted = tally-counted l t z };
+                rules-long = set-long l o e s;
+                weights-are = set-all s;
+                unlinked = λ r i a b. ap (λ (x : List ℕ). getD x i 0) (s .others r (λ z. omega arith)) ∙ empty l o e r i a;
+                tallied = t .own .counted z;
+                good = good;
+                light = light;
+                none = tally-none l t z;
+                behind = tally-behind l t z;
+              };
+              size = tally-size l t;
+            }

@@ -53,6 +53,17 @@ twenty-five g n weights = record { totals = total-weighs weights g; applies = ov
 
 -- ---- what 24 and 25 leave of the weights
 
+pub left-good : (W : ℕ) (weights : List ℕ) → badWeights W weights ≡ false → (length weights ≡ W) × ((w : ℕ) → w < length weights → 1 ≤ weightOf weights w)
+unfolding badWeights
+left-good W weights good =
+    let size = not (eqb (length weights) W) in
+    let zeros = someOf (λ x. eqb x 0) weights in (
+      eqb-true (length weights) W (not-false (eqb (length weights) W) (or-left size zeros good)),
+      λ w h.
+          let z = eqb-false (getD weights w 0) 0 (none-∈ (λ x. eqb x 0) weights (or-right size zeros good) (getD weights w 0) (getD-∈ weights w 0 h)) in
+          omega (arith, z),
+    )
+
 module _ (g : List ℕ) (n : ℕ) (weights : List ℕ) where
   pub weighty-good : Weighty g n weights → badWeights (words g) weights ≡ false
   unfolding badWeights
@@ -71,17 +82,10 @@ module _ (g : List ℕ) (n : ℕ) (weights : List ℕ) where
   weighty-light w = overflows-fit (chain g) (λ p x. weightOf weights x) .1 (w .fit)
 
   pub left-weighty : badWeights (words g) weights ≡ false → tooHeavy g n weights ≡ false → Weighty g n weights
-  unfolding badWeights tooHeavy
+  unfolding tooHeavy
   left-weighty good light =
-      let size = not (eqb (length weights) (words g)) in
-      let zeros = someOf (λ x. eqb x 0) weights in
-      record {
-        many = eqb-true (length weights) (words g) (not-false (eqb (length weights) (words g)) (or-left size zeros good));
-        some = λ w h.
-            let z = eqb-false (getD weights w 0) 0 (none-∈ (λ x. eqb x 0) weights (or-right size zeros good) (getD weights w 0) (getD-∈ weights w 0 h)) in
-            omega (arith, z);
-        fit = overflows-fit (chain g) (λ p x. weightOf weights x) .0 light;
-      }
+      let left = left-good (words g) weights good in
+      record { many = left .0; some = left .1; fit = overflows-fit (chain g) (λ p x. weightOf weights x) .0 light }
 
 -- ---- sentences by their words
 

@@ -1,7 +1,11 @@
 // What a draw by weights needs: the tables of the grammar with the totals by weight, then the heard derivations' first tickets, rising, each once.
+ghost use mathlib.Core.Path.{_≡_};
 ghost use mathlib.Core.List.{List};
-ghost use Prim.Native.Nat.{ℕ};
-ghost use Rattle.weighing.specs.Inner.Tables.{Tallies, TalliedAs, Lent, WeighedAs};
+ghost use Prim.Native.Nat.{ℕ, _≤_};
+ghost use Rattle.answers.specs.Answer.{firstThatApplies};
+ghost use Rattle.answers.specs.Inner.Refusals.{refusalNumber};
+ghost use Rattle.grammar.specs.Inner.Rules.{Ruled};
+ghost use Rattle.weighing.specs.Inner.Tables.{lastRows, Lent, WeighedAs};
 ghost use Rattle.weighing.specs.Inner.Preparing.{FirstsSought, FirstsAs, RecordsSought, RecordsAs, Called, PreparedAs};
 use crate::sums;
 use crate::weights;
@@ -10,7 +14,9 @@ use charts::maps;
 use charts::maps::BEHIND_WEIGHTS;
 use charts::plan;
 use charts::ready;
+use counting::letters::ANY;
 use counting::letters::WEIGHED;
+use counting::prepare as tables;
 use counting::prepare::Prepared;
 use counting::tallies;
 use grammar::fields;
@@ -20,15 +26,23 @@ use sampling::prepare;
 use sampling::prepare::Sampled;
 use sampling::question::Question;
 
-// The totals by the words' weights into their rows, which are all 0; false where one that is needed is above 2^64 - 1.
-fn tally(rules: &[[u8; 256]], n: usize, totals: &mut [[u64; 32]]) -> bool
-    requires { ⌜ Tallies (now rules) n (now totals) ⌝ }
-    ensures { λ r. ⌜ TalliedAs (now (rules .entry)) n (now (totals .entry)) (now (totals .exit)) r ⌝ }
+// 10, 24 or 25: the counts alone tell whether it is 10.
+fn refusal(rules: &[[u8; 256]], n: usize, bad: bool) -> Refusal
+    requires { ⌜ Ruled (now rules) × (1 ≤ n) × (n ≤ 16) ⌝ }
+    ensures { λ r. ⌜ refusalNumber r ≡ firstThatApplies (lastRows (now (rules .entry)) n bad) ⌝ }
 {
-    tallies::fill(rules, WEIGHED, n, &mut totals[maps::WEIGHTS..])
+    let row = [0u64; 32];
+    let mut counts = [row; 17];
+    if !tallies::fill(rules, ANY, n, 0, &mut counts) {
+        return Refusal::TooManyDerivations;
+    }
+    if bad {
+        return Refusal::BadWeights;
+    }
+    Refusal::TooManyTickets
 }
 
-// 1 to 9, 22, 10, 24 and 25.
+// 1 to 9, 22, 10, 24 and 25. No count is above its total weight, so the counts are filled in beside the total weights, and fit where these do.
 fn weigh(
     g: &[u8],
     question: Question,
@@ -39,19 +53,23 @@ fn weigh(
     requires { ⌜ Lent (now rules) (now totals) ⌝ }
     ensures { λ r. ⌜ WeighedAs (now (g .entry)) (question .length) (question .voice) (now (weights .entry)) (now (rules .exit)) (now (totals .entry)) (now (totals .exit)) r ⌝ }
 {
-    let p = prepare::ask(g, question, &g[0..0], rules, totals);
-    match p {
+    let opened = tables::open(g, question.length, rules);
+    match opened {
         Prepared::Refused(r) => return Prepared::Refused(r),
         Prepared::Ready => {}
     }
+    if 15 < question.voice {
+        return Prepared::Refused(Refusal::BadVoice);
+    }
+    let n = question.length as usize;
     if weights::bad(weights, fields::words(g)) {
-        return Prepared::Refused(Refusal::BadWeights);
+        return Prepared::Refused(refusal(rules, n, true));
     }
     weights::set(weights, rules);
-    if tally(rules, question.length as usize, totals) {
+    if tallies::fill(rules, WEIGHED, n, maps::WEIGHTS, totals) {
         return Prepared::Ready;
     }
-    Prepared::Refused(Refusal::TooManyTickets)
+    Prepared::Refused(refusal(rules, n, false))
 }
 
 // The first tickets of the heard derivations, and where they end: their sentences' charts stand behind the totals by weight, which measure.

@@ -6,30 +6,55 @@ use mathlib.Core.Bool.{Bool, true, false, not, cond}
 use mathlib.Core.List.{List, []}
 use Prim.Native.Nat.{ℕ, _*_, _-_, _≤_, _<_}
 use lib.Dec.{eqb}
-use lib.ListN.{length, getD}
+use lib.ListN.{length, getD, take, drop}
 use Rattle.lists.specs.Joined.{_∈_, sumOver, upFrom}
 use Rattle.lists.specs.Inner.Tables.{entry, put, Wide, Kept}
 use Rattle.sets.specs.Inner.Sets.{member}
-use Rattle.grammar.specs.Inner.Rules.{startIn, countIn, pairsIn, ruled, Ruled}
+use Rattle.grammar.specs.Inner.Rules.{startIn, countIn, wordsIn, pairsIn, ruled, Ruled}
 use Rattle.counting.specs.Totals.{totalBy}
 use Rattle.counting.specs.Refusals.{most, overflows}
 use Rattle.counting.specs.Inner.Counted.{countAt, longestAt, Tallied}
-use Rattle.counting.specs.Inner.Letters.{weighed}
+use Rattle.counting.specs.Inner.Letters.{weighed, byLetter}
 use Rattle.counting.specs.Inner.Needs.{MemberOf, Owners}
 use Rattle.counting.specs.declared.tallies.Tally.{Tally}
 use Rattle.counting.specs.declared.tallies.Tally.the-variants.{Fits, Over}
+use Rattle.counting.specs.declared.tallies.Both.{Both}
+use Rattle.counting.specs.declared.tallies.Both.the-variants as both
 
 -- a number, or that it is above 2^64 - 1
 abbrev pub TalliedAs : ℕ → Tally → Type 0
 TalliedAs n (Fits v) = v ≡ n
 TalliedAs n Over = most < n
 
+-- two numbers, the second no more than the first, or that the first is above 2^64 - 1
+abbrev pub BothAs : (n k : ℕ) → Both → Type 0
+BothAs n k (both.Fit v c) = (v ≡ n) × (c ≡ k) × (c ≤ v)
+BothAs n k both.Over = most < n
+
+-- ---- two tables in one
+
+-- each word counts for something
+abbrev pub EachCounts : (rules : List (List ℕ)) (u : ℕ → ℕ) → Type 0
+EachCounts rules u = (A w : ℕ) → A < countIn rules → w ∈ wordsIn rules A → 1 ≤ u w
+
+-- What a step by a letter asks of the table: the totals by the letter stand in the rows from `at` on. Where there are rows before them the counts stand
+-- there; then each word counts for something, so that no count is above its total.
+pub record Beside (rules : List (List ℕ)) (letter at : ℕ) (asks : (u : ℕ → ℕ) (totals : List (List ℕ)) → Type 0) (totals : List (List ℕ)) : Type 0 where
+  pub weights : letter ≡ weighed → 14 ≤ length rules
+  pub own : asks (byLetter rules letter) (drop at totals)
+  pub counts : (at ≡ 0 → ⊥) → asks (λ w. 1) (take at totals)
+  pub each : (at ≡ 0 → ⊥) → EachCounts rules (byLetter rules letter)
+
+-- and what it promises: where the totals by the letter fit, so do the counts
+pub record BesideAs (rules : List (List ℕ)) (letter at : ℕ) (done : (u : ℕ → ℕ) (before after : List (List ℕ)) → Bool → Type 0) (before after : List (List ℕ)) (fits : Bool) : Type 0 where
+  pub own : done (byLetter rules letter) (drop at before) (drop at after) fits
+  pub counts : (at ≡ 0 → ⊥) → fits ≡ true → done (λ w. 1) (take at before) (take at after) true
+
 -- ---- the whole table
 
--- what filling the table by a letter asks: nothing is there yet
-pub record Filling (rules : List (List ℕ)) (letter n : ℕ) (totals : List (List ℕ)) : Type 0 where
+-- what filling the table asks: nothing is there yet
+pub record Filling (rules : List (List ℕ)) (n : ℕ) (totals : List (List ℕ)) : Type 0 where
   pub table : Ruled rules
-  pub weights : letter ≡ weighed → 14 ≤ length rules
   pub some : 1 ≤ n
   pub short : n ≤ 16
   pub long : 17 ≤ length totals
@@ -60,6 +85,14 @@ pub record Halves (totals : List (List ℕ)) (B C m to : ℕ) : Type 0 where
   pub left-over : (k : ℕ) → longestAt totals B < k → k < m → countAt totals B k ≡ 0
   pub right-over : (k : ℕ) → longestAt totals C < k → k < m → countAt totals C k ≡ 0
 
+-- the same of a second table, whose counts are no more; nor is what was added before
+pub record HalvesBeside (totals counts : List (List ℕ)) (B C m before counted : ℕ) : Type 0 where
+  pub halves : Halves totals B C m (m - 1)
+  pub long : 17 ≤ length counts
+  pub left : (k : ℕ) → 1 ≤ k → k < m → countAt counts B k ≤ countAt totals B k
+  pub right : (k : ℕ) → 1 ≤ k → k < m → countAt counts C k ≤ countAt totals C k
+  pub less : counted ≤ before
+
 -- ---- one nonterminal
 
 -- the totals of X below the length m are there
@@ -81,6 +114,12 @@ pub record Deriving (rules : List (List ℕ)) (u : ℕ → ℕ) (totals : List (
   pub long : 17 ≤ length totals
   pub halves : HalvesBelow rules u totals m a
 
+-- and its count, in a second table
+pub record DerivingBeside (rules : List (List ℕ)) (u : ℕ → ℕ) (totals counts : List (List ℕ)) (m a : ℕ) : Type 0 where
+  pub own : Deriving rules u totals m a
+  pub beside : Deriving rules (λ w. 1) counts m a
+  pub each : EachCounts rules u
+
 -- the longest length with a derivation, once v derivations of the length m are found
 abbrev pub longer : (old m v : ℕ) → ℕ
 longer old m v = cond (eqb v 0) old m
@@ -88,6 +127,11 @@ longer old m v = cond (eqb v 0) old m
 -- the table with v at a and m
 abbrev pub stored : List (List ℕ) → (a m v : ℕ) → List (List ℕ)
 stored totals a m v = put (put totals m a v) 0 a (longer (longestAt totals a) m v)
+
+-- what placing the total of a and m promises: it is there, or doesn't fit and nothing has changed
+pub record PlacedAs (rules : List (List ℕ)) (u : ℕ → ℕ) (before after : List (List ℕ)) (m a : ℕ) (fits : Bool) : Type 0 where
+  pub here : fits ≡ true → (totalBy (ruled rules) u a m ≤ most) × (after ≡ stored before a m (totalBy (ruled rules) u a m))
+  pub over : fits ≡ false → (most < totalBy (ruled rules) u a m) × (after ≡ before)
 
 -- what the words of a nonterminal ask, by a letter
 pub record WordsBy (rules : List (List ℕ)) (letter a : ℕ) : Type 0 where

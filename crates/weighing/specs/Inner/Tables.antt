@@ -2,12 +2,12 @@
 -- weight behind the counts.
 -- Assumes nothing: these are definitions.
 use mathlib.Core.Path.{_≡_}
-use mathlib.Core.Bool.{Bool, true, false, not}
-use mathlib.Core.List.{List, []}
+use mathlib.Core.Bool.{Bool, true, false}
+use mathlib.Core.List.{List, [], _∷_}
 use Prim.Native.Nat.{ℕ, _≤_, _<_}
 use lib.ListN.{length, getD, drop}
 use Rattle.lists.specs.Inner.Tables.{entry, Wide}
-use Rattle.answers.specs.Answer.{firstThatApplies}
+use Rattle.answers.specs.Answer.{Row, firstThatApplies}
 use Rattle.grammar.specs.Layout.{words}
 use Rattle.grammar.specs.Refusals.{Accepted}
 use Rattle.grammar.specs.Inner.Rules.{startIn, ruled, Ruled}
@@ -55,26 +55,11 @@ pub record SummedUpAs (before after : List (List ℕ)) : Type 0 where
   pub wide : Wide after 256
   pub others : (r : ℕ) → (r ≡ 14 → ⊥) → (r ≡ 15 → ⊥) → getD after r [] ≡ getD before r []
 
--- ---- the totals by weight
+-- ---- what is refused past 22
 
--- what filling them asks: rules with their weights, and rows of zeros from the first of theirs on
-pub record Tallies (rules : List (List ℕ)) (n : ℕ) (totals : List (List ℕ)) : Type 0 where
-  pub table : Ruled rules
-  pub weights : 14 ≤ length rules
-  pub some : 1 ≤ n
-  pub short : n ≤ 16
-  pub long : 35 ≤ length totals
-  pub wide : Wide totals 32
-  pub zeros : (r A : ℕ) → weightsRow ≤ r → entry totals r A ≡ 0
-
--- what it promises: whether all that are needed fit, and then these; the rows before and behind them stay
-pub record TalliedAs (rules : List (List ℕ)) (n : ℕ) (before after : List (List ℕ)) (fits : Bool) : Type 0 where
-  pub says : fits ≡ not (overflows (ruled rules) (λ p w. byLetter rules weighed w) (startIn rules) n)
-  pub tallied : fits ≡ true → Tallied rules (byLetter rules weighed) (drop weightsRow after) n
-  pub size : length after ≡ length before
-  pub wide : Wide after 32
-  pub ahead : (r : ℕ) → r < weightsRow → getD after r [] ≡ getD before r []
-  pub behind : (r : ℕ) → 35 ≤ r → getD after r [] ≡ getD before r []
+-- the lines where no total weight can be told: 10, then 24 where the weights are bad, and else 25
+abbrev pub lastRows : (rules : List (List ℕ)) (n : ℕ) (bad : Bool) → List Row
+lastRows rules n bad = (overflows (ruled rules) (λ p w. 1) (startIn rules) n, 10) ∷ (bad, 24) ∷ (true, 25) ∷ []
 
 -- ---- 1 to 9, 22, 10, 24 and 25
 

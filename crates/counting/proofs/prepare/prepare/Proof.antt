@@ -28,13 +28,13 @@ returns-2 : tie.Need-returns-2
 returns-2 c =
     let f = c .before .before in
     let t = told f in
-    prepare-ready (start (opened t) .pre) (opened t .«open» .ensures) (t .enum-told .given .1) (f .fill .ensures) (c .if1 .taken)
+    prepare-ready (start (opened t) .pre) (opened t .«open» .ensures) (t .enum-told .given .1) (f .fill .ensures .own) (c .if1 .taken)
 
 returns-3 : tie.Need-returns-3
 returns-3 c =
     let f = c .before .before in
     let t = told f in
-    prepare-too-large (start (opened t) .pre) (opened t .«open» .ensures) (t .enum-told .given .1) (f .fill .ensures) (c .if1 .left)
+    prepare-too-large (start (opened t) .pre) (opened t .«open» .ensures) (t .enum-told .given .1) (f .fill .ensures .own) (c .if1 .left)
 
 pub prepare-spec : {M : Type 1} → statement M
 prepare-spec =

@@ -32,8 +32,8 @@ lent : (c : tie.After-open) → let t = now (start c .args .totals) in Kept 17 3
 lent c = kept-same (start c .pre .wide)
 
 -- and once it is filled
-filled : (c : tie.After-fill) → Kept 17 32 (now (start (opened (told (past c))) .args .totals)) (c .fill .last .1 .1 .1 .0)
-filled c = let f = c .fill .ensures in record { long = f .long; wide = f .wide; rest = f .rest }
+filled : (c : tie.After-fill) → Kept 17 32 (now (start (opened (told (past c))) .args .totals)) (c .fill .last .1 .1 .1 .1 .0)
+filled c = let f = c .fill .ensures .own in record { long = f .long; wide = f .wide; rest = f .rest }
 
 returns : tie.Need-returns
 returns c =
@@ -58,14 +58,14 @@ returns-3 c =
     let t = told v in
     let o = opened t .«open» .ensures in
     ask-large _ o (lent (opened t)) (t .enum-told .given .1) (omega (arith, v .if1 .left)) (filled f)
-    (filled-large (start (opened t) .pre) o (t .enum-told .given .1) (f .fill .ensures) (not-true _ (c .if2 .taken)))
+    (filled-large (start (opened t) .pre) o (t .enum-told .given .1) (f .fill .ensures .own) (not-true _ (c .if2 .taken)))
 
 tabled : (c : tie.Else2) → let t = told (past (c .before .before)) in
-    Tabled (now (start (opened t) .args .g)) (start (opened t) .args .question .length) (opened t .«open» .last .1 .1 .0) (c .before .before .fill .last .1 .1 .1 .0)
+    Tabled (now (start (opened t) .args .g)) (start (opened t) .args .question .length) (opened t .«open» .last .1 .1 .0) (c .before .before .fill .last .1 .1 .1 .1 .0)
 tabled c =
     let f = c .before .before in
     let t = told (past f) in
-    filled-tabled (start (opened t) .pre) (opened t .«open» .ensures) (t .enum-told .given .1) (f .fill .ensures) (not-false _ (c .if2 .left))
+    filled-tabled (start (opened t) .pre) (opened t .«open» .ensures) (t .enum-told .given .1) (f .fill .ensures .own) (not-false _ (c .if2 .left))
 
 -- 21
 returns-4 : tie.Need-returns-4
