@@ -1,3 +1,4 @@
 // What a call answers, for the contracts of the crates above.
+#![tactic(auto)]
 
 pub mod refusal;

@@ -4,7 +4,7 @@ ghost use Rattle.lists.specs.Inner.Tables.{Wide};
 ghost use Rattle.charts.specs.Inner.Letters.{letter_of, admits, stands};
 ghost use Rattle.charts.specs.Inner.Maps.{row_at, LetteredAs, Fitted};
 
-use counting::letters::{ANY, WEIGHED};
+use counting::letters::ANY;
 
 // Rows of the table of totals: of zeros, and the first of a chart. Those below are the counts'.
 pub const NONE: usize = 17;
@@ -75,16 +75,12 @@ fn admits(letter: u16, w: u8) -> bool
     letter == w as u16
 }
 
-// Whether each word is one that the letter at its position asks for. The map of the counts, whose row of a single word is none of a chart, asks for any,
-// and so does the one by weight.
+// Whether each word is one that the letter at its position asks for. The map of the counts, whose row of a single word is none of a chart, asks for any.
 pub fn fits(map: &[[u16; 16]; 17], sentence: &[u8]) -> bool
     requires { Fitted map.now sentence.now }
     ensures { result ≡ stands map.now 0 sentence.now }
 {
     if row_at(map, 0, 1) < NONE {
-        return true;
-    }
-    if map[LETTERS][0] == WEIGHED {
         return true;
     }
     let mut p = 0;

@@ -1,6 +1,8 @@
 // The listing program (document 01: listing program). Standard input has a length byte, two bytes size of the grammar, low byte first, the
 // grammar, and the history to the end. The program prints the figures of *Left*, then a line for each draw, or the refusal. At the first read
 // or write that fails it stops and says so on standard error.
+#![tactic(auto)]
+
 mod meanings;
 
 ghost use Rattle.std.specs.Prelude.{◌≡◌, [], ◌+◌, ◌≤◌, ◌<◌, length};

@@ -1,4 +1,6 @@
 // The house matrix grammar (document 01: house matrix bank), as a constant table: nine nonterminals, fifty words, 54 rules.
+#![tactic(auto)]
+
 ghost use Rattle.std.specs.Prelude.{◌≡◌};
 ghost use Rattle.grammar.specs.Inner.Says.{grammar_says};
 ghost use Rattle.matrix.specs.Table.{table, accepted};

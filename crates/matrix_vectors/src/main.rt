@@ -1,4 +1,6 @@
 // Prints the bytes of the house matrix grammar, parted by one space, in one line.
+#![tactic(auto)]
+
 use libc::STDOUT_FILENO;
 
 fn print(b: u8) {

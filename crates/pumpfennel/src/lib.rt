@@ -1,5 +1,7 @@
 // The library for C and Rust: document 01's calls, whole. Each result is the refusal's number, 0 where the call is accepted; on a refusal
 // every figure is 0 and every lent buffer is as it was. Nothing is required of what is handed in.
+#![tactic(auto)]
+
 ghost use Rattle.std.specs.Prelude.{◌≡◌, List, [], ◌∷◌, ℕ};
 ghost use Rattle.grammar.specs.Answers.{check_grammar};
 ghost use Rattle.counting.specs.Answers.{count_of};

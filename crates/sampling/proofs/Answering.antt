@@ -36,7 +36,6 @@ use Rattle.charts.specs.Inner.Maps.{counts_map, Everywhere}
 use Rattle.charts.proofs.Mapping.{counts_map_lem}
 use Rattle.ranking.specs.Answers.{full_list, readings_of}
 use Rattle.ranking.specs.Inner.Inside.{full_in, readings_in, weighs, weigh_in, tickets_at, Chooses, WriteSought, WrittenAs}
-use Rattle.ranking.specs.declared.unrank.DerivationNumber.{DerivationNumber}
 use Rattle.ranking.proofs.Inside.{full_is, readings_are}
 use Rattle.ranking.proofs.Weighing.{whole_weigh}
 use Rattle.ranking.proofs.Finding.{start_asked, whole, counts_choose}
@@ -51,18 +50,16 @@ use Rattle.sampling.specs.Unheard.{suits, of_length, unheard, total_for, heard_o
 use Rattle.sampling.specs.Inner.Collect.{fitting_at, barred, spans_by, fitting, beginning, numbers_in, ambiguous_in, all_numbers_in, CollectedIs}
 use Rattle.sampling.specs.Inner.Patterns.{behind_of, Choice}
 use Rattle.sampling.specs.Answers.{remaining_rows, remaining_to, drawn, draw_to}
-use Rattle.sampling.specs.Inner.Skipping.{heard_spans, Reaches, left_by, ReachedAs}
+use Rattle.sampling.specs.Inner.Skipping.{heard_spans, passed_by, Skips}
 use Rattle.sampling.specs.Inner.Preparing.{Room, Lent, Tables, LentMatching, OrderedAs, Heard, Held, Hold, NumbersAs, HeardBy, RecordsSought, MatchingSought, RecordedBy, RecordedAs, Drawable, SampledIs, SampledBy}
 use Rattle.sampling.specs.declared.heard.Collected.TheVariants.{Numbers}
 use Rattle.sampling.specs.declared.prepare.Sampled.{Sampled}
 use Rattle.sampling.specs.declared.prepare.Sampled.TheVariants.{Ready, Refused as NotReady}
-use Rattle.sampling.specs.declared.skip.Reached.{Reached}
-use Rattle.sampling.specs.declared.skip.Reached.TheVariants.{Beyond, At}
-use Rattle.sampling.specs.Inner.Drawing.{spans_in, DrawSought, ReachSought, draw_skipping}
+use Rattle.sampling.specs.Inner.Drawing.{spans_in, DrawSought, draw_skipping}
 use Rattle.sampling.proofs.Barred.{listed_length, free, few_readings, ∈_heard, ∈_length, heard_length, unheard_all, left_length}
 use Rattle.sampling.proofs.Spans.{numbers_by, collected}
 use Rattle.sampling.proofs.Listed.{draw_from, spans_told, drawn_listed, list_plain}
-use Rattle.sampling.proofs.Skipping.{spans_plain, passed_plain, told_plain, gone_all, reach_left}
+use Rattle.sampling.proofs.Skipping.{spans_plain, passed_plain, told_plain, gone_all}
 use Rattle.sampling.proofs.Readying.{counts_agree, full_same}
 
 -- ---- the tables that a call makes
@@ -332,19 +329,24 @@ module _ {rules totals choice : List (List ℕ)} {heard sums : List ℕ} {n : �
         numbered_sum (weighs rules choice) 0 (full_in rules n),
       )
 
+  -- what the heard ones weigh
+  pub struck_sum : {x : ℕ} → x ≡ passed_by sums (length heard) → (x ≤ weigh_in rules choice n) × (x ≡ sum_over (λ (e : ℕ × ℕ). e.1) (heard_spans heard sums))
+  struck_sum e =
+      let z = e ∙ s.told.passed_are (length heard) (omega arith) in
+      (omega (arith, parts), z ∙ gone_all heard sums)
+
   weigh_fits : weigh_in rules choice n ≤ most
   weigh_fits = weigh_low s.chooses
 
   abbrev rest : ℕ
-  rest = left_by (weigh_in rules choice n) heard sums
+  rest = weigh_in rules choice n - sum_over (λ (e : ℕ × ℕ). e.1) (heard_spans heard sums)
 
-  pub reaches : {t : ℕ} → t ≡ weigh_in rules choice n → Reaches t heard sums
-  reaches e = record {
+  pub skips : {q : ℕ} → q < rest → Skips q heard sums
+  skips l = record {
     told = s.told;
     apart = rw s.spans_are (struck_apart (λ (e : ℕ × List ℕ). U e || eqb (W e) 0) W 0 all);
     few = s.few;
-    within = omega (arith, parts);
-    fits = omega (arith, weigh_fits);
+    fits = omega (arith, weigh_fits, parts, gone_all heard sums);
   }
 
   skip_inside : (q : ℕ) → q < rest → skip_over q (heard_spans heard sums) < weigh_in rules choice n
@@ -358,7 +360,7 @@ module _ {rules totals choice : List (List ℕ)} {heard sums : List ℕ} {n : �
 
 -- without sums they are no more than all
 pub struck_few : {rules totals choice : List (List ℕ)} {heard : List ℕ} {n : ℕ} → DrawSought rules totals choice n heard [] → length heard ≤ weigh_in rules choice n
-struck_few {heard = heard} s = (reach_left (reaches s refl) (passed_plain (length heard))).0
+struck_few {heard = heard} s = (struck_sum s (passed_plain (length heard))).0
 
 module _ (rules choice : List (List ℕ)) (n : ℕ) (heard sums : List ℕ) (q : ℕ) (out : List ℕ) where
   abbrev left : ℕ
@@ -388,34 +390,6 @@ module _ (rules choice : List (List ℕ)) (n : ℕ) (heard sums : List ℕ) (q :
       rw (w.words ∙ ap (λ (x : ℕ × List ℕ). x.1 ++ drop n out) g, e, w.number_is ∙ ap (λ (x : ℕ × List ℕ). x.0) g)
       (sym (answer_accepted (left ∷ found.0 ∷ []) out (found.1 ++ drop n out)
       (row_passed 16 ((ltb (length out) n, 20) ∷ []) (lt-leb left q h) ∙ row_passed 20 [] (le-ltb (length out) n k))))
-
--- ---- from what the draw number reaches
-
-pub reach_sought : {rules totals choice counts : List (List ℕ)} {n : ℕ} {heard sums : List ℕ} {q t : ℕ} {r : Reached} → DrawSought rules totals choice n heard sums → Everywhere counts
-    → t ≡ weigh_in rules choice n → ReachedAs t heard sums q r → ReachSought rules totals choice counts n heard sums q r
-reach_sought d every e reached = record { draw = d; everywhere = every; reached = rw e at reached }
-
-reached_case : {rules totals choice counts : List (List ℕ)} {n : ℕ} {heard sums : List ℕ} {q : ℕ} {r r' : Reached} → ReachSought rules totals choice counts n heard sums q r → r ≡ r'
-    → ReachedAs (weigh_in rules choice n) heard sums q r'
-reached_case w e = (rw e at w).reached
-
-module _ {rules totals choice counts : List (List ℕ)} {n : ℕ} {heard sums : List ℕ} {q : ℕ} {r : Reached} (w : ReachSought rules totals choice counts n heard sums q r) (out : List ℕ) where
-  pub reached_beyond : r ≡ Beyond → refused 16 2 out ≡ draw_skipping rules choice n heard sums q out
-  reached_beyond e = skipping_beyond rules choice n heard sums q out (reached_case w e)
-
-  module _ {l : ℕ} {d : DerivationNumber} (e : r ≡ At l d) where
-    abbrev at : (l ≡ left_by (weigh_in rules choice n) heard sums) × (q < left_by (weigh_in rules choice n) heard sums) × (d.0 ≡ skip_over q (heard_spans heard sums))
-    at = reached_case w e
-
-    pub reached_short : length out < n → refused 20 2 out ≡ draw_skipping rules choice n heard sums q out
-    reached_short = skipping_short rules choice n heard sums q out at.1
-
-    module _ (m : n ≤ length out) where
-      pub reached_sought : WriteSought rules totals choice counts n d.0 out
-      reached_sought = skip_sought w.draw w.everywhere q d.0 out at.1 at.2 m
-
-      pub reached_written : (number : ℕ) (words : List ℕ) → WrittenAs rules choice n d.0 out words number → given (l ∷ number ∷ []) words ≡ draw_skipping rules choice n heard sums q out
-      reached_written number words = skipping_written rules choice n heard sums q out l d.0 number words at.1 m at.0 at.2
 
 -- ---- *Draw*, whole
 

@@ -37,14 +37,14 @@ use Rattle.sampling.proofs.Demand3.{entries_∈, demand_3}
 -- ---- byte after byte, by a test that each of a run of bytes has to fail
 
 module _ (P : ℕ → Bool) (p : ℕ) (bytes : List ℕ) where
-  pub bad_step : p < length bytes → some_of P (drop p bytes) ≡ (P (get_or bytes p 0) || some_of P (drop (suc p) bytes))
-  bad_step h = ap (some_of P) (drop-cons bytes p 0 h)
+  step : p < length bytes → some_of P (drop p bytes) ≡ (P (get_or bytes p 0) || some_of P (drop (suc p) bytes))
+  step h = ap (some_of P) (drop-cons bytes p 0 h)
 
   pub bad_here : p < length bytes → P (get_or bytes p 0) ≡ true → some_of P (drop p bytes) ≡ true
-  bad_here h e = bad_step h ∙ rw e
+  bad_here h e = step h ∙ rw e
 
   pub bad_later : p < length bytes → P (get_or bytes p 0) ≡ false → some_of P (drop (suc p) bytes) ≡ some_of P (drop p bytes)
-  bad_later h e = sym (bad_step h ∙ rw e)
+  bad_later h e = sym (step h ∙ rw e)
 
   pub bad_none : length bytes ≤ p → some_of P (drop p bytes) ≡ false
   bad_none h = ap (some_of P) (drop_of_length-le bytes h)

@@ -93,7 +93,7 @@ module _ {rules plan map measure : List (List ℕ)} {sets : List ℕ} {totals : 
     heard_sought = record { ready = rw e w.ready; clean = rw e w.clean }
 
     pub heard_fitted : Fitted measure s
-    heard_fitted = record { short = omega (arith, w.ready.blank.counted.short); plain = λ l. w.measures.plain l s e; heavy = λ l. w.measures.heavy l s e }
+    heard_fitted = record { short = omega (arith, w.ready.blank.counted.short); plain = λ l. w.measures.plain l s e }
 
     module _ {map' : List (List ℕ)} {sets' : List ℕ} {totals' : List (List ℕ)} {k : ℕ} (q : FoundAs rules plan map' w.first s totals sets' totals' k) where
       -- the measure's rows are none of the chart's
@@ -106,7 +106,6 @@ module _ {rules plan map measure : List (List ℕ)} {sets : List ℕ} {totals : 
             weights = m.weights;
             stand = m.stand;
             plain = m.plain;
-            heavy = m.heavy;
           }
 
       serves : Serves rules plan map' measure sets' totals'

@@ -177,7 +177,6 @@ module _ {rules totals : List (List ℕ)} {h : List ℕ} {n : ℕ} {numbers : Li
               weights = λ p l e. absurd (omega (arith, counts_map_lem.letter p (omega arith)));
               stand = stand_some after counts_map n (λ p l. omega (arith, counts_map_lem.letter p (omega arith)));
               plain = λ l s e. counts_stand n short s e;
-              heavy = λ l s e. counts_stand n short s e;
             };
             diary = w.diary;
             room = w.room;
@@ -374,7 +373,6 @@ module _ {rules totals : List (List ℕ)} {h : List ℕ} {a : Question} {records
               weights = λ p l k. absurd (omega (arith, letters p l));
               stand = stand_some rules' choice' n letters;
               plain = λ l s d. absurd (omega (arith, (row 0 1 (record { some = omega arith; inside = omega (arith, ready.blank.counted.some) }) (needed plan 0 1) refl).0));
-              heavy = λ k s d. absurd (omega (arith, letters 0 (omega (arith, ready.blank.counted.some))));
             };
             diary = w.sought.diary;
             room = w.sought.room;

@@ -13,7 +13,7 @@ use Rattle.lists.specs.Joined.{sum_over}
 use Rattle.lists.specs.Ordered.{Pairwise}
 use Rattle.lists.specs.Inner.Tickets.{Apart, gone, skip_over}
 use Rattle.lists.proofs.Struck.{apart_gap, skip_over_at}
-use Rattle.sampling.specs.Inner.Skipping.{spans_from, heard_spans, passed_by, Told, Skips, Reaches, left_by}
+use Rattle.sampling.specs.Inner.Skipping.{spans_from, heard_spans, passed_by, Told}
 
 -- ---- the first tickets and the weights
 
@@ -104,15 +104,3 @@ module _ {heard sums : List ℕ} {q : ℕ} where
       sym (skip_over_at (heard_spans heard sums) (0, 0) q low (omega (arith, s.ordered, s.inside, spans_length heard sums))
       (λ i l. omega (arith, s.passed i l, spans_at 0 heard sums i))
       (λ m. omega (arith, s.left low h (omega (arith, spans_length heard sums)), spans_at 0 heard sums low)))
-
--- ---- what a draw number reaches
-
-module _ {total : ℕ} {heard sums : List ℕ} (r : Reaches total heard sums) where
-  -- what the sums say of all the heard ones is no more than there is, and without it there is what is left
-  pub reach_left : {x : ℕ} → x ≡ passed_by sums (length heard) → (x ≤ total) × (total - x ≡ left_by total heard sums)
-  reach_left e =
-      let z = e ∙ r.told.passed_are (length heard) (omega arith) in
-      (omega (arith, r.within), omega (arith, gone_all heard sums))
-
-  pub reach_skips : {q : ℕ} → q < left_by total heard sums → Skips q heard sums
-  reach_skips l = record { told = r.told; apart = r.apart; few = r.few; fits = omega (arith, r.within, r.fits, gone_all heard sums) }

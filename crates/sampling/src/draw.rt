@@ -1,15 +1,15 @@
 // *Draw*: the unheard derivation that has so many unheard ones before it; with a pattern, of those that fit.
-ghost use Rattle.std.specs.Prelude.{◌≡◌, List, [], ℕ};
-ghost use Rattle.charts.specs.Inner.Maps.{counts_map};
+ghost use Rattle.std.specs.Prelude.{◌≡◌, []};
+ghost use Rattle.charts.specs.Inner.Maps.{counts_map, Everywhere};
 ghost use Rattle.sampling.specs.Answers.{draw_to};
 ghost use Rattle.sampling.specs.Question.{plainly, matching, asked};
 ghost use Rattle.sampling.specs.Inner.Says.{draw_says};
-ghost use Rattle.sampling.specs.Inner.Drawing.{DrawSought, ReachSought, draw_skipping};
+ghost use Rattle.sampling.specs.Inner.Drawing.{DrawSought, draw_skipping};
 ghost use Rattle.sampling.specs.Inner.Preparing.{Room, Tables, Called};
 
 use crate::prepare::Sampled;
 use crate::question::Question;
-use crate::skip::{DrawNumber, Reached};
+use crate::skip::DrawNumber;
 use crate::{prepare, skip};
 use answers::refusal::Refusal;
 use charts::maps;
@@ -22,29 +22,31 @@ pub enum DrawAnswer {
     Refused(Refusal),
 }
 
-// What a draw number has reached: its owner's sentence and number, where the buffer has room.
-pub fn draw_reached(
+// With the tables, the choice and the heard ones' tickets at hand.
+pub fn draw_from(
     rules: &[[u8; 256]],
     totals: &[[u64; 32]],
     choice: &[[u16; 16]; 17],
     counts: &[[u16; 16]; 17],
     n: usize,
-    reached: Reached,
+    heard: &[u64],
+    sums: &[u64],
+    q: DrawNumber,
     out: &mut [u8],
 ) -> DrawAnswer
-    requires { (heard sums : List ℕ) × (q : ℕ) × ReachSought rules.now totals.now choice.now counts.now n heard sums q reached }
-    ensures { (heard sums : List ℕ) (q : ℕ) → ReachSought rules.now totals.now choice.now counts.now n heard sums q reached → draw_says result out.new ≡ draw_skipping rules.now choice.now n heard sums q out.old }
+    requires { DrawSought rules.now totals.now choice.now n heard.now sums.now × Everywhere counts.now }
+    ensures { draw_says result out.new ≡ draw_skipping rules.now choice.now n heard.now sums.now q.0 out.old }
 {
-    match reached {
-        Reached::Beyond => DrawAnswer::Refused(Refusal::NumberBeyond),
-        Reached::At(left, d) => {
-            if out.len() < n {
-                return DrawAnswer::Refused(Refusal::BufferTooShort);
-            }
-            let number = unrank::write(rules, totals, choice, counts, n, d, out);
-            DrawAnswer::Given(left, number)
-        }
+    let left = unrank::total(rules, totals, choice, n) - skip::passed(sums, heard.len());
+    if left <= q.0 {
+        return DrawAnswer::Refused(Refusal::NumberBeyond);
     }
+    if out.len() < n {
+        return DrawAnswer::Refused(Refusal::BufferTooShort);
+    }
+    let d = skip::skip(q, heard, sums);
+    let number = unrank::write(rules, totals, choice, counts, n, d, out);
+    DrawAnswer::Given(left, number)
 }
 
 // Without a pattern each derivation has one ticket: many draws share one preparation.
@@ -60,9 +62,17 @@ pub fn draw_prepared(
     ensures { draw_says result out.new ≡ draw_skipping rules.now counts_map n heard.now [] q.0 out.old }
 {
     let counts = maps::EVERYWHERE;
-    let total = unrank::total(rules, totals, &counts, n);
-    let r = skip::reach(q, total, heard, &heard[0..0]);
-    draw_reached(rules, totals, &counts, &counts, n, r, out)
+    draw_from(
+        rules,
+        totals,
+        &counts,
+        &counts,
+        n,
+        heard,
+        &heard[0..0],
+        q,
+        out,
+    )
 }
 
 // With room for the heard numbers.
@@ -133,10 +143,17 @@ fn draw_matching_in(
         Sampled::Refused(r) => DrawAnswer::Refused(r),
         Sampled::Ready(k) => {
             let counts = maps::EVERYWHERE;
-            let n = question.length as usize;
-            let total = unrank::total(rules, totals, &choice, n);
-            let r = skip::reach(q, total, &numbers[0..k], &numbers[0..0]);
-            draw_reached(rules, totals, &choice, &counts, n, r, out)
+            draw_from(
+                rules,
+                totals,
+                &choice,
+                &counts,
+                question.length as usize,
+                &numbers[0..k],
+                &numbers[0..0],
+                q,
+                out,
+            )
         }
     }
 }

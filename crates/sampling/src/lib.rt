@@ -1,4 +1,6 @@
 // *Left* and *Draw* (document 01): sampling without the sentences that a patient has heard.
+#![tactic(auto)]
+
 pub mod draw;
 pub mod heard;
 pub mod pattern;

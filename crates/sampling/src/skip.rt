@@ -1,20 +1,13 @@
 // The skip over heard derivations: the one place where a draw number becomes a derivation number.
 ghost use Rattle.std.specs.Prelude.{◌≡◌, ◌≤◌, length};
 ghost use Rattle.lists.specs.Inner.Tickets.{skip_over};
-ghost use Rattle.sampling.specs.Inner.Skipping.{heard_spans, passed_by, Skips, Reaches, ReachedAs};
+ghost use Rattle.sampling.specs.Inner.Skipping.{heard_spans, passed_by, Skips};
 
 use ranking::unrank::DerivationNumber;
 
 // How many unheard derivations stand before one (document 01: draw number). By weights, how many of their tickets.
 #[derive(Drop)]
 pub struct DrawNumber(pub u64);
-
-// What a draw number reaches: nothing, as it is beyond what is left; or with how many are left the ticket after the skip.
-#[derive(Drop)]
-pub enum Reached {
-    Beyond,
-    At(u64, DerivationNumber),
-}
 
 // What the first i of the heard ones weigh: without sums each weighs 1.
 pub fn passed(sums: &[u64], i: usize) -> u64
@@ -48,17 +41,4 @@ pub fn skip(q: DrawNumber, heard: &[u64], sums: &[u64]) -> DerivationNumber
         }
     }
     DerivationNumber(first + passed(sums, low))
-}
-
-// Of so many tickets in all, those of the heard ones among them.
-pub fn reach(q: DrawNumber, total: u64, heard: &[u64], sums: &[u64]) -> Reached
-    requires { Reaches total heard.now sums.now }
-    ensures { ReachedAs total heard.now sums.now q.0 result }
-{
-    let left = total - passed(sums, heard.len());
-    if left <= q.0 {
-        return Reached::Beyond;
-    }
-    let d = skip(q, heard, sums);
-    Reached::At(left, d)
 }

@@ -1,4 +1,6 @@
 // Sets of numbers below 32, each the bits of one u32, and what a loop over a set needs: its first member, and the set without it.
+#![tactic(auto)]
+
 ghost use Rattle.std.specs.Prelude.{◌≡◌, ◌&&◌, ◌||◌, not, [], ◌∷◌, ℕ, ◌-◌, ◌<◌, eqb, leb, drop};
 ghost use Rattle.sets.specs.Inner.Sets.{member, members};
 

@@ -1,6 +1,8 @@
 // The walk down from the whole sentence: the rule chooser and the halves writer call each other, the length falling (document 01: "choosing
 // a rule needs the two halves, and each half needs a rule chosen, on a smaller length"). Of the derivations in order, each with as many
 // consecutive tickets as it weighs by the choice, it finds the one that owns a ticket.
+#![tactic(auto)]
+
 ghost use Rattle.std.specs.Prelude.{◌≡◌, ◌*◌, ◌/◌, ◌%◌, ◌≤◌, ◌<◌, length};
 ghost use Rattle.grammar.specs.Inner.Rules.{ruled};
 ghost use Rattle.counting.specs.Refusals.{most};

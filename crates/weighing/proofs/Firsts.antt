@@ -228,7 +228,6 @@ module _ {g : List ℕ} {n : ℕ} {weights : List ℕ} {rules totals : List (Lis
                   weights_stand 0 t (omega (arith, short))
                   ∙ sym (ap (ltb 0) (linked_agrees t long) ∙ lt-ltb 0 (weighs weights t) (weigh_some w t (rw (full_same rules after rules_kept n) at m)));
               plain = λ l t e. weights_stand 0 t (omega (arith, short));
-              heavy = λ l t e. weights_stand 0 t (omega (arith, short));
             };
             diary = s.diary;
             room = s.room;

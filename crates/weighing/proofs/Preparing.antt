@@ -19,7 +19,6 @@ use Rattle.counting.specs.Refusals.{most}
 use Rattle.counting.specs.declared.prepare.Prepared.{Prepared}
 use Rattle.counting.specs.declared.prepare.Prepared.TheVariants as tables
 use Rattle.charts.specs.Inner.Maps.{weights_map}
-use Rattle.charts.specs.Inner.Plan.{end_of}
 use Rattle.history.specs.Layout.{records_of}
 use Rattle.history.specs.Refusals.{Accepted}
 use Rattle.history.specs.Heard.{heard}
@@ -31,16 +30,16 @@ use Rattle.sampling.specs.Inner.Drawing.{spans_in, DrawSought, draw_skipping}
 use Rattle.sampling.specs.Inner.Preparing.{Ended, RecordedBy, DrawableBy, SampledBy}
 use Rattle.sampling.specs.declared.prepare.Sampled.{Sampled}
 use Rattle.sampling.specs.declared.prepare.Sampled.TheVariants.{Ready, Refused}
-use Rattle.sampling.proofs.Answering.{refused_unready, heard_spans_lem, weigh_low, unprepared, recorded_prepared, prepared_case, parts_low, room_all, room_short, record_none, room_none}
+use Rattle.sampling.proofs.Answering.{refused_unready, heard_spans_lem, weigh_low, unprepared, recorded_prepared, prepared_case, parts_low, room_all, room_short}
 use Rattle.sampling.specs.Unheard.{unheard}
 use Rattle.sampling.proofs.Listed.{draw_from, ticket_list, spans_told, drawn_listed}
-use Rattle.charts.proofs.Placing.{spans_le}
+use Rattle.charts.proofs.Placing as charts
 use Rattle.lists.proofs.Tables.{wide_made, made_entry}
 use Rattle.weighing.specs.Weights.{weighs, tickets_of}
 use Rattle.weighing.specs.Weighted.{weighed_rows, weighted_rows, draw_weighted}
 use Rattle.weighing.specs.Inner.Tables.{WeighedAs}
 use Rattle.weighing.specs.Inner.Sums.{SumsSought, SummedAs}
-use Rattle.weighing.specs.Inner.Preparing.{behind_weights, Rooms, Places, Called, PreparedAs}
+use Rattle.weighing.specs.Inner.Preparing.{Rooms, Cleared, Called, PreparedAs}
 use Rattle.weighing.proofs.Laws.{drawn_from, drawn_refused}
 use Rattle.weighing.proofs.Told.{summed_spans, summed_told}
 
@@ -177,29 +176,44 @@ call_made r = record {
   room = r.room;
 }
 
--- 1,000 places serve every history, 100 those of at most 2,004 bytes
-pub places_all : (h : List ℕ) → Places h (replicate 1000 0) (replicate 1000 0)
-places_all h = record { numbers_room = room_all h; sums_room = room_all h }
+-- 1,000 places serve every history, 100 those of at most 2,004 bytes, and one those of fewer than 24, which have no record
+module _ (n : ℕ) (h : List ℕ) {totals : List (List ℕ)} (c : Cleared n totals) where
+  rooms_of : {numbers sums : List ℕ} → (Accepted h → records_of h ≤ length numbers) → (Accepted h → records_of h ≤ length sums) → Rooms n h totals numbers sums
+  rooms_of a b = record { long = c.long; wide = c.wide; zeros = c.zeros; room = record { numbers_room = a; sums_room = b; charts = λ d some l. c.charts l } }
 
-pub places_few : (h : List ℕ) → length h ≤ 2004 → Places h (replicate 100 0) (replicate 100 0)
-places_few h l = record { numbers_room = room_short h l; sums_room = room_short h l }
+  pub rooms_all : Rooms n h totals (replicate 1000 0) (replicate 1000 0)
+  rooms_all = rooms_of (room_all h) (room_all h)
 
--- and one those of fewer than 24, which have no record
+  pub rooms_few : length h ≤ 2004 → Rooms n h totals (replicate 100 0) (replicate 100 0)
+  rooms_few l = rooms_of (room_short h l) (room_short h l)
+
 pub rooms_none : (n : ℕ) (h : List ℕ) → length h < 24 → Rooms n h (replicate 35 (replicate 32 0)) (replicate 1 0) (replicate 1 0)
-rooms_none n h l = record {
-  long = omega (arith, length-replicate 35 (replicate 32 zero));
-  wide = wide_made 35 32 0;
-  zeros = made_entry 35 32;
-  room = record { numbers_room = room_none h l; sums_room = room_none h l; charts = λ d some s. absurd (omega (arith, record_none h l d)) };
+rooms_none n h l =
+    let none : (d : Accepted h) → records_of h < 1 = λ d. omega (arith, (known h d).sized.size) in
+    record {
+      long = omega (arith, length-replicate 35 (replicate 32 zero));
+      wide = wide_made 35 32 0;
+      zeros = made_entry 35 32;
+      room = record {
+        numbers_room = λ d. omega (arith, none d);
+        sums_room = λ d. omega (arith, none d);
+        charts = λ d some s. absurd (omega (arith, none d));
+      };
+    }
+
+-- behind the totals by weight, room for the chart of five positions, and of sixteen
+pub cleared_short : (n : ℕ) → n ≤ 5 → Cleared n (replicate 50 (replicate 32 0))
+cleared_short n h = record {
+  long = omega (arith, length-replicate 50 (replicate 32 zero));
+  wide = wide_made 50 32 0;
+  zeros = made_entry 50 32;
+  charts = λ l. omega (arith, charts.room_short n h, length-replicate 50 (replicate 32 zero));
 }
 
--- where there are rows for the charts of k positions they serve each length up to k
-pub rooms_to : (k rows n : ℕ) {h numbers sums : List ℕ} → Places h numbers sums → end_of behind_weights k ≤ rows → (n ≤ 16 → n ≤ k) → Rooms n h (replicate rows (replicate 32 0)) numbers sums
-rooms_to k rows n p many low =
-    let size = length-replicate rows (replicate 32 zero) in
-    record {
-      long = omega (arith, size, many);
-      wide = wide_made rows 32 0;
-      zeros = made_entry rows 32;
-      room = record { numbers_room = p.numbers_room; sums_room = p.sums_room; charts = λ d some l. omega (arith, spans_le n k (low l), many, size) };
-    }
+pub cleared_long : (n : ℕ) → Cleared n (replicate 171 (replicate 32 0))
+cleared_long n = record {
+  long = omega (arith, length-replicate 171 (replicate 32 zero));
+  wide = wide_made 171 32 0;
+  zeros = made_entry 171 32;
+  charts = λ l. omega (arith, charts.room_low n l, length-replicate 171 (replicate 32 zero));
+}

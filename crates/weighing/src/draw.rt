@@ -2,16 +2,15 @@
 ghost use Rattle.std.specs.Prelude.{◌≡◌};
 ghost use Rattle.sampling.specs.Inner.Says.{draw_says};
 ghost use Rattle.weighing.specs.Weighted.{draw_weighted};
-ghost use Rattle.weighing.specs.Inner.Preparing.{Rooms, Places};
+ghost use Rattle.weighing.specs.Inner.Preparing.{Rooms, Cleared};
 
 use crate::prepare;
 use charts::maps;
-use ranking::unrank;
+use sampling::draw;
 use sampling::draw::DrawAnswer;
 use sampling::prepare::Sampled;
 use sampling::question::Question;
 use sampling::skip::DrawNumber;
-use sampling::{draw, skip};
 
 // With room for the totals, the first tickets and the sums.
 fn draw_in(
@@ -36,74 +35,66 @@ fn draw_in(
         Sampled::Ready(k) => {
             let choice = maps::BY_WEIGHT;
             let counts = maps::EVERYWHERE;
-            let n = question.length as usize;
-            let total = unrank::total(&rules, totals, &choice, n);
-            let r = skip::reach(ticket, total, &numbers[0..k], &sums[0..k]);
-            draw::draw_reached(&rules, totals, &choice, &counts, n, r, out)
+            draw::draw_from(
+                &rules,
+                totals,
+                &choice,
+                &counts,
+                question.length as usize,
+                &numbers[0..k],
+                &sums[0..k],
+                ticket,
+                out,
+            )
         }
     }
 }
 
-// With room for the first tickets and the sums. Behind the totals by weight, which end at row 35, a chart of up to five words takes 15 rows, of ten 55, of
-// sixteen 136.
+// With room for the totals: 2,004 bytes of history have 100 records at most.
 fn draw_by(
     g: &[u8],
     h: &[u8],
     question: Question,
     weights: &[u8],
     ticket: DrawNumber,
-    numbers: &mut [u64],
-    sums: &mut [u64],
+    totals: &mut [[u64; 32]],
     out: &mut [u8],
 ) -> DrawAnswer
-    requires { Places h.now numbers.old sums.old }
+    requires { Cleared question.length totals.old }
     ensures { draw_says result out.new ≡ draw_weighted g.now h.now question.length question.voice weights.now ticket.0 out.old }
 {
-    let row = [0u64; 32];
-    if question.length <= 5 {
-        let mut totals = [row; 50];
+    if h.len() <= 2004 {
+        let mut numbers = [0u64; 100];
+        let mut sums = [0u64; 100];
         return draw_in(
             g,
             h,
             question,
             weights,
             ticket,
-            &mut totals,
-            numbers,
-            sums,
+            totals,
+            &mut numbers,
+            &mut sums,
             out,
         );
     }
-    if question.length <= 10 {
-        let mut totals = [row; 90];
-        return draw_in(
-            g,
-            h,
-            question,
-            weights,
-            ticket,
-            &mut totals,
-            numbers,
-            sums,
-            out,
-        );
-    }
-    let mut totals = [row; 171];
+    let mut numbers = [0u64; 1000];
+    let mut sums = [0u64; 1000];
     draw_in(
         g,
         h,
         question,
         weights,
         ticket,
-        &mut totals,
-        numbers,
-        sums,
+        totals,
+        &mut numbers,
+        &mut sums,
         out,
     )
 }
 
-// 2,004 bytes of history have 100 records at most, and fewer than 24 have none: then no chart is made. The tables for charts, most of what a call takes of
-// the stack, are made where a history has records alone: stack costs time by the page.
+// Behind the totals by weight, which end at row 35, a chart of up to five words takes 15 rows, of sixteen 136. A history of fewer than 24 bytes has no
+// record, and no chart is made for it.
 pub fn draw_weighted(
     g: &[u8],
     h: &[u8],
@@ -114,8 +105,8 @@ pub fn draw_weighted(
 ) -> DrawAnswer
     ensures { draw_says result out.new ≡ draw_weighted g.now h.now question.length question.voice weights.now ticket.0 out.old }
 {
+    let row = [0u64; 32];
     if h.len() < 24 {
-        let row = [0u64; 32];
         let mut totals = [row; 35];
         let mut numbers = [0u64; 1];
         let mut sums = [0u64; 1];
@@ -131,30 +122,10 @@ pub fn draw_weighted(
             out,
         );
     }
-    if h.len() <= 2004 {
-        let mut numbers = [0u64; 100];
-        let mut sums = [0u64; 100];
-        return draw_by(
-            g,
-            h,
-            question,
-            weights,
-            ticket,
-            &mut numbers,
-            &mut sums,
-            out,
-        );
+    if question.length <= 5 {
+        let mut totals = [row; 50];
+        return draw_by(g, h, question, weights, ticket, &mut totals, out);
     }
-    let mut numbers = [0u64; 1000];
-    let mut sums = [0u64; 1000];
-    draw_by(
-        g,
-        h,
-        question,
-        weights,
-        ticket,
-        &mut numbers,
-        &mut sums,
-        out,
-    )
+    let mut totals = [row; 171];
+    draw_by(g, h, question, weights, ticket, &mut totals, out)
 }

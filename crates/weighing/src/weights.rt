@@ -1,5 +1,5 @@
 // The words' weights: whether they are such, their row in the table of rules, and what the words before each weigh.
-ghost use Rattle.std.specs.Prelude.{◌≡◌, ◌||◌, eqb};
+ghost use Rattle.std.specs.Prelude.{◌≡◌};
 ghost use Rattle.weighing.specs.Weights.{bad_weights};
 ghost use Rattle.weighing.specs.Inner.Tables.{Sets, SetAs, SumsUp, SummedUpAs};
 
@@ -8,27 +8,21 @@ use counting::letters::WEIGHED;
 use grammar::rules;
 use grammar::rules::{BEFORE_HIGH, BEFORE_LOW, WEIGHTS};
 
-// The smaller of two weights: 0 if one of them is.
-fn least(x: u8, y: u8) -> u8
-    ensures { eqb result 0 ≡ (eqb x 0 || eqb y 0) }
-{
-    if x <= y { x } else { y }
-}
-
-// 24: they are not one for each word, or one of them is 0. All are looked at, many at a time, as nearly always none is 0.
+// 24: they are not one for each word, or one of them is 0.
 pub fn bad(weights: &[u8], words: u8) -> bool
     ensures { result ≡ bad_weights words weights.now }
 {
     if weights.len() != words as usize {
         return true;
     }
-    let mut low: u8 = 1;
     let mut w = 0;
     while w < weights.len() {
-        low = least(low, weights[w]);
+        if weights[w] == 0 {
+            return true;
+        }
         w += 1;
     }
-    low == 0
+    false
 }
 
 // Into their row, which is all 0.

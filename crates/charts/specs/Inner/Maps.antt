@@ -77,8 +77,7 @@ pub record LetteredAs (blank : ℕ) (words : List ℕ) (before after : List (Lis
   pub bytes : (p : ℕ) → p < length words → get_or words p 0 < 256
   pub kept : (r : ℕ) → 1 ≤ r → get_or after r [] ≡ get_or before r []
 
--- a sentence that may be held against a map's letters: where the map is that of the counts, or the one by weight, it stands
+-- a sentence that may be held against a map's letters: where the map is that of the counts, it stands
 pub record Fitted (map : List (List ℕ)) (sentence : List ℕ) : Type 0 where
   pub short : length sentence ≤ 16
   pub plain : row_at map 0 1 < 17 → stands map 0 sentence ≡ true
-  pub heavy : letter_at map 0 ≡ weighed → stands map 0 sentence ≡ true

@@ -71,14 +71,13 @@ all_numbers_in rules u tell h n v = concat_map (numbers_in rules u tell n) (sent
 -- ---- one sentence
 
 -- The totals of a measure over the spans of a plan, in rows that no sentence's chart has. A sentence stands if it weighs something; where the totals
--- are the counts, or those by weight, every sentence does.
+-- are the counts every sentence does.
 pub record Measures (rules plan measure totals : List (List ℕ)) (first n : ℕ) : Type 0 where
   pub mapped : Mapped rules totals measure n (needed plan)
   pub rows : (p m : ℕ) → Span n p m → row_at measure p m < first
   pub weights : (p : ℕ) → p < n → letter_at measure p ≡ weighed → Summed rules
   pub stand : (s : List ℕ) → s ∈ full_in rules n → stands measure 0 s ≡ ltb 0 (weighs rules measure s)
   pub plain : row_at measure 0 1 < 17 → (s : List ℕ) → length s ≡ n → stands measure 0 s ≡ true
-  pub heavy : letter_at measure 0 ≡ weighed → (s : List ℕ) → length s ≡ n → stands measure 0 s ≡ true
 
 -- the tables for sentences of the plan's length, their charts from the row `first` on
 pub record Serves (rules plan map measure : List (List ℕ)) (sets : List ℕ) (totals : List (List ℕ)) : Type 0 where

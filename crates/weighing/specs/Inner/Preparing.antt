@@ -61,10 +61,12 @@ pub record Rooms (n : ℕ) (h : List ℕ) (totals : List (List ℕ)) (numbers su
   pub zeros : (r A : ℕ) → entry totals r A ≡ 0
   pub room : Room n h totals numbers sums
 
--- of it, for the first tickets and the sums
-pub record Places (h numbers sums : List ℕ) : Type 0 where
-  pub numbers_room : Accepted h → records_of h ≤ length numbers
-  pub sums_room : Accepted h → records_of h ≤ length sums
+-- of it, for the totals of any history
+pub record Cleared (n : ℕ) (totals : List (List ℕ)) : Type 0 where
+  pub long : 35 ≤ length totals
+  pub wide : Wide totals 32
+  pub zeros : (r A : ℕ) → entry totals r A ≡ 0
+  pub charts : n ≤ 16 → end_of behind_weights n ≤ length totals
 
 -- what preparing answers: the refusal, or the tables, the first tickets and the sums
 pub record PreparedAs (g h : List ℕ) (n v : ℕ) (weights : List ℕ) (rules totals : List (List ℕ)) (numbers sums : List ℕ) (s : Sampled) : Type 0 where

@@ -28,24 +28,20 @@ loop-holds c = (omega arith, refl)
 returns : tie.Need-returns invariant-loop decreases-loop
 returns c = let r = c.before in sym ((start r).requires.plain (omega (arith, r.row_at.ensures, c.if1.true)))
 
--- the one by weight
 returns-2 : tie.Need-returns-2 invariant-loop decreases-loop
-returns-2 c = sym ((start c.before.before.before).pre.heavy c.if2.true)
-
-returns-3 : tie.Need-returns-3 invariant-loop decreases-loop
-returns-3 c =
+returns-2 c =
     let a = c.before in
     let l = a.before.before.before.before in
-    sym (sym l.loop.invariant.1 ∙ stands_fails _ l.loop.p _ (omega arith) (sym a.admits.ensures ∙ not-true _ c.if3.true))
+    sym (sym l.loop.invariant.1 ∙ stands_fails _ l.loop.p _ (omega arith) (sym a.admits.ensures ∙ not-true _ c.if2.true))
 
 loop-again : tie.Need-loop-preserved invariant-loop decreases-loop
 loop-again c =
     let a = c.before in
     let l = a.before.before.before.before in
-    (omega arith, rw add-one (stands_more _ l.loop.p _ (omega arith) (sym a.admits.ensures ∙ not-false _ c.if3.false) ∙ l.loop.invariant.1))
+    (omega arith, rw add-one (stands_more _ l.loop.p _ (omega arith) (sym a.admits.ensures ∙ not-false _ c.if2.false) ∙ l.loop.invariant.1))
 
-returns-4 : tie.Need-returns-4 invariant-loop decreases-loop
-returns-4 c = let l = c.before in sym (sym l.loop.invariant.1 ∙ stands_end _ l.loop.p _ (omega arith))
+returns-3 : tie.Need-returns-3 invariant-loop decreases-loop
+returns-3 c = let l = c.before in sym (sym l.loop.invariant.1 ∙ stands_end _ l.loop.p _ (omega arith))
 
 pub fits-spec : {M : Type 1} → statement M
 fits-spec =
@@ -55,17 +51,14 @@ fits-spec =
     decreases-loop
     (λ c κs. omega arith)
     returns
-    (λ c. omega arith)
-    (λ c. omega arith)
-    returns-2
     loop-holds
     (λ c. omega arith)
     (λ c. omega arith)
     (λ c. omega arith)
     (λ c. omega arith)
     (λ c κs. search rules)
-    returns-3
+    returns-2
     (λ c. omega arith)
     (λ c. omega arith)
     loop-again
-    returns-4)
+    returns-3)

@@ -1,18 +1,15 @@
--- `draw` meets its contract: each array has room for the numbers.
+-- `draw` meets its contract: either array has room for the numbers.
 -- Assumes nothing.
 use borrow.Author.Rules.{rules}
-use Rattle.sampling.proofs.Answering.{room_all, room_short, room_none}
+use Rattle.sampling.proofs.Answering.{room_all, room_short}
 use Rattle.sampling.proofs.draw.draw.Statement.{statement}
 use Rattle.sampling.proofs.draw.draw.Tie as tie
 
 draw-in-requires : tie.Need-draw-in-requires
-draw-in-requires c κs = room_none _ c.before.before.if1.true
+draw-in-requires c κs = room_short _ c.before.before.if1.true
 
 draw-in-requires-2 : tie.Need-draw-in-requires-2
-draw-in-requires-2 c κs = room_short _ c.before.before.if2.true
-
-draw-in-requires-3 : tie.Need-draw-in-requires-3
-draw-in-requires-3 c κs = room_all _
+draw-in-requires-2 c κs = room_all _
 
 pub draw-spec : {M : Type 1} → statement M
 draw-spec =
@@ -24,9 +21,5 @@ draw-spec =
     (λ c. search rules)
     (λ c. search rules)
     draw-in-requires-2
-    (λ c. search rules)
-    (λ c. search rules)
-    (λ c. search rules)
-    draw-in-requires-3
     (λ c. search rules)
     (λ c. search rules))

@@ -8,7 +8,7 @@ use Rattle.answers.proofs.Numbers.{number_some}
 use Rattle.charts.proofs.Mapping.{counts_map_lem}
 use Rattle.sampling.specs.Question.{asked}
 use Rattle.sampling.specs.Inner.Preparing.{Drawable}
-use Rattle.sampling.proofs.Answering.{draw_refused, draw_skipping_lem, draw_sought, prepared_case, reaches, reach_sought}
+use Rattle.sampling.proofs.Answering.{draw_refused, draw_skipping_lem, draw_sought, prepared_case}
 use Rattle.sampling.proofs.draw.draw_matching_in.Statement.{statement}
 use Rattle.sampling.proofs.draw.draw_matching_in.Tie as tie
 
@@ -27,31 +27,15 @@ drawable : (c : tie.After-p2)
     Drawable s.g.now s.h.now (asked s.question s.pattern.now) last.0 last.1.0 last.1.1.0 last.1.1.1.0 c.p2.given.0.0
 drawable c = prepared_case (called c).prepare-matching.ensures c.p2.given.1
 
-abbrev totalled : tie.After-reach → tie.After-total
-totalled c = c.before.before.before.before
-
-abbrev prepared : tie.After-reach → tie.After-p2
-prepared c = (totalled c).before.before.before.before.before
-
-total-requires : tie.Need-total-requires
-total-requires c κs = (drawable c.before.before.before.before).chooses
-
-part-reach-end : tie.Need-slice-bounds-reach-end
-part-reach-end c =
+part-draw-from-end : tie.Need-slice-bounds-draw-from-end
+part-draw-from-end c =
     let p = c.before.before.before.before.before.before in
     omega (arith, (drawable p).few, (called p).prepare-matching.ensures.room (drawable p).diary)
 
-reach-requires : tie.Need-reach-requires
-reach-requires c κs =
-    let t = c.before.before.before in
-    let p = t.before.before.before.before.before in
-    reaches (draw_sought (drawable p) (called p).prepare-matching.ensures.room) t.total.ensures
-
-draw-reached-requires : tie.Need-draw-reached-requires
-draw-reached-requires c κs =
-    let r = c.before.before.before.before.before in
-    let p = prepared r in
-    (_, _, _, reach_sought (draw_sought (drawable p) (called p).prepare-matching.ensures.room) counts_map_lem (totalled r).total.ensures r.reach.ensures)
+draw-from-requires : tie.Need-draw-from-requires
+draw-from-requires c κs =
+    let p = c.before.before.before.before.before.before.before.before.before in
+    (draw_sought (drawable p) (called p).prepare-matching.ensures.room, counts_map_lem)
 
 returns : tie.Need-returns
 returns c =
@@ -60,12 +44,9 @@ returns c =
 
 returns-2 : tie.Need-returns-2
 returns-2 c =
-    let d = c.before.before in
-    let r = d.before.before.before.before.before.before in
-    let p = prepared r in
-    d.draw-reached.ensures _ _ _
-    (reach_sought (draw_sought (drawable p) (called p).prepare-matching.ensures.room) counts_map_lem (totalled r).total.ensures r.reach.ensures)
-    ∙ draw_skipping_lem _ _ _ _ _ (drawable p)
+    let w = c.before.before in
+    let p = w.before.before.before.before.before.before.before.before.before.before in
+    w.draw-from.ensures ∙ draw_skipping_lem _ _ _ _ _ (drawable p)
 
 pub draw-matching-in-spec : {M : Type 1} → statement M
 draw-matching-in-spec =
@@ -74,15 +55,13 @@ draw-matching-in-spec =
     prepare-matching-requires
     (λ c. search rules)
     (λ c. search rules)
-    total-requires
     (λ c. search rules)
     (λ c. search rules)
-    part-reach-end
+    part-draw-from-end
     (λ c. search rules)
     (λ c. search rules)
     (λ c. search rules)
-    reach-requires
-    draw-reached-requires
+    draw-from-requires
     (λ c. search rules)
     (λ c. search rules)
     (λ c. search rules)

@@ -1,18 +1,15 @@
--- `remaining` meets its contract: each array has room for the numbers.
+-- `remaining` meets its contract: either array has room for the numbers.
 -- Assumes nothing.
 use borrow.Author.Rules.{rules}
-use Rattle.sampling.proofs.Answering.{room_all, room_short, room_none}
+use Rattle.sampling.proofs.Answering.{room_all, room_short}
 use Rattle.sampling.proofs.remaining.remaining.Statement.{statement}
 use Rattle.sampling.proofs.remaining.remaining.Tie as tie
 
 remaining-in-requires : tie.Need-remaining-in-requires
-remaining-in-requires c κs = room_none _ c.before.if1.true
+remaining-in-requires c κs = room_short _ c.before.if1.true
 
 remaining-in-requires-2 : tie.Need-remaining-in-requires-2
-remaining-in-requires-2 c κs = room_short _ c.before.if2.true
-
-remaining-in-requires-3 : tie.Need-remaining-in-requires-3
-remaining-in-requires-3 c κs = room_all _
+remaining-in-requires-2 c κs = room_all _
 
 pub remaining-spec : {M : Type 1} → statement M
 remaining-spec =
@@ -23,7 +20,4 @@ remaining-spec =
     (λ c. search rules)
     (λ c. search rules)
     remaining-in-requires-2
-    (λ c. search rules)
-    (λ c. search rules)
-    remaining-in-requires-3
     (λ c. search rules))
