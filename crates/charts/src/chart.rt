@@ -92,7 +92,7 @@ fn fill_leaf(
 // ---- two positions or more
 
 // A row, and those of the halves.
-#[derive(Drop)]
+#[derive(Clone, Copy)]
 struct Split {
     row: usize,
     left: usize,

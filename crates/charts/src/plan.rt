@@ -28,7 +28,7 @@ fn long(x: u32) -> usize
 }
 
 // The nonterminals that stand left in pair rules, and right.
-#[derive(Drop)]
+#[derive(Clone, Copy)]
 struct PairSides {
     lefts: u32,
     rights: u32,

@@ -8,7 +8,7 @@ use crate::{prepare, tallies};
 use answers::refusal::Refusal;
 use grammar::rules;
 
-#[derive(Drop)]
+#[derive(Clone, Copy)]
 pub enum CountAnswer {
     Given(u64),
     Refused(Refusal),

@@ -8,7 +8,7 @@ use answers::refusal::Refusal;
 use grammar::checks;
 use grammar::checks::GrammarAnswer;
 
-#[derive(Drop)]
+#[derive(Clone, Copy)]
 pub enum Prepared {
     Ready,
     Refused(Refusal),

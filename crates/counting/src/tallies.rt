@@ -17,14 +17,14 @@ use grammar::rules;
 pub const LONGEST: usize = 0;
 
 // A count, or that it is above 2^64 - 1.
-#[derive(Drop)]
+#[derive(Clone, Copy)]
 pub enum Tally {
     Fits(u64),
     Over,
 }
 
 // A total and a count that is no more, or that the total is above 2^64 - 1.
-#[derive(Drop)]
+#[derive(Clone, Copy)]
 pub enum Both {
     Fit(u64, u64),
     Over,

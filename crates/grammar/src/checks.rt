@@ -14,7 +14,7 @@ use crate::rules::wide;
 use crate::{entries, rules};
 use answers::refusal::Refusal;
 
-#[derive(Drop)]
+#[derive(Clone, Copy)]
 pub enum GrammarAnswer {
     Given { nonterminals: u8, words: u8 },
     Refused(Refusal),
@@ -66,7 +66,7 @@ fn rule_fits(n: u8, w: u8, kind: u8, a: u8, b: u8) -> bool
 }
 
 // What is wrong with the rules: some rule does not fit; if all fit, some next is above R.
-#[derive(Drop)]
+#[derive(Clone, Copy)]
 pub struct Faults {
     pub rule: bool,
     pub link: bool,

@@ -5,13 +5,13 @@ ghost use Rattle.grammar.specs.Inner.Checks.{Readable};
 ghost use Rattle.grammar.specs.Inner.Steps.{step_at};
 
 // A place on a chain: the number of the rule that comes next, 0 at the end.
-#[derive(Drop)]
+#[derive(Clone, Copy)]
 pub struct ChainCursor {
     pub at: u8,
 }
 
 // A rule, and the walk after it.
-#[derive(Drop)]
+#[derive(Clone, Copy)]
 pub enum Step {
     Word(u8, ChainCursor),
     Pair(u8, u8, ChainCursor),

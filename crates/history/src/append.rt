@@ -10,7 +10,7 @@ use crate::checks::HistoryAnswer;
 use crate::{checks, records};
 use answers::refusal::Refusal;
 
-#[derive(Drop)]
+#[derive(Clone, Copy)]
 pub enum AppendAnswer {
     Given(u64),
     Refused(Refusal),

@@ -8,7 +8,7 @@ ghost use Rattle.history.specs.Inner.Says.{history_says};
 use crate::records;
 use answers::refusal::Refusal;
 
-#[derive(Drop)]
+#[derive(Clone, Copy)]
 pub enum HistoryAnswer {
     Given(u64),
     Refused(Refusal),
@@ -68,7 +68,7 @@ fn misfit(h: &[u8], at: usize) -> bool
 }
 
 // What one pass over the records shows: whether a record is bad (12), and if none is, whether a link is far (13).
-#[derive(Drop)]
+#[derive(Clone, Copy)]
 struct RecordTests {
     bad: bool,
     far: bool,

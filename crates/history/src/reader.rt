@@ -10,7 +10,7 @@ ghost use Rattle.history.specs.Inner.Reading.{is_record, sentence_at, next_at};
 use crate::records;
 
 // A place on the chain. The number 0 is the end.
-#[derive(Drop)]
+#[derive(Clone, Copy)]
 pub struct Reader<'a> {
     pub history: &'a [u8],
     pub at: usize,

@@ -18,6 +18,7 @@ module _ {X : Type 0} where
 
   -- what stands in a list stands at a place of it
   pub ∈_place : {x : X} (l : List X) → x ∈ l → (i : ℕ) × (i < length l) × At l i x
+  ∈_place [] x'' = elim x'' [ ]
   ∈_place (y ∷ l) (Memᴰ.head e) = (0, omega arith, e)
   ∈_place (y ∷ l) (Memᴰ.tail m) = let q = ∈_place l m in (suc q.0, omega arith, q.2)
 
@@ -38,6 +39,7 @@ module _ {X : Type 0} where
 
 module _ {X Y : Type 0} where
   pub ∈_concat : {y : Y} (f : X → List Y) (x : X) (l : List X) → x ∈ l → y ∈ f x → y ∈ concat_map f l
+  ∈_concat {y = y} f x [] x3 m = elim x3 [ ]
   ∈_concat f x (z ∷ l) (Memᴰ.head e) m = Memᴰ.append_left (concat_map f l) (rw e at m)
   ∈_concat f x (z ∷ l) (Memᴰ.tail h) m = Memᴰ.append_right (f z) (∈_concat f x l h m)
 
@@ -51,6 +53,7 @@ module _ {X Y : Type 0} where
 
 module _ {X Y Z : Type 0} where
   pub ∈_combine : {x : X} {y : Y} (f : X → Y → Z) (l : List X) (r : List Y) → x ∈ l → y ∈ r → f x y ∈ combine f l r
+  ∈_combine {y = y} f [] r x3 m = elim x3 [ ]
   ∈_combine {y = y} f (z ∷ l) r (Memᴰ.head e) m =
       Memᴰ.append_left (combine f l r) (Memᴰ.cast (ap (λ (q : X). f q y) e) (Memᴰ.map (f z) m))
   ∈_combine f (z ∷ l) r (Memᴰ.tail h) m = Memᴰ.append_right (map (f z) r) (∈_combine f l r h m)

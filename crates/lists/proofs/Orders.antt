@@ -62,6 +62,7 @@ module _ {X : Type 0} where
 
   -- in a list of fewer than two elements all are equal, and a list without repetition whose elements are all equal has fewer than two
   pub few_same : (l : List X) → length l < 2 → (x y : X) → x ∈ l → y ∈ l → x ≡ y
+  few_same [] h x y m k = elim m [ ]
   few_same (z ∷ []) h x y m k = Memᴰ.eq_of_singleton m ∙ sym (Memᴰ.eq_of_singleton k)
   few_same (z ∷ w ∷ l) h x y m k = absurd (omega arith)
 
@@ -74,6 +75,7 @@ module _ {X : Type 0} where
 
   -- a list without one of its elements still has every other
   without : {x : X} (l : List X) → x ∈ l → (r : List X) × (length l ≡ suc (length r)) × ((y : X) → y ∈ l → y ≢ x → y ∈ r)
+  without {x = x} [] x'' = elim x'' [ ]
   without {x} (z ∷ l) (Memᴰ.head e) = (l, refl, λ y m n. go y n m)
     where
       go : (y : X) → y ≢ x → y ∈ (z ∷ l) → y ∈ l

@@ -140,6 +140,7 @@ sum_most : (f : ℕ → ℕ) (l : List ℕ) → ((x : ℕ) → x ∈ l → f x �
 sum_most f l h = omega (arith, sum_le f (λ x. 1) l h, sum_const 1 l)
 
 sum_full : (f : ℕ → ℕ) (l : List ℕ) → ((x : ℕ) → x ∈ l → f x ≤ 1) → sum_over f l ≡ length l → (x : ℕ) → x ∈ l → f x ≡ 1
+sum_full f [] h e x x5 = elim x5 [ ]
 sum_full f (y ∷ l) h e x (Memᴰ.head p) =
     rw p (omega (arith, h y (Memᴰ.head refl), sum_most f l (λ z m. h z (Memᴰ.tail m))))
 sum_full f (y ∷ l) h e x (Memᴰ.tail q) =
@@ -151,6 +152,7 @@ pub times_full : (k n : ℕ) (l : List ℕ) → ((x : ℕ) → x ∈ l → (k �
 times_full k n l h f e = sum_full (λ r. times r l) (up_from k n) f (omega (arith, times_sum k n l h, length_up_from k n))
 
 pub times_∈ : (r : ℕ) (l : List ℕ) → r ∈ l → 1 ≤ times r l
+times_∈ r [] x' = elim x' [ ]
 times_∈ r (x ∷ l) (Memᴰ.head e) = let b : bit (eqb r x) ≡ 1 = ap bit (eq-eqb r x e) in omega arith
 times_∈ r (x ∷ l) (Memᴰ.tail m) = omega (arith, times_∈ r l m)
 
@@ -204,6 +206,7 @@ distinct_times (x ∷ l) (more f s) r =
 module _ {X : Type 0} where
   -- a value stands in all the lists together at least as often as in one of them
   pub times_concat : (r : ℕ) (f : X → List ℕ) (x : X) (l : List X) → x ∈ l → times r (f x) ≤ times r (concat_map f l)
+  times_concat r f x [] x'' = elim x'' [ ]
   times_concat r f x (y ∷ l) (Memᴰ.head e) =
       omega (arith, sum_append (λ z. bit (eqb r z)) (f y) (concat_map f l), ap (λ (z : X). times r (f z)) e)
   times_concat r f x (y ∷ l) (Memᴰ.tail m) =

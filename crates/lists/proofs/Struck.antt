@@ -220,6 +220,7 @@ module _ {X Y : Type 0} (f : X → Y) (P : Y → Bool) (v : Y → ℕ) where
 module _ {X : Type 0} where
   -- what stands at a place of a list stands in the list of its places, and nothing else does
   pub numbered_∈ : (k : ℕ) (l : List X) {e : ℕ × X} → e ∈ numbered k l → (k ≤ e.0) × At l (e.0 - k) e.1
+  numbered_∈ k [] {e = e} x' = elim x' [ ]
   numbered_∈ k (x ∷ l) {e} (Memᴰ.head f) =
       let z : k - k ≡ 0 = omega arith in rw f (omega arith, rw z refl)
   numbered_∈ k (x ∷ l) {e} (Memᴰ.tail m) =

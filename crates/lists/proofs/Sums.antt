@@ -42,6 +42,7 @@ module _ {X : Type 0} where
 
   -- no part is more than the whole
   pub sum_part : (f : X → ℕ) {x : X} (l : List X) → x ∈ l → f x ≤ sum_over f l
+  sum_part f [] x'' = elim x'' [ ]
   sum_part f (y ∷ l) (Memᴰ.head e) = omega (arith, ap f e)
   sum_part f (y ∷ l) (Memᴰ.tail m) = omega (arith, sum_part f l m)
 

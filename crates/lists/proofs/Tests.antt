@@ -111,6 +111,7 @@ module _ {X : Type 0} where
 
   -- one that passes is enough, and where some element passes, one can be shown
   pub some_∈ : (P : X → Bool) (x : X) (l : List X) → x ∈ l → P x ≡ true → some_of P l ≡ true
+  some_∈ P x [] x3 h = elim x3 [ ]
   some_∈ P x (y ∷ l) (Memᴰ.head e) h = rw (← e, h)
   some_∈ P x (y ∷ l) (Memᴰ.tail m) h = or_true (P y) (some_of P l) (some_∈ P x l m h)
 
@@ -125,6 +126,7 @@ module _ {X : Type 0} where
 
   -- where none passes, each fails
   pub none_∈ : (P : X → Bool) (l : List X) → some_of P l ≡ false → (x : X) → x ∈ l → P x ≡ false
+  none_∈ P [] e x x4 = elim x4 [ ]
   none_∈ P (y ∷ l) e x (Memᴰ.head p) = ap P p ∙ or_left (P y) (some_of P l) e
   none_∈ P (y ∷ l) e x (Memᴰ.tail m) = none_∈ P l (or_right (P y) (some_of P l) e) x m
 

@@ -17,13 +17,13 @@ use walk::nodes;
 use walk::nodes::Node;
 
 // The tickets that a derivation owns: the first of them, and how many they are.
-#[derive(Drop)]
+#[derive(Clone, Copy)]
 pub struct Span {
     pub first: u64,
     pub weight: u64,
 }
 
-#[derive(Drop)]
+#[derive(Clone, Copy)]
 pub enum RankAnswer {
     Given {
         lowest: DerivationNumber,

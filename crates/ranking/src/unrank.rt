@@ -14,10 +14,10 @@ use walk::nodes;
 use walk::nodes::Node;
 
 // How many derivations stand before one (document 01: derivation number). No draw number is one.
-#[derive(Drop)]
+#[derive(Clone, Copy)]
 pub struct DerivationNumber(pub u64);
 
-#[derive(Drop)]
+#[derive(Clone, Copy)]
 pub enum UnrankAnswer {
     Given(u64),
     Refused(Refusal),

@@ -16,7 +16,7 @@ use charts::maps;
 use ranking::unrank;
 use ranking::unrank::DerivationNumber;
 
-#[derive(Drop)]
+#[derive(Clone, Copy)]
 pub enum DrawAnswer {
     Given(u64, DerivationNumber),
     Refused(Refusal),

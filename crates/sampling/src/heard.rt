@@ -10,7 +10,7 @@ use history::{reader, records};
 use ranking::rank;
 
 // What a heard sentence adds: nothing, the place of its one derivation and what that weighs, or that it has two or more.
-#[derive(Drop)]
+#[derive(Clone, Copy)]
 pub enum Added {
     Nothing,
     Place(u64, u64),
@@ -18,7 +18,7 @@ pub enum Added {
 }
 
 // How many places there are, or that a sentence has two or more derivations.
-#[derive(Drop)]
+#[derive(Clone, Copy)]
 pub enum Collected {
     Numbers(usize),
     Ambiguous,

@@ -22,7 +22,7 @@ use history::checks;
 use history::checks::HistoryAnswer;
 
 // How many heard numbers there are, or why not.
-#[derive(Drop)]
+#[derive(Clone, Copy)]
 pub enum Sampled {
     Ready(usize),
     Refused(Refusal),

@@ -1,5 +1,5 @@
 // What *Left* and *Draw* are asked: numbers from outside, as they come.
-#[derive(Drop)]
+#[derive(Clone, Copy)]
 pub struct Question {
     pub length: u64,
     pub voice: u64,

@@ -12,7 +12,7 @@ use crate::question::Question;
 use answers::refusal::Refusal;
 use ranking::unrank;
 
-#[derive(Drop)]
+#[derive(Clone, Copy)]
 pub enum RemainingAnswer {
     Given(u64, u64, u64),
     Refused(Refusal),

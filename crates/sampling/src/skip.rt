@@ -6,7 +6,7 @@ ghost use Rattle.sampling.specs.Inner.Skipping.{heard_spans, passed_by, Skips};
 use ranking::unrank::DerivationNumber;
 
 // How many unheard derivations stand before one (document 01: draw number). By weights, how many of their tickets.
-#[derive(Drop)]
+#[derive(Clone, Copy)]
 pub struct DrawNumber(pub u64);
 
 // What the first i of the heard ones weigh: without sums each weighs 1.

@@ -11,7 +11,7 @@ use grammar::rules;
 use grammar::rules::{NEXT_WORD, WITH_WORD, WORD_OWNER};
 
 // A word, its place by the measure, what it measures and what it weighs, and the ticket's offset in it.
-#[derive(Drop)]
+#[derive(Clone, Copy)]
 pub struct Picked {
     pub word: u8,
     pub place: u64,

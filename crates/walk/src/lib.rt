@@ -20,7 +20,7 @@ pub mod nodes;
 pub mod pairs;
 
 // What is found: its place by the measure, what it measures and what it weighs, and the ticket's offset in it.
-#[derive(Drop)]
+#[derive(Clone, Copy)]
 pub struct Found {
     pub place: u64,
     pub measured: u64,

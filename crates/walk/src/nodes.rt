@@ -6,7 +6,7 @@ ghost use Rattle.walk.specs.Inner.Steps.{Placed, Cut};
 use charts::maps;
 
 // A nonterminal over the m positions from p on.
-#[derive(Drop)]
+#[derive(Clone, Copy)]
 pub struct Node {
     pub a: usize,
     pub p: usize,

@@ -10,7 +10,7 @@ use counting::tallies::LONGEST;
 use grammar::rules;
 
 // A pair rule's nonterminals and a left length, with what stands before and what is left of the ticket.
-#[derive(Drop)]
+#[derive(Clone, Copy)]
 pub struct Pick {
     pub b: usize,
     pub c: usize,

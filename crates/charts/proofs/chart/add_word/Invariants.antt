@@ -1,0 +1,14 @@
+-- `add_word` meets its contract. The loop's invariant is `WordWalk`: what the row has, with what the rules from the one at hand on add, is
+-- what all with this word add. The measure is the link to the rule at hand: each walk goes down.
+-- Assumes nothing.
+use Prim.Native.Nat.{◌≤◌, ◌<◌}
+use native.Mathlib.Omega.{arith}
+use lib.ListN.{length}
+use Rattle.charts.proofs.Walking.{WordWalk, walk_end, word_start, word_low, word_owner_lem, word_less, word_room, word_step}
+use Rattle.charts.proofs.chart.add_word.Given as goal
+
+abbrev pub invariant-loop-l : goal.invariant-loop-l
+invariant-loop-l l = WordWalk l.rules l.x l.row l.initial.totals l.totals l.set l.l
+
+abbrev pub decreases-loop-l : goal.decreases-loop-l
+decreases-loop-l l = l.l

@@ -1,0 +1,28 @@
+-- `build` meets its contract: the rows that its steps promise make a plan.
+-- Assumes nothing.
+use mathlib.Core.Path.{◌≡◌, refl, ap, ◌∙◌}
+use borrow.Author.Rules.{rules}
+use Prim.Native.Nat.{ℕ}
+use Rattle.lists.proofs.Places.{get_or_same}
+use Rattle.grammar.specs.Inner.Rules.{pair_from, count_in}
+use Rattle.charts.proofs.Gathering.{cutting_length, length_held}
+use Rattle.charts.proofs.Assembling.{spots_ask, built}
+use Rattle.charts.proofs.plan.build.Goals as goal
+
+pub link-sides-requires : goal.link-sides-requires
+link-sides-requires c =
+    let ends : c.pairs_from.result ≡ pair_from c.args.rules.now (count_in c.args.rules.now) = c.pairs_from.ensures.0 ∙ ap (pair_from c.args.rules.now) c.count-count.ensures.0 in
+    record { table = c.requires.counted.table; all = ends; long = refl }
+
+pub spot-requires : goal.spot-requires
+spot-requires c =
+    let ends : c.pairs_from.result ≡ pair_from c.args.rules.now (count_in c.args.rules.now) = c.pairs_from.ensures.0 ∙ ap (pair_from c.args.rules.now) c.count-count.ensures.0 in
+    spots_ask c.requires.counted c.count-count.ensures.0 ends c.want.ensures c.link-sides.ensures (cutting_length c.cut.ensures _) _ refl
+    (λ i. get_or_same {X = ℕ} 32 i 0)
+
+pub returns : goal.returns
+returns c =
+    let ends : c.pairs_from.result ≡ pair_from c.args.rules.now (count_in c.args.rules.now) = c.pairs_from.ensures.0 ∙ ap (pair_from c.args.rules.now) c.count-count.ensures.0 in
+    let pre = c.requires in
+    built _ pre.plan_long _ _ _ _ pre c.count-count.ensures.0 ends c.want.ensures c.link-sides.ensures (cutting_length c.cut.ensures _)
+    (length_held c.cut.ensures _) c.spot.ensures c.place.ensures

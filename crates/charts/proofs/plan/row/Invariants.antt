@@ -1,0 +1,14 @@
+-- `row` meets its contract. The loop's invariant: the spans before p have their rows. The measure is the spans left.
+-- Assumes nothing.
+use mathlib.Core.Path.{◌≡◌}
+use Prim.Native.Nat.{◌-◌, ◌≤◌}
+use native.Mathlib.Omega.{arith}
+use Rattle.charts.specs.Inner.Planning.{RowAs}
+use Rattle.charts.proofs.Placing.{rows_start, rows_turn}
+use Rattle.charts.proofs.plan.row.Given as goal
+
+abbrev pub invariant-loop-p : goal.invariant-loop-p
+invariant-loop-p l = (l.p ≤ l.end) × RowAs l.spots l.base l.p l.row
+
+abbrev pub decreases-loop-p : goal.decreases-loop-p
+decreases-loop-p l = l.end - l.p

@@ -1,0 +1,43 @@
+use Prim.Native.Nat.{ℕ, ◌-◌}
+use native.Mathlib.Omega.{arith}
+use borrow.Author.Rules.{rules}
+use Rattle.counting.specs.Inner.Filling.{DerivingBeside}
+use Rattle.counting.proofs.Filling.{deriving_few}
+use Rattle.counting.proofs.Besides.{SummingBeside, beside_start, beside_asks, beside_step, beside_over, beside_end}
+use Rattle.counting.proofs.tallies.derive_beside.Goals as goal
+
+pub overflow_add-a : goal.overflow_add-a
+overflow_add-a c = omega (arith, deriving_few c.requires.0.1.own)
+
+pub pairs_from-end-requires : goal.pairs_from-end-requires
+pairs_from-end-requires c = let d = c.requires.0.1.own in (d.table.long, omega (arith, deriving_few d))
+
+pub pairs_from-i-requires : goal.pairs_from-i-requires
+pairs_from-i-requires c = let d = c.requires.0.1.own in (d.table.long, omega (arith, deriving_few d))
+
+pub loop-i-init : goal.loop-i-init
+loop-i-init c u d = beside_start d c.requires.1 c.pairs_from-i.ensures.0
+
+pub left_at-requires : goal.left_at-requires
+left_at-requires c = let d = c.requires.0.1.own in (d.table.long, omega arith)
+
+pub right_at-requires : goal.right_at-requires
+right_at-requires c = let d = c.requires.0.1.own in (d.table.long, omega arith)
+
+pub add_pair_beside-s-requires : goal.add_pair_beside-s-requires
+add_pair_beside-s-requires c =
+    let d = c.requires.0 in
+    beside_asks d.1 c.requires.1 (c.loop-i.invariant d.0 d.1) (omega arith) c.left_at.ensures.0 c.right_at.ensures.0
+
+pub returns-in-Over : goal.returns-in-Over
+returns-in-Over c u d =
+    beside_over d c.requires.1 (c.loop-i.invariant u d) (omega arith) c.left_at.ensures.0 c.right_at.ensures.0
+    c.in-Over.is c.add_pair_beside-s.ensures
+
+pub loop-i-preserved : goal.loop-i-preserved
+loop-i-preserved c u d =
+    beside_step d c.requires.1 (c.loop-i.invariant u d) (omega arith) c.left_at.ensures.0 c.right_at.ensures.0
+    c.in-Fit.is c.add_pair_beside-s.ensures
+
+pub returns : goal.returns
+returns c u d = beside_end d c.requires.1 (c.loop-i.invariant u d) (omega arith)

@@ -1,0 +1,27 @@
+-- `test_records` meets its contract. The loop's invariant: no record passed is bad, and `far` is the test of the head and of the records passed.
+-- Assumes nothing.
+use mathlib.Core.Path.{◌≡◌, refl, sym, ap, ◌∙◌}
+use mathlib.Core.Bool.{Bool, true, false, ◌||◌, or-false, false≢true}
+use mathlib.Core.List.{List}
+use Prim.Native.Nat.{ℕ, ◌+◌, ◌-◌, ◌≤◌, ◌<◌}
+use native.Mathlib.Omega.{arith}
+use borrow.Author.Tests.{lt-ltb, le-ltb}
+use lib.Dec.{ltb}
+use Rattle.lists.specs.Searched.{some_below, some_to}
+use Rattle.lists.proofs.Tests.{or_true, to_hit, to_miss, to_some}
+use Rattle.history.specs.Layout.{records_of, head_of, record_at, two_at}
+use Rattle.history.specs.Refusals.{misfit, next_above, bad_record, bad_link}
+use Rattle.history.specs.Inner.Checks.{Sized, TestedAs}
+use Rattle.history.proofs.checks.test_records.Given as goal
+
+-- the first r records are passed
+pub record Past (h : List ℕ) (far : Bool) (r : ℕ) : Type 0 where
+  pub high : r ≤ records_of h
+  pub fit : some_to (λ r. misfit h (record_at r)) r ≡ false
+  pub links : far ≡ (ltb (records_of h) (head_of h) || some_to (next_above h) r)
+
+abbrev pub invariant-loop-r : goal.invariant-loop-r
+invariant-loop-r l = Past l.h l.far l.r
+
+abbrev pub decreases-loop-r : goal.decreases-loop-r
+decreases-loop-r l = l.k - l.r
