@@ -3,11 +3,7 @@
 use mathlib.Core.Path.{◌∙◌}
 use borrow.Author.Rules.{rules}
 use Rattle.matrix.proofs.Rules.{checked}
-use Rattle.matrix.proofs.check.Statement.{statement}
-use Rattle.matrix.proofs.check.Tie as tie
+use Rattle.matrix.proofs.check.Goals as goal
 
-returns : tie.Need-returns
+pub returns : goal.returns
 returns c = c.check.ensures ∙ checked
-
-pub check-spec : {M : Type 1} → statement M
-check-spec = tie.close (tie.spec (λ c. search rules) (λ c κs. search rules) returns)

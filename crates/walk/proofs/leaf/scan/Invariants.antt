@@ -1,0 +1,12 @@
+-- `scan` meets its contract. The loop's invariant: the words before the place i are gone through. While the ticket is one of theirs a word is left.
+-- Assumes nothing.
+use Prim.Native.Nat.{◌-◌}
+use native.Mathlib.Omega.{arith}
+use Rattle.walk.proofs.Leaves.{Scanning, scanning_start, scanning_low, scanning_room, scanning_found, scanning_next}
+use Rattle.walk.proofs.leaf.scan.Given as goal
+
+abbrev pub invariant-loop-rest : goal.invariant-loop-rest
+invariant-loop-rest l = Scanning l.rules l.by l.to l.a l.ticket l.i l.rest l.place
+
+abbrev pub decreases-loop-rest : goal.decreases-loop-rest
+decreases-loop-rest l = 256 - l.i
