@@ -39,6 +39,7 @@ use Rattle.sampling.specs.Inner.Collect.{fitting_at, barred}
 -- ---- sentences, each once
 
 pub distinct_∈ : (l : List (List ℕ)) (s : List ℕ) → s ∈ distinct l → s ∈ l
+distinct_∈ [] s m = elim m [ ]
 distinct_∈ (t ∷ l) s m = go (some_of (same t) l) (distinct_∈ l s) m
   where
     go : (b : Bool) → (s ∈ distinct l → s ∈ l) → s ∈ cond b (distinct l) (t ∷ distinct l) → s ∈ (t ∷ l)
@@ -47,6 +48,7 @@ distinct_∈ (t ∷ l) s m = go (some_of (same t) l) (distinct_∈ l s) m
     go false ih (Memᴰ.tail n) = Memᴰ.tail (ih n)
 
 ∈_distinct : (l : List (List ℕ)) (s : List ℕ) → s ∈ l → s ∈ distinct l
+∈_distinct [] s x' = elim x' [ ]
 ∈_distinct (t ∷ l) s (Memᴰ.head e) = go (some_of (same t) l) refl (∈_distinct l s)
   where
     go : (b : Bool) → some_of (same t) l ≡ b → (s ∈ l → s ∈ distinct l) → s ∈ cond b (distinct l) (t ∷ distinct l)

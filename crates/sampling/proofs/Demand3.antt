@@ -49,6 +49,7 @@ use Rattle.sampling.proofs.Premises.{heard_single, premises_pass, pass_premises}
 -- ---- the entries of the unheard list
 
 pub entries_∈ : (d : ℕ) (l : List Tree) {e : Entry} → e ∈ entries_from d l → e.tree ∈ l
+entries_∈ d [] {e = e} x' = elim x' [ ]
 entries_∈ d (t ∷ l) (Memᴰ.head f) = Memᴰ.head (ap (λ (e : Entry). e.tree) f)
 entries_∈ d (t ∷ l) (Memᴰ.tail m) = Memᴰ.tail (entries_∈ (suc d) l m)
 

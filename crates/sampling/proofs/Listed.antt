@@ -149,7 +149,7 @@ module _ (g h : List ℕ) (n v : ℕ) (u : List ℕ → ℕ) where
           ∙ ap (λ (l : List (ℕ × List ℕ)). get_or l q (0, [])) pairs_told
 
       entry_is : entry_at ticket_list q ≡ entry (get_or pairs q no_entry)
-      entry_is = ap (λ (l : List Entry). get_or l q (entry no_entry)) pairs_entries ∙ ListN.get_d_map entry pairs q no_entry
+      entry_is = ap (λ (l : List Entry). get_or l q (entry no_entry)) pairs_entries ∙ ListN.get_or-map entry pairs q no_entry
 
       pub drawn_listed : draw_skipping rules choice n firsts sums q out ≡ draw_from n q out ticket_list
       unfolding draw_skipping
