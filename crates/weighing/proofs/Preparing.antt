@@ -76,35 +76,33 @@ prepared_ready q e t = record { sampled = rw e at q; told = λ i z. let same = r
 
 -- ---- the sums
 
-module _ {g h : List ℕ} {n v : ℕ} {weights : List ℕ} {asked : List Row} {rules totals : List (List ℕ)} {numbers : List ℕ} {k : ℕ}
+module _ {g h : List ℕ} {n v : ℕ} (weights : List ℕ) {asked : List Row} {rules totals : List (List ℕ)} {numbers : List ℕ} {k : ℕ}
     (d : DrawableBy g h (plainly n v) (weighs weights) asked rules totals weights_map numbers k) (room : Accepted h → records_of h ≤ length numbers) where
-  -- what is struck
-  abbrev pub spans_of : List (ℕ × ℕ)
-  spans_of = spans_by g h n v (weighs weights)
+  -- `spans_by` is what is struck
 
   -- they are so many
-  few : length spans_of ≡ k
-  few = sym (length-map spans_of beginning) ∙ ap length (sym d.heard) ∙ length-take-le k numbers (omega (arith, d.few, room d.diary))
+  few : length (spans_by g h n v (weighs weights)) ≡ k
+  few = sym (length-map (spans_by g h n v (weighs weights)) beginning) ∙ ap length (sym d.heard) ∙ length-take-le k numbers (omega (arith, d.few, room d.diary))
 
   -- together they weigh no more than all
-  light : sum_over (λ (e : ℕ × ℕ). e.1) spans_of ≤ most
+  light : sum_over (λ (e : ℕ × ℕ). e.1) (spans_by g h n v (weighs weights)) ≤ most
   light =
       let outside : List ℕ → Bool = λ s. not (heard h v s) in
-      let are : spans_in rules weights_map n outside ≡ spans_of = spans_told g h n v (weighs weights) rules weights_map d.full d.weigh in
+      let are : spans_in rules weights_map n outside ≡ (spans_by g h n v (weighs weights)) = spans_told g h n v (weighs weights) rules weights_map d.full d.weigh in
       omega (arith, ap (sum_over (λ (e : ℕ × ℕ). e.1)) are, parts_low rules weights_map n outside, weigh_low d.chooses)
 
   module _ {rules₀ : List (List ℕ)} (t : grammar.Holds g rules₀) {ends : List ℕ} (ends_room : Accepted h → records_of h ≤ length ends) (e : Ended rules₀ (weighs weights) h n v ends) where
-    ends_are : take k ends ≡ map ending spans_of
+    ends_are : take k ends ≡ map ending (spans_by g h n v (weighs weights))
     ends_are =
-        let told : take e.0 ends ≡ map ending spans_of = heard_spans_lem t h (plainly n v) (weighs weights) ending (λ x y l. l.1) d.diary (take e.0 ends) e.1.1 in
+        let told : take e.0 ends ≡ map ending (spans_by g h n v (weighs weights)) = heard_spans_lem t h (plainly n v) (weighs weights) ending (λ x y l. l.1) d.diary (take e.0 ends) e.1.1 in
         let as_many : e.0 ≡ k
-        = sym (length-take-le e.0 ends (omega (arith, e.1.0, ends_room d.diary))) ∙ ap length told ∙ length-map spans_of ending ∙ few in
+        = sym (length-take-le e.0 ends (omega (arith, e.1.0, ends_room d.diary))) ∙ ap length told ∙ length-map (spans_by g h n v (weighs weights)) ending ∙ few in
         rw as_many at told
 
-    pub sums_sought : SumsSought spans_of (take (k - 0) numbers) ends
+    pub sums_sought : SumsSought (spans_by g h n v (weighs weights)) (take (k - 0) numbers) ends
     sums_sought =
         let part : k - 0 ≡ k = omega arith in
-        let size : length (take k numbers) ≡ k = ap length d.heard ∙ length-map spans_of beginning ∙ few in
+        let size : length (take k numbers) ≡ k = ap length d.heard ∙ length-map (spans_by g h n v (weighs weights)) beginning ∙ few in
         rw part
         (record {
           firsts_are = d.heard;
@@ -114,14 +112,14 @@ module _ {g h : List ℕ} {n v : ℕ} {weights : List ℕ} {asked : List Row} {r
           room = omega (arith, size, d.few, ends_room d.diary);
         })
 
-    pub sums_tell : {sums : List ℕ} → SummedAs spans_of ends sums
-        → (k ≤ length sums) × Told (take k numbers) (take k sums) × (heard_spans (take k numbers) (take k sums) ≡ spans_of)
+    pub sums_tell : {sums : List ℕ} → SummedAs (spans_by g h n v (weighs weights)) ends sums
+        → (k ≤ length sums) × Told (take k numbers) (take k sums) × (heard_spans (take k numbers) (take k sums) ≡ (spans_by g h n v (weighs weights)))
     sums_tell {sums} q =
         let long : k ≤ length sums = omega (arith, d.few, ends_room d.diary, q.long) in
-        let many : length (take k sums) ≡ length spans_of = length-take-le k sums long ∙ sym few in
-        let each : (i : ℕ) → i < length spans_of → get_or (take k sums) i 0 ≡ gone (suc i) spans_of
+        let many : length (take k sums) ≡ length (spans_by g h n v (weighs weights)) = length-take-le k sums long ∙ sym few in
+        let each : (i : ℕ) → i < length (spans_by g h n v (weighs weights)) → get_or (take k sums) i 0 ≡ gone (suc i) (spans_by g h n v (weighs weights))
         = λ i l. get_or-take k sums i 0 (omega (arith, few)) ∙ q.each i l in
-        rw d.heard (long, summed_told spans_of (take k sums) many each, summed_spans spans_of (take k sums) many each)
+        rw d.heard (long, summed_told (spans_by g h n v (weighs weights)) (take k sums) many each, summed_spans (spans_by g h n v (weighs weights)) (take k sums) many each)
 
 -- ---- the draw
 
