@@ -164,6 +164,7 @@ T_sixteen = T_power (chain beside) 2 3 16 refl refl words_sixteen 14
 -- the start uses nonterminals 0 and 1 alone
 two_alone : (A : ℕ) (x : ℕ × ℕ) → A < 2 → x ∈ pairs_of (chain beside A) → (x.0 < 2) × (x.1 < 2)
 unfolding met_from rest
+two_alone zero x h (Memᴰ.tail (Memᴰ.tail x12)) = elim x12 [ ]
 two_alone zero x h (Memᴰ.head e) = rw e (omega arith)
 two_alone zero x h (Memᴰ.tail (Memᴰ.head e)) = rw e (omega arith)
 two_alone (suc zero) x h i = absurd (Memᴰ.not-nil i)

@@ -1,0 +1,13 @@
+-- `pumpfennel_unrank` meets its contract, case by case of the answer.
+-- Assumes nothing.
+use mathlib.Core.Path.{refl}
+use Rattle.ranking.specs.Inner.Says.{unrank_says}
+use Rattle.pumpfennel.proofs.Cases.{answered}
+use borrow.Author.Rules.{rules}
+use Rattle.pumpfennel.proofs.pumpfennel_unrank.Goals as goal
+
+pub returns-in-Given : goal.returns-in-Given
+returns-in-Given c = answered (λ a. unrank_says a c.unrank-a.new.out) _ _ c.unrank-a.ensures c.in-Given.is refl refl
+
+pub returns-in-Refused : goal.returns-in-Refused
+returns-in-Refused c = answered (λ a. unrank_says a c.unrank-a.new.out) _ _ c.unrank-a.ensures c.in-Refused.is refl c.number.ensures
