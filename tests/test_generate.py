@@ -10,8 +10,7 @@ ROOT = pathlib.Path(__file__).resolve().parent.parent
 MARKED = ['include/pumpfennel.h', 'bindings/rust/src/refusal.rs', 'README.md']
 CARGO = ['bindings/rust/Cargo.toml', 'bindings/rust/Cargo.lock']
 CRATES = ['crates/answers/src/refusal.rt', 'crates/answers/specs/Inner/Refusals.antt',
-          'crates/answers/proofs/refusal/number/Proof.antt', 'crates/answers/proofs/Numbers.antt',
-          'crates/listing/src/meanings.rt']
+          'crates/answers/proofs/Numbers.antt', 'crates/listing/src/meanings.rt']
 VERSIONED = ['crates/pumpfennel/src/version.rt', 'bindings/rust/src/ffi.rs']
 EVERY = MARKED + CARGO + CRATES + VERSIONED
 
@@ -76,11 +75,10 @@ class Generate(unittest.TestCase):
                 'README.md': ['| 26 | `BadUnions` | a type is above 3 |\n\n'],
                 'crates/answers/src/refusal.rt': ['    BadUnions,\n}', '        Refusal::BadUnions => 26,\n    }'],
                 'crates/answers/specs/Inner/Refusals.antt': [
-                    ', BadUnions}\n', '-- a type is above 3\nrefusalNumber BadUnions = 26\n'],
-                'crates/answers/proofs/Numbers.antt': [', BadUnions}\n', 'number-some BadUnions = lit< tt\n'],
-                'crates/answers/proofs/refusal/number/Proof.antt': ['    (λ c. rw (c .enum-told25 .given .1)))\n'],
+                    ', BadUnions}\n', '-- a type is above 3\nrefusal_number BadUnions = 26\n'],
+                'crates/answers/proofs/Numbers.antt': [', BadUnions}\n', 'number_some BadUnions = lit< tt\n'],
                 'crates/listing/src/meanings.rt': [
-                    '        Refusal::BadUnions => say(b"listing: refused: a type is above 3\\n"),\n    }']}.items():
+                    '        Refusal::BadUnions => say(to, b"listing: refused: a type is above 3\\n"),\n    }']}.items():
             for line in lines:
                 self.assertIn(line, self.read(name), name)
 
@@ -109,7 +107,7 @@ class Generate(unittest.TestCase):
         self.assertIn('#define PUMPFENNEL_INTERFACE pumpfennel_interface_1_20\n', self.read('include/pumpfennel.h'))
         for name in CARGO:
             self.assertIn('name = "pumpfennel"\nversion = "1.20.3"\n', self.read(name))
-        self.assertEqual(self.read(VERSIONED[0]).count('r ≡ 12003 '), 2)
+        self.assertEqual(self.read(VERSIONED[0]).count('result ≡ 12003 '), 2)
         self.assertEqual(self.read(VERSIONED[0]).count('    12003\n'), 2)
         self.assertIn('fn pumpfennel_interface_1_20() -> u64\n', self.read(VERSIONED[0]))
         self.assertIn('    #[link_name = "pumpfennel_interface_1_20"]\n', self.read(VERSIONED[1]))

@@ -1,7 +1,7 @@
 """Tests of what C sees: the header, every call of the archive against the brute-force program, also one after another on what the
 library wrote, and the two example programs.
 
-They need target/staticlib/libpumpfennel.a, which rt staticlib pumpfennel writes, and compilers for C and C++: cc and c++,
+They need target/staticlib/libpumpfennel.a, which tools/build library writes, and compilers for C and C++: cc and c++,
 or what CC and CXX name.
 """
 import collections
@@ -58,7 +58,7 @@ def limit(name):
 def linked(test, source, standard, *more):
     """The program from a source file and the archive."""
     if not ARCHIVE.exists():
-        raise AssertionError('there is no archive: rt staticlib pumpfennel writes it')
+        raise AssertionError('there is no archive: tools/build library writes it')
     holder = tempfile.TemporaryDirectory()
     test.addClassCleanup(holder.cleanup)
     program = pathlib.Path(holder.name, 'program')

@@ -310,7 +310,7 @@ class Usage(unittest.TestCase):
 class Building(unittest.TestCase):
     """With a tree of its own and an rt that only notes its call and leaves a program; that one's first figure is its input's size."""
 
-    BEGIN = 'run: proving and building the listing program; from nothing this takes some four minutes on two cores\n'
+    BEGIN = 'run: proving and building the listing program; from nothing this takes some minutes\n'
 
     def setUp(self):
         holder = tempfile.TemporaryDirectory()
@@ -327,14 +327,14 @@ class Building(unittest.TestCase):
         shutil.copy(ROOT / 'run', self.root)
         for file in (self.source, self.root / 'crates.txt'):
             file.write_text('')
-        self.rt('[ -e target/bin/listing ] || printf "#!/bin/sh\\necho \\$(wc -c) 0 0 0\\n" >target/bin/listing\n'
-                'chmod +x target/bin/listing')
+        self.rt('[ -e out/listing ] || printf "#!/bin/sh\\necho \\$(wc -c) 0 0 0\\n" >out/listing\n'
+                'chmod +x out/listing')
 
     def rt(self, body):
         """Its notes are those of the prover, then come a crate that is proved and one that was before."""
-        notes = 'echo fn lists::sum: proved\necho a note >&2\necho "rt: lists proved (2 s)"\n' \
-                'echo "rt: sets proved (unchanged since it was last proved)"'
-        self.tool('rt', f'#!/bin/sh\necho "$@" >>calls\n{notes}\n{body}\n')
+        notes = 'echo fn lists::sum: proved >&2\necho a note >&2\necho "crate lists: modules loaded=0 checked=51" >&2\n' \
+                'echo "library sets: modules loaded=0 checked=0" >&2\necho a refusal'
+        self.tool('rt', f'#!/bin/sh\necho "${{PWD##*/}} $@" >>../../calls\nmkdir -p out\n{notes}\n{body}\n')
 
     def tool(self, name, content):
         (self.bin / name).write_text(content)
@@ -349,26 +349,26 @@ class Building(unittest.TestCase):
     def check_built(self, times):
         status, output, errors = self.run_here()
         self.assertEqual((status, output), (0, b'%d 0 0 0\n' % (3 + 229 + 4 + 20 * 40)))
-        self.assertEqual(self.calls(), ['check listing'] * times)
+        self.assertEqual(self.calls(), ['listing run'] * times)
         return errors
 
     def test_built_once(self):
-        self.assertEqual(self.check_built(1), self.BEGIN + 'run: lists proved (2 s)\n')
+        self.assertEqual(self.check_built(1), self.BEGIN + 'run: lists is checked\n')
         self.assertEqual(self.check_built(1), '')
 
     def test_a_line_comes_as_its_crate_is_proved(self):
-        self.rt('sleep 5; touch ended')
+        self.rt('sleep 5; touch ../../ended')
         environment = {**os.environ, 'PATH': f'{self.bin}:{os.environ["PATH"]}'}
         with subprocess.Popen([self.root / 'run'], stderr=subprocess.PIPE, env=environment, text=True,
                               start_new_session=True) as running:
             said = [running.stderr.readline() for _ in range(2)]
             meanwhile = not (self.root / 'ended').exists()
             os.killpg(running.pid, signal.SIGTERM)
-        self.assertEqual((said, meanwhile), ([self.BEGIN, 'run: lists proved (2 s)\n'], True))
+        self.assertEqual((said, meanwhile), ([self.BEGIN, 'run: lists is checked\n'], True))
 
     def test_the_notes_go_to_the_log(self):
         self.check_built(1)
-        self.assertEqual(self.log.read_text().splitlines()[:3], ['fn lists::sum: proved', 'a note', 'rt: lists proved (2 s)'])
+        self.assertEqual(self.log.read_text().splitlines()[:3], ['fn lists::sum: proved', 'a note', 'crate lists: modules loaded=0 checked=51'])
 
     def test_built_again_after_a_change(self):
         self.check_built(1)
@@ -382,18 +382,19 @@ class Building(unittest.TestCase):
     def test_a_change_meanwhile_is_seen(self):
         self.check_built(1)
         self.source.write_text('changed')
-        self.rt('sleep 0.05; echo changed >crates/listing/src/main.rt; touch target/bin/listing')
+        self.rt('sleep 0.05; echo changed >src/main.rt; touch out/listing')
         self.check_built(2)
         self.check_built(3)
 
     def test_a_failure_names_the_log(self):
         for body, said in [
-            ('echo "rt: grammar NOT PROVED (exit 1, 20 s)"; exit 1', 'run: grammar NOT PROVED (exit 1, 20 s)\n'
+            ('rm -f out/listing\necho "rt: the library grammar did not build, so nothing above it was checked" >&2; exit 1',
+             'run: the library grammar did not build, so nothing above it was checked\n'
              f'run: the listing program could not be proved and built; {self.log} says why\n'),
-            ('true', f'run: rt check left no listing program; {self.log} has what it said\n'),
+            ('true', f'run: rt run left no listing program; {self.log} has what it said\n'),
         ]:
             self.rt(body)
-            self.assertEqual(self.run_here(), (3, b'', f'{self.BEGIN}run: lists proved (2 s)\n{said}'))
+            self.assertEqual(self.run_here(), (3, b'', f'{self.BEGIN}run: lists is checked\n{said}'))
             self.assertIn('a note\n', self.log.read_text())
 
     def test_without_rt(self):

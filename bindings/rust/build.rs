@@ -16,7 +16,7 @@ fn main() {
     if !archive.is_file() {
         println!("cargo::error=there is no {}", archive.display());
         println!(
-            "cargo::error=run 'rt staticlib pumpfennel' in the project's folder, or set {DIR} to the archive's folder"
+            "cargo::error=run 'tools/build library' in the project's folder, or set {DIR} to the archive's folder"
         );
         exit(1);
     }

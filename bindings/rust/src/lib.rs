@@ -9,7 +9,7 @@
 //! its words' weights, and a ticket is drawn. Grammars, histories, patterns and weights are plain bytes, laid out as
 //! the project's documents 01 and 02 say; they call the first two bank and diary.
 //!
-//! The work is done by a proved archive, written by `rt staticlib pumpfennel` in the project's folder. This crate
+//! The work is done by a proved archive, written by `tools/build library` in the project's folder. This crate
 //! links it and gives each of its functions a safe face; it checks nothing itself and allocates nothing. No call
 //! requires anything of the bytes it is handed: what is wrong with them is a [`Refusal`]. After a refusal every
 //! lent buffer is as it was. Nothing is kept between calls. Tables lie on the stack: [`MATCHING_STACK`],

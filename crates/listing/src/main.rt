@@ -5,37 +5,41 @@
 
 mod meanings;
 
-ghost use Rattle.std.specs.Prelude.{◌≡◌, [], ◌+◌, ◌≤◌, ◌<◌, length};
+ghost use Rattle.std.specs.Prelude.{◌≡◌, [], ◌+◌, ◌≤◌, ◌<◌, length, IfSome};
 ghost use Rattle.charts.specs.Inner.Maps.{counts_map};
 ghost use Rattle.sampling.specs.Inner.Drawing.{DrawSought};
 
 use answers::refusal;
 use answers::refusal::Refusal;
-use libc::{STDERR_FILENO, STDIN_FILENO, STDOUT_FILENO};
+use itoa::Buffer;
 use ranking::unrank;
 use sampling::draw::DrawAnswer;
 use sampling::prepare::Sampled;
 use sampling::question::Question;
 use sampling::skip::DrawNumber;
 use sampling::{draw, prepare};
+use std::io::{Print, Read};
+use std::rt::{Stderr, Stdin, Stdout};
 
 fn wide(b: u8) -> u64 {
     b as u64
 }
 
 // A line for the reader of standard error. Where it cannot be written, nobody can be told.
-fn say(line: &[u8]) {
-    io::write_all(STDERR_FILENO, line);
+fn say(to: Stderr, line: &[u8]) {
+    match to.write_all(line) {
+        Ok(()) => {}
+        Err(_) => {}
+    }
 }
 
 // ---- The first `at` bytes of a buffer are still to be written
 
 // Writes them, and answers whether all were written.
-fn flush(out: &[u8; 4096], at: usize) -> bool
+fn flush(to: Stdout, out: &[u8; 4096], at: usize) -> bool
     requires { at ≤ 4096 }
 {
-    let all = &out[..];
-    io::write_all(STDOUT_FILENO, &all[0..at])
+    to.write_all(&out[..at]).is_ok()
 }
 
 fn put(out: &mut [u8; 4096], at: usize, b: u8) -> usize
@@ -63,9 +67,8 @@ fn put_number(out: &mut [u8; 4096], at: usize, v: u64) -> usize
     requires { at + 20 ≤ 4096 }
     ensures { result ≤ at + 20 }
 {
-    let mut digits = [0u8; 20];
-    let k = io::decimal(v, &mut digits);
-    put_bytes(out, at, &digits[..k])
+    let mut digits = Buffer::new();
+    put_bytes(out, at, digits.format(v).as_bytes())
 }
 
 // A space and a number.
@@ -92,14 +95,14 @@ fn put_words(out: &mut [u8; 4096], at: usize, words: &[u8]) -> usize
 
 // ---- Lines. What prints answers whether all was written; after a write that failed nothing more is.
 
-fn print_figures(n: u64, total: u64, heard: u64, left: u64) -> bool {
+fn print_figures(to: Stdout, n: u64, total: u64, heard: u64, left: u64) -> bool {
     let mut out = [0u8; 4096];
     let a = put_number(&mut out, 0, n);
     let b = put_next(&mut out, a, total);
     let c = put_next(&mut out, b, heard);
     let d = put_next(&mut out, c, left);
     let end = put(&mut out, d, b'\n');
-    flush(&out, end)
+    flush(to, &out, end)
 }
 
 fn put_draw(out: &mut [u8; 4096], at: usize, q: u64, d: u64, words: &[u8]) -> usize
@@ -113,15 +116,15 @@ fn put_draw(out: &mut [u8; 4096], at: usize, q: u64, d: u64, words: &[u8]) -> us
 }
 
 // The refusal's one line, and on standard error what it means.
-fn print_refusal(r: Refusal) -> bool {
+fn print_refusal(to: Stdout, err: Stderr, r: Refusal) -> bool {
     let mut out = [0u8; 4096];
     let a = put_bytes(&mut out, 0, b"refused ");
     let b = put_number(&mut out, a, wide(refusal::number(r)));
     let end = put(&mut out, b, b'\n');
-    if !flush(&out, end) {
+    if !flush(to, &out, end) {
         return false;
     }
-    meanings::explain(r);
+    meanings::explain(err, r);
     true
 }
 
@@ -150,6 +153,7 @@ fn put_drawn(
 
 // A line for each draw below `count`. The buffer is written out where it has no room for a line.
 fn print_draws(
+    to: Stdout,
     rules: &[[u8; 256]],
     totals: &[[u64; 32]],
     n: usize,
@@ -163,7 +167,7 @@ fn print_draws(
     let mut q = 0;
     while q < count {
         if at > 3584 {
-            if !flush(&out, at) {
+            if !flush(to, &out, at) {
                 return false;
             }
             at = 0;
@@ -171,27 +175,33 @@ fn print_draws(
         at = put_drawn(rules, totals, n, heard, q, &mut out, at);
         q += 1;
     }
-    flush(&out, at)
+    flush(to, &out, at)
 }
 
 // The figures, and a line for each draw, none past draw 999.
-fn print_list(rules: &[[u8; 256]], totals: &[[u64; 32]], n: usize, heard: &[u64]) -> bool
+fn print_list(
+    to: Stdout,
+    rules: &[[u8; 256]],
+    totals: &[[u64; 32]],
+    n: usize,
+    heard: &[u64],
+) -> bool
     requires { DrawSought rules.now totals.now counts_map n heard.now [] }
 {
     let total = unrank::count(rules, totals, n);
     let count = heard.len() as u64;
     let left = total - count;
-    if !print_figures(n as u64, total, count, left) {
+    if !print_figures(to, n as u64, total, count, left) {
         return false;
     }
     if left < 1000 {
-        print_draws(rules, totals, n, heard, left)
+        print_draws(to, rules, totals, n, heard, left)
     } else {
-        print_draws(rules, totals, n, heard, 1000)
+        print_draws(to, rules, totals, n, heard, 1000)
     }
 }
 
-fn list(n: u64, g: &[u8], h: &[u8]) -> bool {
+fn list(to: Stdout, err: Stderr, n: u64, g: &[u8], h: &[u8]) -> bool {
     let byte_row = [0u8; 256];
     let mut rules = [byte_row; 4];
     let row = [0u64; 32];
@@ -203,8 +213,8 @@ fn list(n: u64, g: &[u8], h: &[u8]) -> bool {
     };
     let p = prepare::prepare(g, h, question, &mut rules, &mut totals, &mut numbers);
     match p {
-        Sampled::Refused(r) => print_refusal(r),
-        Sampled::Ready(k) => print_list(&rules, &totals, n as usize, &numbers[0..k]),
+        Sampled::Refused(r) => print_refusal(to, err, r),
+        Sampled::Ready(k) => print_list(to, &rules, &totals, n as usize, &numbers[0..k]),
     }
 }
 
@@ -218,34 +228,44 @@ fn two(lo: u8, hi: u8) -> usize
 }
 
 // Fewer bytes than the grammar needs, or fewer than three, count as an empty grammar.
-fn list_input(s: &[u8]) -> bool {
+fn list_input(to: Stdout, err: Stderr, s: &[u8]) -> bool {
     if s.len() < 3 {
-        return list(0, &s[0..0], &s[0..0]);
+        return list(to, err, 0, &s[0..0], &s[0..0]);
     }
     let end = 3 + two(s[1], s[2]);
     if s.len() < end {
-        return list(0, &s[0..0], &s[0..0]);
+        return list(to, err, 0, &s[0..0], &s[0..0]);
     }
-    list(wide(s[0]), &s[3..end], &s[end..])
+    list(to, err, wide(s[0]), &s[3..end], &s[end..])
 }
 
-// Reads until the buffer is full or the input ends, and lists what came. Where a read fails nothing is listed: an input that cannot be read
-// is no empty one.
-fn main() {
-    let mut input = [0u8; 65536];
+// Reads until the buffer is full or the input ends, and answers how many bytes came; nothing where a read fails.
+fn read_input(from: &mut Stdin, input: &mut [u8; 65536]) -> Option<usize>
+    ensures { IfSome result (λ end. end ≤ 65536) }
+{
     let mut end = 0;
     while end < 65536 {
-        let got = libc::read(STDIN_FILENO, &mut input[end..]);
-        if got < 0 {
-            return say(b"listing: standard input cannot be read\n");
+        match from.read(&mut input[end..]) {
+            Err(_) => return None,
+            Ok(0) => return Some(end),
+            Ok(more) => {
+                end += more;
+            }
         }
-        let more = io::count(got, &input[end..]);
-        if more == 0 {
-            break;
-        }
-        end += more;
     }
-    if !list_input(&input[..end]) {
-        say(b"listing: standard output cannot be written\n");
+    Some(end)
+}
+
+// Lists what came. Where a read fails nothing is listed: an input that cannot be read is no empty one.
+fn main(rt: HostRuntime) {
+    let mut input = [0u8; 65536];
+    let mut from = rt.stdin();
+    match read_input(&mut from, &mut input) {
+        None => say(rt.stderr(), b"listing: standard input cannot be read\n"),
+        Some(end) => {
+            if !list_input(rt.stdout(), rt.stderr(), &input[..end]) {
+                say(rt.stderr(), b"listing: standard output cannot be written\n");
+            }
+        }
     }
 }

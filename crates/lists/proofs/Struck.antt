@@ -16,7 +16,7 @@ use lib.Dec.{eqb}
 use lib.ListN.{length, get_or, replicate, length-map, get_or-eq_default}
 use Rattle.lists.specs.Joined.{◌∈◌, At, sum_over}
 use Rattle.lists.specs.Ordered.{Pairwise, none, more}
-use Rattle.lists.specs.Inner.Tickets.{ahead, owner, place, tickets, Owns, unstruck, struck_from, spans, skip_over, StruckAs, Apart, gone}
+use Rattle.lists.specs.Inner.Tickets.{ahead, owner, tickets, Owns, unstruck, struck_from, spans, skip_over, StruckAs, Apart, gone}
 use Rattle.lists.specs.Searched.{bit, keep}
 use Rattle.lists.specs.Inner.Struck.{numbered}
 use Rattle.lists.proofs.Sums.{sum_one, sum_map, concat_ext}

@@ -1,25 +1,23 @@
 // Prints the bytes of the house matrix grammar, parted by one space, in one line.
 #![tactic(auto)]
 
-use libc::STDOUT_FILENO;
+use std::io;
 
-fn print(b: u8) {
-    io::print_decimal(STDOUT_FILENO, b as u64);
+fn print(rt: HostRuntime, b: u8) -> io::Result<()> {
+    print!(rt; "{b}")
 }
 
-fn print_all(s: &[u8]) {
-    let mut i = 0;
-    while i < s.len() {
+fn print_all(rt: HostRuntime, s: &[u8]) -> io::Result<()> {
+    for (i, b) in s.iter().enumerate() {
         if 0 < i {
-            io::write_all(STDOUT_FILENO, b" ");
+            print!(rt; " ")?;
         }
-        print(s[i]);
-        i += 1;
+        print(rt, *b)?;
     }
-    io::write_all(STDOUT_FILENO, b"\n");
+    println!(rt; "")
 }
 
-fn main() {
+fn main(rt: HostRuntime) -> io::Result<()> {
     let table = matrix::bytes();
-    print_all(&table);
+    print_all(rt, &table)
 }

@@ -10,7 +10,7 @@ use borrow.Author.Tests.{le-leb, lt-leb, lt-ltb, le-ltb}
 use lib.ListN.{length, get_or, take, drop, replicate, length-replicate, length-take}
 use lib.Seq.{length-take-le, take-append-le}
 use lib.Dec.{ltb, leb, eqb, lit<}
-use Rattle.lists.specs.Joined.{◌∈◌, sum_over, concat_map}
+use Rattle.lists.specs.Joined.{sum_over, concat_map}
 use Rattle.lists.specs.Ordered.{Pairwise}
 use Rattle.lists.specs.Searched.{bit, keep}
 use Rattle.lists.specs.Inner.Tickets.{tickets, struck_from, skip_over, gone}

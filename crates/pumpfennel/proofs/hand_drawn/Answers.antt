@@ -1,7 +1,6 @@
 -- `hand_drawn` meets its contract, case by case of the answer.
 -- Assumes nothing.
 use mathlib.Core.Path.{refl}
-use borrow.Author.Rules.{rules}
 use Rattle.sampling.specs.Inner.Says.{draw_says}
 use Rattle.pumpfennel.proofs.Cases.{answered}
 use Rattle.pumpfennel.proofs.hand_drawn.Goals as goal

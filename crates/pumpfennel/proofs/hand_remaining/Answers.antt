@@ -1,7 +1,6 @@
 -- `hand_remaining` meets its contract, case by case of the answer.
 -- Assumes nothing.
 use mathlib.Core.Path.{refl}
-use borrow.Author.Rules.{rules}
 use Rattle.sampling.specs.Inner.Says.{remaining_says}
 use Rattle.pumpfennel.proofs.Cases.{answered}
 use Rattle.pumpfennel.proofs.hand_remaining.Goals as goal

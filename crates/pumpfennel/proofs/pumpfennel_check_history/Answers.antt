@@ -3,7 +3,6 @@
 use mathlib.Core.Path.{refl}
 use Rattle.history.specs.Inner.Says.{history_says}
 use Rattle.pumpfennel.proofs.Cases.{answered}
-use borrow.Author.Rules.{rules}
 use Rattle.pumpfennel.proofs.pumpfennel_check_history.Goals as goal
 
 pub returns-in-Given : goal.returns-in-Given

@@ -3,7 +3,6 @@
 use mathlib.Core.Path.{refl}
 use Rattle.counting.specs.Inner.Says.{count_says}
 use Rattle.pumpfennel.proofs.Cases.{answered}
-use borrow.Author.Rules.{rules}
 use Rattle.pumpfennel.proofs.pumpfennel_count.Goals as goal
 
 pub returns-in-Given : goal.returns-in-Given

@@ -1,7 +1,6 @@
 -- `pumpfennel_draw_weighted` meets its contract: what is answered is handed over.
 -- Assumes nothing.
 use mathlib.Core.Path.{◌∙◌}
-use borrow.Author.Rules.{rules}
 use Rattle.pumpfennel.proofs.pumpfennel_draw_weighted.Goals as goal
 
 pub returns : goal.returns

@@ -1,7 +1,6 @@
 -- `pumpfennel_remaining` meets its contract: what is answered is handed over.
 -- Assumes nothing.
 use mathlib.Core.Path.{◌∙◌}
-use borrow.Author.Rules.{rules}
 use Rattle.pumpfennel.proofs.pumpfennel_remaining.Goals as goal
 
 pub returns : goal.returns

@@ -4,19 +4,18 @@
 -- is written, is what is found of the first ones (`Along` in proofs/Walking.antt).
 -- Assumes nothing.
 use mathlib.Core.Path.{◌≡◌, ap, ◌∙◌}
-use mathlib.Core.List.{List, ◌++◌}
+use mathlib.Core.List.{◌++◌}
 use Prim.Native.Nat.{ℕ, ◌+◌, ◌*◌, ◌-◌, ◌%◌, ◌≤◌, ◌<◌}
 use native.Mathlib.Omega.{arith}
-use lib.ListN.{length, take, length-append}
-use lib.Seq.{length-take-le}
+use lib.ListN.{length, take}
 use borrow.Rule.Slice.PartMut.{put_mid}
 use Rattle.grammar.specs.Inner.Rules.{ruled}
 use Rattle.counting.specs.Refusals.{most}
 use Rattle.counting.specs.Inner.Owned.{OwnedAs}
 use Rattle.charts.specs.Inner.Letters.{weight_by}
-use Rattle.walk.specs.Inner.Steps.{HalvesSought, Extends}
+use Rattle.walk.specs.Inner.Steps.{Extends}
 use Rattle.walk.proofs.Joined.{lent_length, put_length, put_front, rest_length, put_rest}
-use Rattle.walk.proofs.Walking.{word_sought, leaf_owned, short, k_some, k_short, span_short, placed_by, placed_to, some_right, left_sought, rest_fits, halves_sought, halves_owned, Along, Behind, along_start, extends, behind, along, extends_last, found_last}
+use Rattle.walk.proofs.Walking.{word_sought, leaf_owned, short, k_some, k_short, span_short, placed_by, placed_to, some_right, left_sought, rest_fits, halves_sought, halves_owned, Behind, along_start, extends, behind, along, extends_last, found_last}
 use Rattle.walk.proofs.+choose_halves_left_half.Goals as goal
 
 -- ---- `choose`
@@ -91,8 +90,7 @@ halves-slice_bounds-left_half-end t c =
 
 pub halves-left_half-l-requires : goal.halves-left_half-l-requires
 halves-left_half-l-requires t c =
-    let end_low : c.loop-here.at + c.loop-here.chosen.k < c.args.node.m = omega (arith, k_short c.loop-here.invariant.0.sought, c.loop-here.invariant.1) in
-    (
+    let end_low : c.loop-here.at + c.loop-here.chosen.k < c.args.node.m = omega (arith, k_short c.loop-here.invariant.0.sought, c.loop-here.invariant.1) in (
       omega (arith, c.decreases, k_short c.loop-here.invariant.0.sought, c.loop-here.invariant.1),
       (
         left_sought c.loop-here.invariant.0.sought c.total-v.ensures c.quotient.ensures,
@@ -156,8 +154,8 @@ halves-leaf-f-requires t c =
     c.args.pick.b c.args.pick.c c.args.pick.k c.args.pick.before c.args.pick.rest (take (c.loop-here.at + c.loop-here.chosen.k) (put_mid c.loop-here.at (c.loop-here.at + c.loop-here.chosen.k - c.loop-here.at) c.loop-here.out c.left_half-l.new.out))
     c.loop-here.chosen.c (c.loop-here.here.p + c.loop-here.chosen.k) (c.loop-here.here.m - c.loop-here.chosen.k) c.quotient-ticket.result
     c.extend-found.result.place c.extend-found.result.measured c.extend-found.result.weight c.extend-found.result.offset = rw written_front
-        (behind c.loop-here.invariant.0 c.total-v.ensures c.total-u.ensures c.quotient.ensures c.left_half-l.ensures
-        rest_is c.extend-found.ensures c.quotient-ticket.ensures) in
+    (behind c.loop-here.invariant.0 c.total-v.ensures c.total-u.ensures c.quotient.ensures c.left_half-l.ensures
+    rest_is c.extend-found.ensures c.quotient-ticket.ensures) in
     let s = right.sought in
     let m = c.if-here-eq1.true in (
       word_sought s m,
@@ -176,8 +174,8 @@ halves-extend-requires t c =
     c.args.pick.b c.args.pick.c c.args.pick.k c.args.pick.before c.args.pick.rest (take (c.loop-here.at + c.loop-here.chosen.k) (put_mid c.loop-here.at (c.loop-here.at + c.loop-here.chosen.k - c.loop-here.at) c.loop-here.out c.left_half-l.new.out))
     c.loop-here.chosen.c (c.loop-here.here.p + c.loop-here.chosen.k) (c.loop-here.here.m - c.loop-here.chosen.k) c.quotient-ticket.result
     c.extend-found.result.place c.extend-found.result.measured c.extend-found.result.weight c.extend-found.result.offset = rw written_front
-        (behind c.loop-here.invariant.0 c.total-v.ensures c.total-u.ensures c.quotient.ensures c.left_half-l.ensures
-        rest_is c.extend-found.ensures c.quotient-ticket.ensures) in
+    (behind c.loop-here.invariant.0 c.total-v.ensures c.total-u.ensures c.quotient.ensures c.left_half-l.ensures
+    rest_is c.extend-found.ensures c.quotient-ticket.ensures) in
     let word_owned : OwnedAs (ruled c.args.rules.now) (weight_by c.args.rules.now c.args.choice.now)
     (weight_by c.args.rules.now c.args.measure.now)
     c.loop-here.chosen.c (c.loop-here.here.p + c.loop-here.chosen.k) (c.loop-here.here.m - c.loop-here.chosen.k)
@@ -195,8 +193,8 @@ halves-returns-then-here-eq1 t c =
     c.args.pick.b c.args.pick.c c.args.pick.k c.args.pick.before c.args.pick.rest (take (c.loop-here.at + c.loop-here.chosen.k) (put_mid c.loop-here.at (c.loop-here.at + c.loop-here.chosen.k - c.loop-here.at) c.loop-here.out c.left_half-l.new.out))
     c.loop-here.chosen.c (c.loop-here.here.p + c.loop-here.chosen.k) (c.loop-here.here.m - c.loop-here.chosen.k) c.quotient-ticket.result
     c.extend-found.result.place c.extend-found.result.measured c.extend-found.result.weight c.extend-found.result.offset = rw written_front
-        (behind c.loop-here.invariant.0 c.total-v.ensures c.total-u.ensures c.quotient.ensures c.left_half-l.ensures
-        rest_is c.extend-found.ensures c.quotient-ticket.ensures) in
+    (behind c.loop-here.invariant.0 c.total-v.ensures c.total-u.ensures c.quotient.ensures c.left_half-l.ensures
+    rest_is c.extend-found.ensures c.quotient-ticket.ensures) in
     let filled : put_mid (c.loop-here.at + c.loop-here.chosen.k) (length (put_mid c.loop-here.at (c.loop-here.at + c.loop-here.chosen.k - c.loop-here.at) c.loop-here.out c.left_half-l.new.out) - (c.loop-here.at + c.loop-here.chosen.k)) (put_mid c.loop-here.at (c.loop-here.at + c.loop-here.chosen.k - c.loop-here.at) c.loop-here.out c.left_half-l.new.out) c.leaf-f.new.out ≡ take (c.loop-here.at + c.loop-here.chosen.k) (put_mid c.loop-here.at (c.loop-here.at + c.loop-here.chosen.k - c.loop-here.at) c.loop-here.out c.left_half-l.new.out) ++ c.leaf-f.new.out = put_rest (c.loop-here.at + c.loop-here.chosen.k) (put_mid c.loop-here.at (c.loop-here.at + c.loop-here.chosen.k - c.loop-here.at) c.loop-here.out c.left_half-l.new.out) c.leaf-f.new.out in
     let word_owned : OwnedAs (ruled c.args.rules.now) (weight_by c.args.rules.now c.args.choice.now)
     (weight_by c.args.rules.now c.args.measure.now)
@@ -215,8 +213,8 @@ halves-choose_rule-chosen-requires t c =
     c.args.pick.b c.args.pick.c c.args.pick.k c.args.pick.before c.args.pick.rest (take (c.loop-here.at + c.loop-here.chosen.k) (put_mid c.loop-here.at (c.loop-here.at + c.loop-here.chosen.k - c.loop-here.at) c.loop-here.out c.left_half-l.new.out))
     c.loop-here.chosen.c (c.loop-here.here.p + c.loop-here.chosen.k) (c.loop-here.here.m - c.loop-here.chosen.k) c.quotient-ticket.result
     c.extend-found.result.place c.extend-found.result.measured c.extend-found.result.weight c.extend-found.result.offset = rw written_front
-        (behind c.loop-here.invariant.0 c.total-v.ensures c.total-u.ensures c.quotient.ensures c.left_half-l.ensures
-        rest_is c.extend-found.ensures c.quotient-ticket.ensures) in
+    (behind c.loop-here.invariant.0 c.total-v.ensures c.total-u.ensures c.quotient.ensures c.left_half-l.ensures
+    rest_is c.extend-found.ensures c.quotient-ticket.ensures) in
     (right.sought, omega (arith, k_short c.loop-here.invariant.0.sought, c.if-here-eq1.false))
 
 pub halves-loop-here-smaller : goal.halves-loop-here-smaller
@@ -234,9 +232,8 @@ halves-loop-here-preserved t c =
     c.args.pick.b c.args.pick.c c.args.pick.k c.args.pick.before c.args.pick.rest (take (c.loop-here.at + c.loop-here.chosen.k) (put_mid c.loop-here.at (c.loop-here.at + c.loop-here.chosen.k - c.loop-here.at) c.loop-here.out c.left_half-l.new.out))
     c.loop-here.chosen.c (c.loop-here.here.p + c.loop-here.chosen.k) (c.loop-here.here.m - c.loop-here.chosen.k) c.quotient-ticket.result
     c.extend-found.result.place c.extend-found.result.measured c.extend-found.result.weight c.extend-found.result.offset = rw written_front
-        (behind c.loop-here.invariant.0 c.total-v.ensures c.total-u.ensures c.quotient.ensures c.left_half-l.ensures
-        rest_is c.extend-found.ensures c.quotient-ticket.ensures) in
-    (
+    (behind c.loop-here.invariant.0 c.total-v.ensures c.total-u.ensures c.quotient.ensures c.left_half-l.ensures
+    rest_is c.extend-found.ensures c.quotient-ticket.ensures) in (
       along right c.choose_rule-chosen.ensures,
       omega (arith, c.loop-here.invariant.1, k_short c.loop-here.invariant.0.sought),
       written_length,

@@ -3,20 +3,10 @@
 -- are known and have tickets. The writer's loop goes along the right halves; its invariant: what is found of the halves at hand, put behind what
 -- is written, is what is found of the first ones (`Along` in proofs/Walking.antt).
 -- Assumes nothing.
-use mathlib.Core.Path.{◌≡◌, ap, ◌∙◌}
-use mathlib.Core.List.{List, ◌++◌}
-use Prim.Native.Nat.{ℕ, ◌+◌, ◌*◌, ◌-◌, ◌%◌, ◌≤◌, ◌<◌}
-use native.Mathlib.Omega.{arith}
-use lib.ListN.{length, take, length-append}
-use lib.Seq.{length-take-le}
-use borrow.Rule.Slice.PartMut.{put_mid}
-use Rattle.grammar.specs.Inner.Rules.{ruled}
-use Rattle.counting.specs.Refusals.{most}
-use Rattle.counting.specs.Inner.Owned.{OwnedAs}
-use Rattle.charts.specs.Inner.Letters.{weight_by}
-use Rattle.walk.specs.Inner.Steps.{HalvesSought, Extends}
-use Rattle.walk.proofs.Joined.{lent_length, put_length, put_front, rest_length, put_rest}
-use Rattle.walk.proofs.Walking.{word_sought, leaf_owned, short, k_some, k_short, span_short, placed_by, placed_to, some_right, left_sought, rest_fits, halves_sought, halves_owned, Along, Behind, along_start, extends, behind, along, extends_last, found_last}
+use mathlib.Core.Path.{◌≡◌}
+use Prim.Native.Nat.{◌+◌, ◌*◌}
+use lib.ListN.{length, take}
+use Rattle.walk.proofs.Walking.{Along}
 use Rattle.walk.proofs.+choose_halves_left_half.Given as goal
 
 -- ---- the measures, of the node
@@ -31,7 +21,7 @@ abbrev pub decreases-halves : goal.decreases-halves
 decreases-halves l = 3 * l.node.m
 
 abbrev pub invariant-halves-loop-here : goal.invariant-halves-loop-here
-invariant-halves-loop-here l =     Along l.rules l.totals l.choice l.measure l.initial.here.p l.initial.here.m l.initial.chosen.b l.initial.chosen.c l.initial.chosen.k l.initial.chosen.before l.initial.chosen.rest
+invariant-halves-loop-here l = Along l.rules l.totals l.choice l.measure l.initial.here.p l.initial.here.m l.initial.chosen.b l.initial.chosen.c l.initial.chosen.k l.initial.chosen.before l.initial.chosen.rest
     (take l.at l.out) l.here.a l.here.p l.here.m l.chosen.b l.chosen.c l.chosen.k l.chosen.before l.chosen.rest
     l.found.place l.found.measured l.found.weight l.found.offset
     × (l.at + l.here.m ≡ l.initial.here.m)

@@ -1,6 +1,5 @@
 -- `quotient` meets its contract: by 1 nothing has to be divided. Assumes nothing.
 use native.Mathlib.Omega.{arith}
-use borrow.Author.Rules.{rules}
 use Rattle.walk.proofs.quotient.Goals as goal
 
 pub returns-then-y-eq1 : goal.returns-then-y-eq1

@@ -1,8 +1,6 @@
 use native.Mathlib.Omega.{arith}
-use lib.ListN.{length}
-use Rattle.sets.specs.Inner.Sets.{members}
 use Rattle.sets.proofs.Loops.{turn_less}
-use Rattle.charts.proofs.Adding.{LeftWalk, left_start, left_end, left_asks, left_step}
+use Rattle.charts.proofs.Adding.{left_start, left_end, left_asks, left_step}
 use Rattle.charts.proofs.chart.add_left.Goals as goal
 
 pub offset_bounds-plan-b : goal.offset_bounds-plan-b

@@ -1,10 +1,8 @@
 -- `add_left` meets its contract. The loop's invariant is `LeftWalk`: what the row has, with what the right nonterminals left add, is what all
 -- with this left nonterminal add. The measure is the right nonterminals left. Assumes nothing.
-use native.Mathlib.Omega.{arith}
 use lib.ListN.{length}
 use Rattle.sets.specs.Inner.Sets.{members}
-use Rattle.sets.proofs.Loops.{turn_less}
-use Rattle.charts.proofs.Adding.{LeftWalk, left_start, left_end, left_asks, left_step}
+use Rattle.charts.proofs.Adding.{LeftWalk}
 use Rattle.charts.proofs.chart.add_left.Given as goal
 
 abbrev pub invariant-loop-cs : goal.invariant-loop-cs

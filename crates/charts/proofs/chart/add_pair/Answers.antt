@@ -1,11 +1,10 @@
 use mathlib.Core.Path.{sym, ◌∙◌}
-use mathlib.Core.Logic.{⊎_elim}
 use Prim.Native.Nat.{◌+◌, ◌*◌, ◌≤◌, ◌<◌}
 use native.Mathlib.Omega.{arith}
 use lib.ListN.{length}
 use Rattle.lists.specs.Inner.Tables.{entry}
 use Rattle.counting.specs.Refusals.{most}
-use Rattle.charts.proofs.Walking.{PairWalk, walk_end, pair_start, pair_low, pair_owner_lem, pair_less, pair_room, pair_fits, pair_step, pair_skip}
+use Rattle.charts.proofs.Walking.{walk_end, pair_start, pair_low, pair_owner_lem, pair_less, pair_room, pair_fits, pair_step, pair_skip}
 use Rattle.charts.proofs.chart.add_pair.Goals as goal
 use Rattle.charts.proofs.chart.add_pair.Goals.{then-has, else-has}
 

@@ -1,8 +1,6 @@
 use native.Mathlib.Omega.{arith}
-use lib.ListN.{length}
-use Rattle.sets.specs.Inner.Sets.{members}
 use Rattle.sets.proofs.Loops.{turn_less}
-use Rattle.charts.proofs.Adding.{SplitWalk, split_start, split_end, split_asks, split_step}
+use Rattle.charts.proofs.Adding.{split_start, split_end, split_asks, split_step}
 use Rattle.charts.proofs.chart.add_split.Goals as goal
 
 pub offset_bounds-sets-right : goal.offset_bounds-sets-right

@@ -1,10 +1,8 @@
 -- `add_split` meets its contract. The loop's invariant is `SplitWalk`: what the row has, with what the left nonterminals left add, is what all
 -- pair rules add. The measure is the left nonterminals left. Assumes nothing.
-use native.Mathlib.Omega.{arith}
 use lib.ListN.{length}
 use Rattle.sets.specs.Inner.Sets.{members}
-use Rattle.sets.proofs.Loops.{turn_less}
-use Rattle.charts.proofs.Adding.{SplitWalk, split_start, split_end, split_asks, split_step}
+use Rattle.charts.proofs.Adding.{SplitWalk}
 use Rattle.charts.proofs.chart.add_split.Given as goal
 
 abbrev pub invariant-loop-bs : goal.invariant-loop-bs

@@ -1,7 +1,7 @@
 use Prim.Native.Nat.{◌≤◌, ◌<◌}
 use native.Mathlib.Omega.{arith}
 use lib.ListN.{length}
-use Rattle.charts.proofs.Walking.{WordWalk, walk_end, word_start, word_low, word_owner_lem, word_less, word_room, word_step}
+use Rattle.charts.proofs.Walking.{walk_end, word_start, word_low, word_owner_lem, word_less, word_room, word_step}
 use Rattle.charts.proofs.chart.add_word.Goals as goal
 
 pub link_at-l-requires : goal.link_at-l-requires

@@ -1,10 +1,7 @@
 -- `add_word` meets its contract. The loop's invariant is `WordWalk`: what the row has, with what the rules from the one at hand on add, is
 -- what all with this word add. The measure is the link to the rule at hand: each walk goes down.
 -- Assumes nothing.
-use Prim.Native.Nat.{◌≤◌, ◌<◌}
-use native.Mathlib.Omega.{arith}
-use lib.ListN.{length}
-use Rattle.charts.proofs.Walking.{WordWalk, walk_end, word_start, word_low, word_owner_lem, word_less, word_room, word_step}
+use Rattle.charts.proofs.Walking.{WordWalk}
 use Rattle.charts.proofs.chart.add_word.Given as goal
 
 abbrev pub invariant-loop-l : goal.invariant-loop-l

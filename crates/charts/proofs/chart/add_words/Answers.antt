@@ -1,11 +1,10 @@
 use mathlib.Core.Path.{◌≡◌, ap₂}
-use mathlib.Core.Logic.{⊎_elim}
 use Prim.Native.Nat.{◌-◌, ◌<◌}
 use native.Mathlib.Omega.{arith}
 use lib.ListN.{length}
 use Rattle.grammar.specs.Inner.Rules.{count_in}
 use Rattle.charts.specs.Inner.Filling.{word_count}
-use Rattle.charts.proofs.Words.{WordsFrom, words_start, words_end, words_room, words_low, words_step, words_skip}
+use Rattle.charts.proofs.Words.{words_start, words_end, words_room, words_low, words_step, words_skip}
 use Rattle.charts.proofs.chart.add_words.Goals as goal
 use Rattle.charts.proofs.chart.add_words.Goals.{then-words-ne0, else-words-ne0}
 

@@ -2,7 +2,6 @@
 -- Assumes nothing.
 use native.Mathlib.Omega.{arith}
 use Prim.Native.Nat.{◌<◌}
-use borrow.Author.Rules.{rules}
 use Rattle.sets.proofs.Loops.{lowest_low}
 use Rattle.charts.proofs.Clearing.{clear_start, clear_end, clear_step}
 use Rattle.charts.proofs.chart.clear.Goals as goal

@@ -1,8 +1,7 @@
-use Prim.Native.Nat.{◌+◌, ◌-◌, ◌≤◌}
+use Prim.Native.Nat.{◌≤◌}
 use native.Mathlib.Omega.{arith}
-use borrow.Author.Rules.{rules}
 use Rattle.charts.specs.Inner.Plan.{length_in}
-use Rattle.charts.proofs.Charting.{FillWalk, fill_start, fill_asks, fill_step, fill_end}
+use Rattle.charts.proofs.Charting.{fill_start, fill_asks, fill_step, fill_end}
 use Rattle.charts.proofs.chart.fill.Goals as goal
 
 pub loop-m-init : goal.loop-m-init

@@ -1,10 +1,8 @@
 -- `fill` meets its contract. The loop's invariant is `FillWalk`: the needed spans shorter than m are filled. The measure is the lengths left.
 -- Assumes nothing.
-use Prim.Native.Nat.{◌+◌, ◌-◌, ◌≤◌}
-use native.Mathlib.Omega.{arith}
-use borrow.Author.Rules.{rules}
+use Prim.Native.Nat.{◌+◌, ◌-◌}
 use Rattle.charts.specs.Inner.Plan.{length_in}
-use Rattle.charts.proofs.Charting.{FillWalk, fill_start, fill_asks, fill_step, fill_end}
+use Rattle.charts.proofs.Charting.{FillWalk}
 use Rattle.charts.proofs.chart.fill.Given as goal
 
 abbrev pub invariant-loop-m : goal.invariant-loop-m

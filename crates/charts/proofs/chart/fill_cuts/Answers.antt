@@ -1,13 +1,11 @@
-use mathlib.Core.Path.{◌≡◌, ◌∙◌}
+use mathlib.Core.Path.{◌≡◌}
 use Prim.Native.Nat.{◌+◌, ◌≤◌, ◌<◌}
 use native.Mathlib.Omega.{arith}
-use lib.ListN.{length}
 use Rattle.lists.specs.Inner.Tables.{entry}
-use Rattle.sets.specs.Inner.Sets.{members}
 use Rattle.sets.proofs.Loops.{turn_less}
 use Rattle.charts.specs.Inner.Maps.{row_at}
 use Rattle.charts.specs.Inner.Filling.{Joins}
-use Rattle.charts.proofs.Cutting.{CutsWalk, cuts_beside, cuts_clears, cuts_long, cuts_joins, cuts_clear, cuts_made, cuts_start, cuts_end, cut_within, cut_asks, cut_step}
+use Rattle.charts.proofs.Cutting.{cuts_beside, cuts_clears, cuts_joins, cuts_clear, cuts_made, cuts_start, cuts_end, cut_within, cut_asks, cut_step}
 use Rattle.charts.proofs.chart.fill_cuts.Goals as goal
 
 pub row_at-row-requires : goal.row_at-row-requires

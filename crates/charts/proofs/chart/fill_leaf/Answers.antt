@@ -1,7 +1,5 @@
 -- `fill_leaf` meets its contract: the row is cleared, and then the words that the letter lets count. Assumes nothing.
-use mathlib.Core.Path.{◌∙◌}
-use borrow.Author.Rules.{rules}
-use Rattle.charts.proofs.Making.{leaf_clears, leaf_long, leaf_clear, leaf_low, leaf_any, leaf_word}
+use Rattle.charts.proofs.Making.{leaf_clears, leaf_clear, leaf_low, leaf_any, leaf_word}
 use Rattle.charts.proofs.chart.fill_leaf.Goals as goal
 
 pub clear-requires : goal.clear-requires

@@ -1,9 +1,7 @@
 use Prim.Native.Nat.{◌≤◌}
 use native.Mathlib.Omega.{arith}
-use lib.ListN.{length}
-use Rattle.sets.specs.Inner.Sets.{members}
 use Rattle.sets.proofs.Loops.{turn_less}
-use Rattle.charts.proofs.Charting.{LengthWalk, length_start, length_end, length_asks, length_step}
+use Rattle.charts.proofs.Charting.{length_start, length_end, length_asks, length_step}
 use Rattle.charts.proofs.chart.fill_length.Goals as goal
 
 pub offset_bounds-plan-m : goal.offset_bounds-plan-m

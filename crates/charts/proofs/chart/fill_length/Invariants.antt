@@ -1,11 +1,8 @@
 -- `fill_length` meets its contract. The loop's invariant is `LengthWalk`: the needed spans of this length are filled but for those at the
 -- positions left. The measure is the positions left. Assumes nothing.
-use Prim.Native.Nat.{◌≤◌}
-use native.Mathlib.Omega.{arith}
 use lib.ListN.{length}
 use Rattle.sets.specs.Inner.Sets.{members}
-use Rattle.sets.proofs.Loops.{turn_less}
-use Rattle.charts.proofs.Charting.{LengthWalk, length_start, length_end, length_asks, length_step}
+use Rattle.charts.proofs.Charting.{LengthWalk}
 use Rattle.charts.proofs.chart.fill_length.Given as goal
 
 abbrev pub invariant-loop-left : goal.invariant-loop-left

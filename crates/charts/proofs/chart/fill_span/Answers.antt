@@ -1,5 +1,4 @@
 -- `fill_span` meets its contract: the row is made, and its set stored beside it. Assumes nothing.
-use borrow.Author.Rules.{rules}
 use Rattle.charts.proofs.Making.{span_leaf_asks, span_leaf, span_cuts_asks, span_cuts}
 use Rattle.charts.proofs.chart.fill_span.Goals as goal
 

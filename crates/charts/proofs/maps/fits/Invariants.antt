@@ -1,14 +1,9 @@
 -- `fits` meets its contract. The loop's invariant: all words stand if those from p on do. The measure is the words left.
 -- Assumes nothing.
-use mathlib.Core.Path.{◌≡◌, refl, sym, ◌∙◌}
+use mathlib.Core.Path.{◌≡◌}
 use Prim.Native.Nat.{◌-◌, ◌≤◌}
-use native.Mathlib.Omega.{arith}
-use native.Mathlib.Numerals.{add-one}
-use borrow.Author.Rules.{rules}
-use borrow.Author.Tests.{not-true, not-false}
 use lib.ListN.{length, drop}
 use Rattle.charts.specs.Inner.Letters.{stands}
-use Rattle.charts.proofs.Mapping.{stands_end, stands_more, stands_fails}
 use Rattle.charts.proofs.maps.fits.Given as goal
 
 abbrev pub invariant-loop-p : goal.invariant-loop-p

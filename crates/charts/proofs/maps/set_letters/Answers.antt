@@ -1,8 +1,5 @@
-use Prim.Native.Nat.{◌-◌, ◌≤◌}
 use native.Mathlib.Omega.{arith}
-use borrow.Author.Rules.{rules}
-use lib.ListN.{length}
-use Rattle.charts.proofs.Mapping.{LetteredTo, lettered_start, lettered_turn, lettered_end}
+use Rattle.charts.proofs.Mapping.{lettered_start, lettered_turn, lettered_end}
 use Rattle.charts.proofs.maps.set_letters.Goals as goal
 
 pub loop-p-init : goal.loop-p-init

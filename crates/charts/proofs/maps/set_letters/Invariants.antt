@@ -1,10 +1,8 @@
 -- `set_letters` meets its contract. The loop's invariant: the letters of the first p words are there. The measure is the words left.
 -- Assumes nothing.
 use Prim.Native.Nat.{◌-◌, ◌≤◌}
-use native.Mathlib.Omega.{arith}
-use borrow.Author.Rules.{rules}
 use lib.ListN.{length}
-use Rattle.charts.proofs.Mapping.{LetteredTo, lettered_start, lettered_turn, lettered_end}
+use Rattle.charts.proofs.Mapping.{LetteredTo}
 use Rattle.charts.proofs.maps.set_letters.Given as goal
 
 abbrev pub invariant-loop-p : goal.invariant-loop-p

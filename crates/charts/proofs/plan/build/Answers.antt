@@ -1,7 +1,6 @@
 -- `build` meets its contract: the rows that its steps promise make a plan.
 -- Assumes nothing.
 use mathlib.Core.Path.{◌≡◌, refl, ap, ◌∙◌}
-use borrow.Author.Rules.{rules}
 use Prim.Native.Nat.{ℕ}
 use Rattle.lists.proofs.Places.{get_or_same}
 use Rattle.grammar.specs.Inner.Rules.{pair_from, count_in}

@@ -1,7 +1,6 @@
 use mathlib.Core.Path.{◌≡◌}
-use Prim.Native.Nat.{◌+◌, ◌-◌, ◌≤◌}
+use Prim.Native.Nat.{◌-◌}
 use native.Mathlib.Omega.{arith}
-use Rattle.charts.specs.Inner.Planning.{AllCutAs}
 use Rattle.charts.proofs.Gathering.{cutting_start, cutting_turn}
 use Rattle.charts.proofs.plan.cut.Goals as goal
 

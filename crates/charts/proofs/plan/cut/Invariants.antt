@@ -1,10 +1,7 @@
 -- `cut` meets its contract. The loop's invariant: the lengths below m have their left lengths. The measure is the lengths left.
 -- Assumes nothing.
-use mathlib.Core.Path.{◌≡◌}
 use Prim.Native.Nat.{◌+◌, ◌-◌, ◌≤◌}
-use native.Mathlib.Omega.{arith}
 use Rattle.charts.specs.Inner.Planning.{AllCutAs}
-use Rattle.charts.proofs.Gathering.{cutting_start, cutting_turn}
 use Rattle.charts.proofs.plan.cut.Given as goal
 
 abbrev pub invariant-loop-m : goal.invariant-loop-m

@@ -1,10 +1,8 @@
 use mathlib.Core.Path.{sym, ◌∙◌}
 use mathlib.Core.Bool.{false≢true}
-use mathlib.Core.Logic.{⊎_elim}
-use Prim.Native.Nat.{◌-◌, ◌≤◌}
+use Prim.Native.Nat.{◌≤◌}
 use native.Mathlib.Omega.{arith}
-use borrow.Author.Rules.{rules}
-use Rattle.charts.proofs.Gathering.{CutsTo, cuts_start, cuts_put, cuts_pass, cuts_end}
+use Rattle.charts.proofs.Gathering.{cuts_start, cuts_put, cuts_pass, cuts_end}
 use Rattle.charts.proofs.plan.cuts_at.Goals as goal
 use Rattle.charts.proofs.plan.cuts_at.Goals.{then-meets+then-meets-2, then-meets+else-meets-2, else-meets}
 

@@ -1,13 +1,8 @@
 -- `cuts_at` meets its contract. The loop's invariant: the set has the left lengths below k at which a span can be cut. The measure is the
 -- left lengths left.
 -- Assumes nothing.
-use mathlib.Core.Path.{sym, ◌∙◌}
-use mathlib.Core.Bool.{false≢true}
-use mathlib.Core.Logic.{⊎_elim}
 use Prim.Native.Nat.{◌-◌, ◌≤◌}
-use native.Mathlib.Omega.{arith}
-use borrow.Author.Rules.{rules}
-use Rattle.charts.proofs.Gathering.{CutsTo, cuts_start, cuts_put, cuts_pass, cuts_end}
+use Rattle.charts.proofs.Gathering.{CutsTo}
 use Rattle.charts.proofs.plan.cuts_at.Given as goal
 
 abbrev pub invariant-loop-k : goal.invariant-loop-k

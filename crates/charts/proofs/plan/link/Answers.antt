@@ -1,9 +1,7 @@
 use mathlib.Core.Path.{◌≡◌}
-use Prim.Native.Nat.{◌-◌, ◌≤◌, ◌<◌}
+use Prim.Native.Nat.{◌<◌}
 use native.Mathlib.Omega.{arith}
-use borrow.Author.Rules.{rules}
 use Rattle.grammar.specs.Inner.Rules.{left_at, right_at}
-use Rattle.charts.specs.Inner.Planning.{SidedAs}
 use Rattle.charts.proofs.Gathering.{sides_low, sided_start, sided_turn}
 use Rattle.charts.proofs.plan.link.Goals as goal
 
@@ -65,8 +63,7 @@ with-rights-requires c =
 pub loop-i-preserved : goal.loop-i-preserved
 loop-i-preserved c =
     let low : (c.loop-i.i < 256) × (left_at c.args.rules.now c.loop-i.i < 32) × (right_at c.args.rules.now c.loop-i.i < 32) = sides_low c.requires c.loop-i.i c.loop-i-test.true in
-    let left_low : c.left_at-b.result < 32 = omega (arith, low.1, c.left_at-b.ensures.0) in
-    (
+    let left_low : c.left_at-b.result < 32 = omega (arith, low.1, c.left_at-b.ensures.0) in (
       omega arith,
       sided_turn c.loop-i.invariant.1 c.left_at-b.result c.right_at-c.result
           c.left_at-b.ensures.0 c.right_at-c.ensures.0 left_low c.with.result c.with.ensures

@@ -1,7 +1,6 @@
 -- `meets` meets its contract: a shared member is a member of what the sets share, which then isn't 0.
 -- Assumes nothing.
 use mathlib.Core.Path.{◌∙◌}
-use borrow.Author.Rules.{rules}
 use borrow.Author.Tests.{ne_eqb}
 use Rattle.sets.proofs.Loops.{some_member}
 use Rattle.charts.proofs.plan.meets.Goals as goal

@@ -1,8 +1,6 @@
 use mathlib.Core.Path.{◌≡◌, refl, sym}
-use Prim.Native.Nat.{◌+◌, ◌-◌, ◌≤◌, ◌<◌}
+use Prim.Native.Nat.{◌+◌, ◌<◌}
 use native.Mathlib.Omega.{arith}
-use lib.ListN.{length}
-use Rattle.charts.specs.Inner.Planning.{base_of, PlacedAs}
 use Rattle.charts.proofs.Placing.{base_first, base_next, base_low, placed_start, placed_turn}
 use Rattle.charts.proofs.plan.place.Goals as goal
 
@@ -12,13 +10,13 @@ loop-m-init c = (omega arith, omega arith, sym (base_first c.args.first c.args.n
 pub row-requires : goal.row-requires
 row-requires c =
     let low : c.loop-m.base < 290 = let b = base_low c.args.first c.args.n c.loop-m.m (omega arith) (omega arith) (omega arith) in
-        omega (arith, c.loop-m.invariant.2) in
+    omega (arith, c.loop-m.invariant.2) in
     (omega (arith, low), omega arith, c.loop-m.invariant.3)
 
 pub overflow_add-base : goal.overflow_add-base
 overflow_add-base c =
     let low : c.loop-m.base < 290 = let b = base_low c.args.first c.args.n c.loop-m.m (omega arith) (omega arith) (omega arith) in
-        omega (arith, c.loop-m.invariant.2) in
+    omega (arith, c.loop-m.invariant.2) in
     omega (arith, low)
 
 pub loop-m-preserved : goal.loop-m-preserved

@@ -1,12 +1,10 @@
 -- `place` meets its contract. The loop's invariant: the spans of fewer than m positions have their rows, and `base` is where those of m
 -- positions begin. The measure is the lengths left.
 -- Assumes nothing.
-use mathlib.Core.Path.{◌≡◌, refl, sym}
-use Prim.Native.Nat.{◌+◌, ◌-◌, ◌≤◌, ◌<◌}
-use native.Mathlib.Omega.{arith}
+use mathlib.Core.Path.{◌≡◌}
+use Prim.Native.Nat.{◌+◌, ◌-◌, ◌≤◌}
 use lib.ListN.{length}
 use Rattle.charts.specs.Inner.Planning.{base_of, PlacedAs}
-use Rattle.charts.proofs.Placing.{base_first, base_next, base_low, placed_start, placed_turn}
 use Rattle.charts.proofs.plan.place.Given as goal
 
 abbrev pub invariant-loop-m : goal.invariant-loop-m

@@ -1,7 +1,5 @@
 use mathlib.Core.Path.{◌≡◌}
-use Prim.Native.Nat.{◌-◌, ◌≤◌}
 use native.Mathlib.Omega.{arith}
-use Rattle.charts.specs.Inner.Planning.{RowAs}
 use Rattle.charts.proofs.Placing.{rows_start, rows_turn}
 use Rattle.charts.proofs.plan.row.Goals as goal
 

@@ -1,10 +1,7 @@
 -- `row` meets its contract. The loop's invariant: the spans before p have their rows. The measure is the spans left.
 -- Assumes nothing.
-use mathlib.Core.Path.{◌≡◌}
 use Prim.Native.Nat.{◌-◌, ◌≤◌}
-use native.Mathlib.Omega.{arith}
 use Rattle.charts.specs.Inner.Planning.{RowAs}
-use Rattle.charts.proofs.Placing.{rows_start, rows_turn}
 use Rattle.charts.proofs.plan.row.Given as goal
 
 abbrev pub invariant-loop-p : goal.invariant-loop-p

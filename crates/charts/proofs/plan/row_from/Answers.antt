@@ -1,7 +1,6 @@
 -- `row_from` meets its contract, by whether p is a member.
 -- Assumes nothing.
 use mathlib.Core.Path.{sym, ◌∙◌}
-use borrow.Author.Rules.{rules}
 use Rattle.charts.proofs.plan.row_from.Goals as goal
 
 pub returns-then-has : goal.returns-then-has

@@ -1,7 +1,6 @@
 -- `rows` meets its contract: the plan's spots, at its length.
 -- Assumes nothing.
 use native.Mathlib.Omega.{arith}
-use borrow.Author.Rules.{rules}
 use Rattle.charts.proofs.plan.rows.Goals as goal
 
 pub place-requires : goal.place-requires

@@ -1,8 +1,6 @@
 use mathlib.Core.Path.{◌≡◌}
-use Prim.Native.Nat.{◌+◌, ◌-◌, ◌≤◌}
+use Prim.Native.Nat.{◌+◌, ◌-◌}
 use native.Mathlib.Omega.{arith}
-use borrow.Author.Rules.{rules}
-use Rattle.charts.specs.Inner.Planning.{SpottedAs}
 use Rattle.charts.proofs.Spreading.{spotted_start, spotted_spreads, spotted_turn, spotted_end}
 use Rattle.charts.proofs.plan.spot.Goals as goal
 

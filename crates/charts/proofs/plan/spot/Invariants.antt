@@ -1,12 +1,8 @@
 -- `spot` meets its contract. The loop's invariant: the whole is there, and with a span of more than m positions its halves. The measure is
 -- the length m.
 -- Assumes nothing.
-use mathlib.Core.Path.{◌≡◌}
-use Prim.Native.Nat.{◌+◌, ◌-◌, ◌≤◌}
-use native.Mathlib.Omega.{arith}
-use borrow.Author.Rules.{rules}
+use Prim.Native.Nat.{◌+◌, ◌≤◌}
 use Rattle.charts.specs.Inner.Planning.{SpottedAs}
-use Rattle.charts.proofs.Spreading.{spotted_start, spotted_spreads, spotted_turn, spotted_end}
 use Rattle.charts.proofs.plan.spot.Given as goal
 
 abbrev pub invariant-loop-m : goal.invariant-loop-m

@@ -1,10 +1,7 @@
 use Prim.Native.Nat.{◌≤◌, ◌<◌}
 use native.Mathlib.Omega.{arith}
-use borrow.Author.Rules.{rules}
-use lib.ListN.{length}
-use Rattle.sets.specs.Inner.Sets.{members}
 use Rattle.sets.proofs.Loops.{lowest_low, turn, turn_less, first_member}
-use Rattle.charts.proofs.Spreading.{Spreading, spreading_start, lowest_within, spreading_turn, spreading_end}
+use Rattle.charts.proofs.Spreading.{spreading_start, lowest_within, spreading_turn, spreading_end}
 use Rattle.charts.proofs.plan.spread.Goals as goal
 
 pub loop-left-init : goal.loop-left-init

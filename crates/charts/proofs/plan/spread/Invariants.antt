@@ -1,13 +1,9 @@
 -- `spread` meets its contract. The loop's invariant: the halves at the left lengths that are no longer in `left` are there. The measure is
 -- the left lengths left.
 -- Assumes nothing.
-use Prim.Native.Nat.{◌≤◌, ◌<◌}
-use native.Mathlib.Omega.{arith}
-use borrow.Author.Rules.{rules}
 use lib.ListN.{length}
 use Rattle.sets.specs.Inner.Sets.{members}
-use Rattle.sets.proofs.Loops.{lowest_low, turn, turn_less, first_member}
-use Rattle.charts.proofs.Spreading.{Spreading, spreading_start, lowest_within, spreading_turn, spreading_end}
+use Rattle.charts.proofs.Spreading.{Spreading}
 use Rattle.charts.proofs.plan.spread.Given as goal
 
 abbrev pub invariant-loop-left : goal.invariant-loop-left

@@ -1,7 +1,6 @@
 use mathlib.Core.Path.{◌≡◌}
-use Prim.Native.Nat.{◌+◌, ◌-◌, ◌≤◌}
+use Prim.Native.Nat.{◌-◌}
 use native.Mathlib.Omega.{arith}
-use Rattle.charts.specs.Inner.Planning.{AllWantedAs}
 use Rattle.charts.proofs.Gathering.{wanted_start, wanted_turn}
 use Rattle.charts.proofs.plan.want.Goals as goal
 

@@ -1,10 +1,7 @@
 -- `want` meets its contract. The loop's invariant: the lengths below m have their nonterminals. The measure is the lengths left.
 -- Assumes nothing.
-use mathlib.Core.Path.{◌≡◌}
 use Prim.Native.Nat.{◌+◌, ◌-◌, ◌≤◌}
-use native.Mathlib.Omega.{arith}
 use Rattle.charts.specs.Inner.Planning.{AllWantedAs}
-use Rattle.charts.proofs.Gathering.{wanted_start, wanted_turn}
 use Rattle.charts.proofs.plan.want.Given as goal
 
 abbrev pub invariant-loop-m : goal.invariant-loop-m

@@ -1,9 +1,5 @@
 use mathlib.Core.Path.{◌≡◌}
-use mathlib.Core.Logic.{⊎_elim}
-use Prim.Native.Nat.{◌-◌, ◌≤◌}
 use native.Mathlib.Omega.{arith}
-use borrow.Author.Rules.{rules}
-use Rattle.charts.specs.Inner.Planning.{WantedAs}
 use Rattle.charts.proofs.Gathering.{wants_start, wants_put, wants_pass}
 use Rattle.charts.proofs.plan.wanted_at.Goals as goal
 use Rattle.charts.proofs.plan.wanted_at.Goals.{then-totals-m-ne0, else-totals-m-ne0}

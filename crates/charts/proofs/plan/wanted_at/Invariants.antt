@@ -1,13 +1,8 @@
 -- `wanted_at` meets its contract. The loop's invariant: the set has the nonterminals below a that have a derivation. The measure is the
 -- nonterminals left.
 -- Assumes nothing.
-use mathlib.Core.Path.{◌≡◌}
-use mathlib.Core.Logic.{⊎_elim}
 use Prim.Native.Nat.{◌-◌, ◌≤◌}
-use native.Mathlib.Omega.{arith}
-use borrow.Author.Rules.{rules}
 use Rattle.charts.specs.Inner.Planning.{WantedAs}
-use Rattle.charts.proofs.Gathering.{wants_start, wants_put, wants_pass}
 use Rattle.charts.proofs.plan.wanted_at.Given as goal
 
 abbrev pub invariant-loop-a : goal.invariant-loop-a

@@ -1,6 +1,5 @@
 -- `ready` meets its contract: linking keeps the rules, so the counts are those of the linked table, and the plan is made of it.
 -- Assumes nothing.
-use borrow.Author.Rules.{rules}
 use Rattle.charts.specs.Inner.Chart.{Blank}
 use Rattle.charts.specs.Inner.Plan.{chart_row}
 use Rattle.charts.proofs.Mapping.{linked_blank}

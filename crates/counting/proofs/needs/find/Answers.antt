@@ -1,5 +1,5 @@
 use native.Mathlib.Omega.{arith}
-use Rattle.counting.proofs.Finding.{FindTo, find_start, find_owners, find_step, find_end}
+use Rattle.counting.proofs.Finding.{find_start, find_owners, find_step, find_end}
 use Rattle.counting.proofs.needs.find.Goals as goal
 
 pub start-requires : goal.start-requires

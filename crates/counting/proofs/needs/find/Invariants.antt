@@ -1,7 +1,6 @@
 -- `find` meets its contract. The loop's invariant: the sets of the lengths from m on are found, and what stands in the pair rules of all that is needed
 -- above m is gathered. The measure is m. Assumes nothing.
-use native.Mathlib.Omega.{arith}
-use Rattle.counting.proofs.Finding.{FindTo, find_start, find_owners, find_step, find_end}
+use Rattle.counting.proofs.Finding.{FindTo}
 use Rattle.counting.proofs.needs.find.Given as goal
 
 abbrev pub invariant-loop-m : goal.invariant-loop-m

@@ -1,8 +1,5 @@
-use native.Mathlib.Omega.{arith}
-use lib.ListN.{length}
-use Rattle.sets.specs.Inner.Sets.{members}
 use Rattle.sets.proofs.Loops.{turn_less}
-use Rattle.counting.proofs.Finding.{OwnersTo, owners_start, owner_here, owners_step, owners_end}
+use Rattle.counting.proofs.Finding.{owners_start, owner_here, owners_step, owners_end}
 use Rattle.counting.proofs.needs.with_all_halves.Goals as goal
 
 pub loop-left-init : goal.loop-left-init

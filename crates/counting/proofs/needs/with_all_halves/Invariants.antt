@@ -1,10 +1,8 @@
 -- `with_all_halves` meets its contract. The loop's invariant: the set has the nonterminals of the pair rules of those owners that are no longer in `left`.
 -- The measure is the owners left. Assumes nothing.
-use native.Mathlib.Omega.{arith}
 use lib.ListN.{length}
 use Rattle.sets.specs.Inner.Sets.{members}
-use Rattle.sets.proofs.Loops.{turn_less}
-use Rattle.counting.proofs.Finding.{OwnersTo, owners_start, owner_here, owners_step, owners_end}
+use Rattle.counting.proofs.Finding.{OwnersTo}
 use Rattle.counting.proofs.needs.with_all_halves.Given as goal
 
 abbrev pub invariant-loop-left : goal.invariant-loop-left

@@ -1,10 +1,7 @@
 -- `with_halves` meets its contract. The loop's invariant: the set has the nonterminals of the pair rules before i. The measure is the pair rules
 -- left. Assumes nothing.
-use Prim.Native.Nat.{◌+◌, ◌-◌, ◌<◌}
-use native.Mathlib.Omega.{arith}
-use Rattle.grammar.specs.Inner.Rules.{left_at, right_at, pair_from}
-use Rattle.grammar.proofs.Ruling.{pair_below}
-use Rattle.counting.proofs.Finding.{HalvesTo, halves_start, halves_step, halves_end}
+use Prim.Native.Nat.{◌-◌}
+use Rattle.counting.proofs.Finding.{HalvesTo}
 use Rattle.counting.proofs.needs.with_halves.Given as goal
 
 abbrev pub invariant-loop-i : goal.invariant-loop-i

@@ -1,7 +1,6 @@
 -- `open` meets its contract: each test that fails moves the refusal on to the next line, and one that succeeds is the refusal; past the
 -- last the rules are there. Assumes nothing.
 use native.Mathlib.Omega.{arith}
-use borrow.Author.Rules.{rules}
 use Rattle.counting.proofs.Preparing.{open_by_grammar, open_too_short, open_too_long, open_ready}
 use Rattle.counting.proofs.prepare.open.Goals as goal
 

@@ -1,5 +1,4 @@
 -- `prepare` meets its contract: a refusal of opening is handed on, and past it the counts fit or 10 is the refusal. Assumes nothing.
-use borrow.Author.Rules.{rules}
 use Rattle.counting.proofs.Preparing.{prepare_by_opening, prepare_asks, prepare_too_large, prepare_ready}
 use Rattle.counting.proofs.prepare.prepare.Goals as goal
 

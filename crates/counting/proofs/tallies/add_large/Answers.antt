@@ -1,6 +1,5 @@
 -- `add_large` meets its contract: with a factor of 0 the product is 0, and otherwise the quotient of what is left by the one factor is
 -- the largest other factor for which the sum fits. Assumes nothing.
-use mathlib.Core.Path.{refl}
 use Prim.Native.Nat.{◌+◌, ◌*◌, ◌≤◌}
 use native.Mathlib.Omega.{arith}
 use Rattle.counting.specs.Refusals.{most}

@@ -1,8 +1,5 @@
-use Prim.Native.Nat.{◌-◌}
 use native.Mathlib.Omega.{arith}
-use borrow.Author.Rules.{rules}
-use Rattle.counting.specs.Inner.Counted.{count_at}
-use Rattle.counting.proofs.PairSums.{says_fits, says_over, Adding, halves_end, adding_start, adding_step, adding_over, adding_end}
+use Rattle.counting.proofs.PairSums.{says_fits, says_over, halves_end, adding_start, adding_step, adding_over, adding_end}
 use Rattle.counting.proofs.tallies.add_pair.Goals as goal
 
 pub loop-k-init : goal.loop-k-init

@@ -2,10 +2,8 @@
 -- lengths 1 to k (001, formula 4a). It starts after the left lengths at which the right half is too long, which add nothing, and ends
 -- at the bound or where the left half is. The measure is the left lengths left. Assumes nothing.
 use Prim.Native.Nat.{◌-◌}
-use native.Mathlib.Omega.{arith}
-use borrow.Author.Rules.{rules}
 use Rattle.counting.specs.Inner.Counted.{count_at}
-use Rattle.counting.proofs.PairSums.{says_fits, says_over, Adding, halves_end, adding_start, adding_step, adding_over, adding_end}
+use Rattle.counting.proofs.PairSums.{Adding}
 use Rattle.counting.proofs.tallies.add_pair.Given as goal
 
 abbrev pub invariant-loop-k : goal.invariant-loop-k

@@ -1,5 +1,4 @@
 -- `add_product` meets its contract: two factors below 2^32 have a product that fits. Assumes nothing.
-use mathlib.Core.Path.{refl}
 use native.Mathlib.Omega.{arith}
 use Rattle.counting.proofs.PairSums.{small_product}
 use Rattle.counting.proofs.tallies.add_product.Goals as goal

@@ -1,8 +1,5 @@
-use Prim.Native.Nat.{ℕ, ◌-◌}
 use native.Mathlib.Omega.{arith}
-use borrow.Author.Rules.{rules}
-use Rattle.counting.specs.Inner.Filling.{Deriving}
-use Rattle.counting.proofs.Filling.{deriving_few, Summing, summing_start, summing_asks, summing_step, summing_over, summing_end}
+use Rattle.counting.proofs.Filling.{deriving_few, summing_start, summing_asks, summing_step, summing_over, summing_end}
 use Rattle.counting.proofs.tallies.derive.Goals as goal
 
 pub overflow_add-a : goal.overflow_add-a

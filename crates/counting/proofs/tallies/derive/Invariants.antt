@@ -1,10 +1,8 @@
 -- `derive` meets its contract. The loop's invariant: the sum so far, with what the pair rules from i on add, is the total. The measure is
 -- the pair rules left. Assumes nothing.
 use Prim.Native.Nat.{ℕ, ◌-◌}
-use native.Mathlib.Omega.{arith}
-use borrow.Author.Rules.{rules}
 use Rattle.counting.specs.Inner.Filling.{Deriving}
-use Rattle.counting.proofs.Filling.{deriving_few, Summing, summing_start, summing_asks, summing_step, summing_over, summing_end}
+use Rattle.counting.proofs.Filling.{Summing}
 use Rattle.counting.proofs.tallies.derive.Given as goal
 
 abbrev pub invariant-loop-i : goal.invariant-loop-i

@@ -1,9 +1,6 @@
-use Prim.Native.Nat.{ℕ, ◌-◌}
 use native.Mathlib.Omega.{arith}
-use borrow.Author.Rules.{rules}
-use Rattle.counting.specs.Inner.Filling.{DerivingBeside}
 use Rattle.counting.proofs.Filling.{deriving_few}
-use Rattle.counting.proofs.Besides.{SummingBeside, beside_start, beside_asks, beside_step, beside_over, beside_end}
+use Rattle.counting.proofs.Besides.{beside_start, beside_asks, beside_step, beside_over, beside_end}
 use Rattle.counting.proofs.tallies.derive_beside.Goals as goal
 
 pub overflow_add-a : goal.overflow_add-a

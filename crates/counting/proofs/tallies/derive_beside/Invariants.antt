@@ -1,11 +1,8 @@
 -- `derive_beside` meets its contract. The loop's invariant: each sum so far, with what the pair rules from i on add, is its total, and that of the counts is
 -- no more than the other. The measure is the pair rules left. Assumes nothing.
 use Prim.Native.Nat.{ℕ, ◌-◌}
-use native.Mathlib.Omega.{arith}
-use borrow.Author.Rules.{rules}
 use Rattle.counting.specs.Inner.Filling.{DerivingBeside}
-use Rattle.counting.proofs.Filling.{deriving_few}
-use Rattle.counting.proofs.Besides.{SummingBeside, beside_start, beside_asks, beside_step, beside_over, beside_end}
+use Rattle.counting.proofs.Besides.{SummingBeside}
 use Rattle.counting.proofs.tallies.derive_beside.Given as goal
 
 abbrev pub invariant-loop-i : goal.invariant-loop-i

@@ -1,11 +1,6 @@
 use mathlib.Core.Path.{refl}
-use mathlib.Core.Bool.{true}
-use Prim.Native.Nat.{◌+◌, ◌-◌}
 use native.Mathlib.Omega.{arith}
-use borrow.Author.Tests.{not-true, not-false}
-use Rattle.counting.specs.Inner.Filling.{BesideAs}
-use Rattle.counting.proofs.Filling.{Rising}
-use Rattle.counting.proofs.Besides.{fills_start, fills_size, fills_same, fills_asks, fills_over, fills_step, fills_end}
+use Rattle.counting.proofs.Besides.{fills_start, fills_asks, fills_over, fills_step, fills_end}
 use Rattle.counting.proofs.tallies.fill.Goals as goal
 
 pub find-requires : goal.find-requires

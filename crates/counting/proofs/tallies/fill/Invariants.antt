@@ -1,13 +1,9 @@
 -- `fill` meets its contract. The loop's invariant: the rows below m have what is asked for, and it fits. A row that does not fit is the
 -- answer, for its length is at most n. The measure is the rows left. Assumes nothing.
-use mathlib.Core.Path.{refl}
 use mathlib.Core.Bool.{true}
 use Prim.Native.Nat.{◌+◌, ◌-◌}
-use native.Mathlib.Omega.{arith}
-use borrow.Author.Tests.{not-true, not-false}
 use Rattle.counting.specs.Inner.Filling.{BesideAs}
 use Rattle.counting.proofs.Filling.{Rising}
-use Rattle.counting.proofs.Besides.{fills_start, fills_size, fills_same, fills_asks, fills_over, fills_step, fills_end}
 use Rattle.counting.proofs.tallies.fill.Given as goal
 
 abbrev pub invariant-loop-m : goal.invariant-loop-m

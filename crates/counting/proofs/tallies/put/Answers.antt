@@ -1,6 +1,5 @@
 -- `put` meets its contract: the two stores, one after the other. Assumes nothing.
 use native.Mathlib.Omega.{arith}
-use borrow.Author.Rules.{rules}
 use lib.ListN.{length-set}
 use Rattle.counting.proofs.tallies.put.Goals as goal
 

@@ -1,5 +1,4 @@
 -- `put_beside` meets its contract: each part of the table is written in its turn, and the other stays. Assumes nothing.
-use borrow.Author.Rules.{rules}
 use Rattle.counting.proofs.Besides.{both_put}
 use Rattle.counting.proofs.tallies.put_beside.Goals as goal
 

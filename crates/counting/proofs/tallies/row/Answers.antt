@@ -1,13 +1,5 @@
-use mathlib.Core.Bool.{true}
-use Prim.Native.Nat.{ℕ}
-use native.Mathlib.Omega.{arith}
-use borrow.Author.Tests.{not-true, not-false}
-use lib.ListN.{length}
-use Rattle.sets.specs.Inner.Sets.{members}
 use Rattle.sets.proofs.Loops.{turn, turn_less, turn_among}
-use Rattle.counting.specs.Inner.Needs.{MemberOf}
-use Rattle.counting.specs.Inner.Filling.{BesideAs, RowTo}
-use Rattle.counting.proofs.Besides.{rows_start, rows_size, rows_same, rows_asks, rows_over, rows_step, rows_end}
+use Rattle.counting.proofs.Besides.{rows_start, rows_asks, rows_over, rows_step, rows_end}
 use Rattle.counting.proofs.tallies.row.Goals as goal
 
 pub loop-left-init : goal.loop-left-init

@@ -2,18 +2,14 @@
 -- left. Assumes nothing.
 use mathlib.Core.Bool.{true}
 use Prim.Native.Nat.{ℕ}
-use native.Mathlib.Omega.{arith}
-use borrow.Author.Tests.{not-true, not-false}
 use lib.ListN.{length}
 use Rattle.sets.specs.Inner.Sets.{members}
-use Rattle.sets.proofs.Loops.{turn, turn_less, turn_among}
 use Rattle.counting.specs.Inner.Needs.{MemberOf}
 use Rattle.counting.specs.Inner.Filling.{BesideAs, RowTo}
-use Rattle.counting.proofs.Besides.{rows_start, rows_size, rows_same, rows_asks, rows_over, rows_step, rows_end}
 use Rattle.counting.proofs.tallies.row.Given as goal
 
 abbrev pub invariant-loop-left : goal.invariant-loop-left
-invariant-loop-left l =     BesideAs l.rules l.letter l.at (λ u b t fits. RowTo l.rules u b t l.m l.set l.left) l.initial.totals l.totals true × ((A : ℕ) → MemberOf l.left A → MemberOf l.set A)
+invariant-loop-left l = BesideAs l.rules l.letter l.at (λ u b t fits. RowTo l.rules u b t l.m l.set l.left) l.initial.totals l.totals true × ((A : ℕ) → MemberOf l.left A → MemberOf l.set A)
 
 abbrev pub decreases-loop-left : goal.decreases-loop-left
 decreases-loop-left l = length (members l.left)

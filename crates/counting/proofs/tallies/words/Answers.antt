@@ -1,7 +1,5 @@
-use Prim.Native.Nat.{◌-◌}
 use native.Mathlib.Omega.{arith}
-use Rattle.counting.specs.Inner.Letters.{by_letter}
-use Rattle.counting.proofs.Filling.{Wording, words_few, words_any, wording_start, wording_room, wording_step, wording_end}
+use Rattle.counting.proofs.Filling.{words_few, words_any, wording_start, wording_room, wording_step, wording_end}
 use Rattle.counting.proofs.tallies.words.Goals as goal
 
 pub overflow_add-a : goal.overflow_add-a

@@ -1,9 +1,8 @@
 -- `words` meets its contract. The loop's invariant: the sum so far, with what the words from i on count for, is what all do. The measure is
 -- the words left. Assumes nothing.
 use Prim.Native.Nat.{◌-◌}
-use native.Mathlib.Omega.{arith}
 use Rattle.counting.specs.Inner.Letters.{by_letter}
-use Rattle.counting.proofs.Filling.{Wording, words_few, words_any, wording_start, wording_room, wording_step, wording_end}
+use Rattle.counting.proofs.Filling.{Wording}
 use Rattle.counting.proofs.tallies.words.Given as goal
 
 abbrev pub invariant-loop-i : goal.invariant-loop-i

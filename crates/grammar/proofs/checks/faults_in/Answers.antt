@@ -1,15 +1,13 @@
 use mathlib.Core.Path.{◌≡◌, sym, ap, ◌∙◌}
 use mathlib.Core.Bool.{Bool, true, false, not, ◌||◌, false≢true, or_assoc, or-false}
 use mathlib.Core.List.{List}
-use Prim.Native.Nat.{ℕ, ◌+◌, ◌*◌, ◌-◌, ◌≤◌, ◌<◌}
+use Prim.Native.Nat.{ℕ, ◌+◌, ◌*◌, ◌-◌, ◌<◌}
 use native.Mathlib.Omega.{arith}
-use borrow.Author.Tests.{not-true, not-false}
 use lib.Dec.{ltb}
 use Rattle.lists.specs.Searched.{some_to}
 use Rattle.lists.proofs.Tests.{to_hit, to_miss, to_step, below_none}
 use Rattle.grammar.specs.Layout.{byte_at, nonterminals, rules}
 use Rattle.grammar.specs.Refusals.{fits, misfit, bad_rule, next_above}
-use Rattle.grammar.proofs.checks.faults_in.Invariants.{Passing}
 use Rattle.grammar.proofs.checks.faults_in.Goals as goal
 
 -- the bytes read are those of rule i

@@ -1,17 +1,13 @@
 -- `checks::faults_in` meets its contract. The loop counts down from the last rule; its invariant: the answers are the tests of the rules
 -- not yet passed, and whether a next of one passed is above R.
 -- Assumes nothing.
-use mathlib.Core.Path.{◌≡◌, sym, ap, ◌∙◌}
-use mathlib.Core.Bool.{Bool, true, false, not, ◌||◌, false≢true, or_assoc, or-false}
+use mathlib.Core.Path.{◌≡◌}
+use mathlib.Core.Bool.{Bool, ◌||◌}
 use mathlib.Core.List.{List}
-use Prim.Native.Nat.{ℕ, ◌+◌, ◌*◌, ◌-◌, ◌≤◌, ◌<◌}
-use native.Mathlib.Omega.{arith}
-use borrow.Author.Tests.{not-true, not-false}
-use lib.Dec.{ltb}
+use Prim.Native.Nat.{ℕ, ◌≤◌}
 use Rattle.lists.specs.Searched.{some_to}
-use Rattle.lists.proofs.Tests.{to_hit, to_miss, to_step, below_none}
-use Rattle.grammar.specs.Layout.{byte_at, nonterminals, rules}
-use Rattle.grammar.specs.Refusals.{fits, misfit, bad_rule, next_above}
+use Rattle.grammar.specs.Layout.{rules}
+use Rattle.grammar.specs.Refusals.{misfit, bad_rule, next_above}
 use Rattle.grammar.proofs.checks.faults_in.Given as goal
 
 pub record Passing (g : List ℕ) (r : ℕ) (link : Bool) (i : ℕ) : Type 0 where

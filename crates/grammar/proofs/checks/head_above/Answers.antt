@@ -1,12 +1,12 @@
 use mathlib.Core.Path.{◌≡◌, sym, ap, ◌∙◌}
-use mathlib.Core.Bool.{Bool, true, false}
+use mathlib.Core.Bool.{true, false}
 use mathlib.Core.List.{List}
 use Prim.Native.Nat.{ℕ, ◌-◌, ◌≤◌, ◌<◌}
 use native.Mathlib.Omega.{arith}
 use borrow.Author.Tests.{lt-ltb, le-ltb}
 use Rattle.lists.specs.Searched.{some_below}
 use Rattle.lists.proofs.Tests.{below_hit, below_miss, below_none}
-use Rattle.grammar.specs.Layout.{nonterminals, rules, head_of}
+use Rattle.grammar.specs.Layout.{rules, head_of}
 use Rattle.grammar.specs.Refusals.{head_above}
 use Rattle.grammar.proofs.checks.head_above.Goals as goal
 

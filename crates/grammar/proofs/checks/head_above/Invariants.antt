@@ -1,15 +1,10 @@
 -- `checks::head_above` meets its contract. The loop counts down from the last head; its invariant: the answer is the test of the heads
 -- not yet passed.
 -- Assumes nothing.
-use mathlib.Core.Path.{◌≡◌, sym, ap, ◌∙◌}
-use mathlib.Core.Bool.{Bool, true, false}
-use mathlib.Core.List.{List}
-use Prim.Native.Nat.{ℕ, ◌-◌, ◌≤◌, ◌<◌}
-use native.Mathlib.Omega.{arith}
-use borrow.Author.Tests.{lt-ltb, le-ltb}
+use mathlib.Core.Path.{◌≡◌}
+use Prim.Native.Nat.{◌≤◌}
 use Rattle.lists.specs.Searched.{some_below}
-use Rattle.lists.proofs.Tests.{below_hit, below_miss, below_none}
-use Rattle.grammar.specs.Layout.{nonterminals, rules, head_of}
+use Rattle.grammar.specs.Layout.{nonterminals}
 use Rattle.grammar.specs.Refusals.{head_above}
 use Rattle.grammar.proofs.checks.head_above.Given as goal
 

@@ -1,5 +1,5 @@
 use native.Mathlib.Omega.{arith}
-use Rattle.grammar.proofs.Repeats.{Rounds, rounds_start, rounds_end, round_words, round_pairs, round_hit, round_next}
+use Rattle.grammar.proofs.Repeats.{rounds_start, rounds_end, round_words, round_pairs, round_hit, round_next}
 use Rattle.grammar.proofs.checks.repeated.Goals as goal
 
 pub bounds-g-0 : goal.bounds-g-0

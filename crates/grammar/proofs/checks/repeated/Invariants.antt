@@ -2,8 +2,7 @@
 -- its pair rules. The loop's invariant is `Rounds`: the answer is that of the chains that are left, and no number has the stamp of the
 -- next. The measure is what is left of them.
 -- Assumes nothing.
-use native.Mathlib.Omega.{arith}
-use Rattle.grammar.proofs.Repeats.{Rounds, rounds_start, rounds_end, round_words, round_pairs, round_hit, round_next}
+use Rattle.grammar.proofs.Repeats.{Rounds}
 use Rattle.grammar.proofs.checks.repeated.Given as goal
 
 abbrev pub invariant-loop-a : goal.invariant-loop-a

@@ -1,6 +1,6 @@
-use Prim.Native.Nat.{◌-◌, ◌<◌}
+use Prim.Native.Nat.{◌<◌}
 use native.Mathlib.Omega.{arith}
-use Rattle.grammar.proofs.Repeats.{Scanning, scan_start, scan_end, scan_low, scan_hit, scan_next}
+use Rattle.grammar.proofs.Repeats.{scan_start, scan_end, scan_low, scan_hit, scan_next}
 use Rattle.grammar.proofs.checks.some_same.Goals as goal
 
 pub overflow_add-a : goal.overflow_add-a

@@ -1,9 +1,8 @@
 -- `checks::some_same` meets its contract. The loop's invariant is `Scanning`: two of the entries are the same where one ahead finds its
 -- stamp, or two ahead are the same. The measure is the entries ahead.
 -- Assumes nothing.
-use Prim.Native.Nat.{◌-◌, ◌<◌}
-use native.Mathlib.Omega.{arith}
-use Rattle.grammar.proofs.Repeats.{Scanning, scan_start, scan_end, scan_low, scan_hit, scan_next}
+use Prim.Native.Nat.{◌-◌}
+use Rattle.grammar.proofs.Repeats.{Scanning}
 use Rattle.grammar.proofs.checks.some_same.Given as goal
 
 abbrev pub invariant-loop-i : goal.invariant-loop-i

@@ -1,8 +1,6 @@
 use mathlib.Core.Path.{◌≡◌}
-use Prim.Native.Nat.{◌-◌, ◌≤◌}
 use native.Mathlib.Omega.{arith}
 use Rattle.grammar.specs.Layout.{nonterminals}
-use Rattle.grammar.specs.Inner.Entering.{Walked, Kept}
 use Rattle.lists.proofs.Tables.{kept_same, kept_then}
 use Rattle.grammar.proofs.Entering.{build_start, build_again, build_end}
 use Rattle.grammar.proofs.entries.build.Goals as goal

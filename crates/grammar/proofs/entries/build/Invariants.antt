@@ -1,13 +1,8 @@
 -- `entries::build` meets its contract. The loop's invariant: the chains of the nonterminals below a are walked. The measure is the
 -- nonterminals left.
 -- Assumes nothing.
-use mathlib.Core.Path.{◌≡◌}
 use Prim.Native.Nat.{◌-◌, ◌≤◌}
-use native.Mathlib.Omega.{arith}
-use Rattle.grammar.specs.Layout.{nonterminals}
 use Rattle.grammar.specs.Inner.Entering.{Walked, Kept}
-use Rattle.lists.proofs.Tables.{kept_same, kept_then}
-use Rattle.grammar.proofs.Entering.{build_start, build_again, build_end}
 use Rattle.grammar.proofs.entries.build.Given as goal
 
 abbrev pub invariant-loop-a : goal.invariant-loop-a

@@ -1,12 +1,10 @@
 use mathlib.Core.Path.{◌≡◌}
-use Prim.Native.Nat.{◌+◌, ◌-◌, ◌≤◌, ◌<◌}
+use Prim.Native.Nat.{◌+◌, ◌≤◌, ◌<◌}
 use native.Mathlib.Omega.{arith}
 use lib.ListN.{length, get_or, length-set}
-use Rattle.grammar.specs.Layout as Layout
 use Rattle.grammar.proofs.Walks.{step_met}
-use Rattle.grammar.specs.Inner.Entering.{Kept}
 use Rattle.lists.proofs.Tables.{kept_same, kept_put}
-use Rattle.grammar.proofs.Entering.{Walking, enter_few, walk_start, walk_room, walk_again, walk_free, walk_word, walk_pair, walk_end}
+use Rattle.grammar.proofs.Entering.{enter_few, walk_start, walk_room, walk_again, walk_free, walk_word, walk_pair, walk_end}
 use Rattle.grammar.proofs.entries.enter.Goals as goal
 
 pub bounds-g-0 : goal.bounds-g-0
@@ -29,9 +27,9 @@ new-walk-requires c = (c.requires.readable, c.requires.inside)
 
 pub loop-seen-init : goal.loop-seen-init
 loop-seen-init c = (
-      walk_start c.requires c.wide-i.ensures.0 c.words_from-w.ensures.0 c.pairs_from-p.ensures.0 c.new-walk.ensures,
-      kept_same c.requires.walked.entered.roomy.wide,
-    )
+  walk_start c.requires c.wide-i.ensures.0 c.words_from-w.ensures.0 c.pairs_from-p.ensures.0 c.new-walk.ensures,
+  kept_same c.requires.walked.entered.roomy.wide,
+)
 
 pub returns-then-seen-at-ne0 : goal.returns-then-seen-at-ne0
 returns-then-seen-at-ne0 c = walk_again c.requires c.loop-seen.invariant.0 c.wide-at.ensures.0 c.if-seen-at-ne0.true c.loop-seen.invariant.1
@@ -111,8 +109,7 @@ loop-seen-smaller-in-Word c =
 pub loop-seen-preserved-in-Word : goal.loop-seen-preserved-in-Word
 loop-seen-preserved-in-Word c =
     let same : c.wide-at.result ≡ c.loop-seen.walk.at = c.wide-at.ensures.0 in
-    let new : get_or c.loop-seen.seen c.wide-at.result 0 ≡ 0 = c.if-seen-at-ne0.false in
-    (
+    let new : get_or c.loop-seen.seen c.wide-at.result 0 ≡ 0 = c.if-seen-at-ne0.false in (
       walk_word c.requires c.loop-seen.invariant.0 same new (step_met _ _ c.step.ensures c.in-Word.is),
       kept_put 0 _ _ (omega arith) c.loop-seen.invariant.1,
     )
@@ -151,8 +148,7 @@ loop-seen-smaller c =
 pub loop-seen-preserved : goal.loop-seen-preserved
 loop-seen-preserved c =
     let same : c.wide-at.result ≡ c.loop-seen.walk.at = c.wide-at.ensures.0 in
-    let new : get_or c.loop-seen.seen c.wide-at.result 0 ≡ 0 = c.if-seen-at-ne0.false in
-    (
+    let new : get_or c.loop-seen.seen c.wide-at.result 0 ≡ 0 = c.if-seen-at-ne0.false in (
       walk_pair c.requires c.loop-seen.invariant.0 same new (step_met _ _ c.step.ensures c.in-Pair.is),
       kept_put 2 _ _ (omega arith) (kept_put 1 _ _ (omega arith) c.loop-seen.invariant.1),
     )

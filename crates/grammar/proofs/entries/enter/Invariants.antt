@@ -3,15 +3,10 @@
 -- the second to the first; a number that has its mark already is met a second time. None of the R numbers is done twice, so each store
 -- has room, and what is left of the R is the measure.
 -- Assumes nothing.
-use mathlib.Core.Path.{◌≡◌}
-use Prim.Native.Nat.{◌+◌, ◌-◌, ◌≤◌, ◌<◌}
-use native.Mathlib.Omega.{arith}
-use lib.ListN.{length, get_or, length-set}
+use Prim.Native.Nat.{◌+◌, ◌-◌}
 use Rattle.grammar.specs.Layout as Layout
-use Rattle.grammar.proofs.Walks.{step_met}
 use Rattle.grammar.specs.Inner.Entering.{Kept}
-use Rattle.lists.proofs.Tables.{kept_same, kept_put}
-use Rattle.grammar.proofs.Entering.{Walking, enter_few, walk_start, walk_room, walk_again, walk_free, walk_word, walk_pair, walk_end}
+use Rattle.grammar.proofs.Entering.{Walking}
 use Rattle.grammar.proofs.entries.enter.Given as goal
 
 abbrev pub invariant-loop-seen : goal.invariant-loop-seen

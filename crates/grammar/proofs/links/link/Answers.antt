@@ -1,6 +1,4 @@
-use Prim.Native.Nat.{◌-◌}
-use native.Mathlib.Omega.{arith}
-use Rattle.grammar.proofs.Linking.{LinkLoop, loop_start, links_words, links_pairs, loop_next, loop_end}
+use Rattle.grammar.proofs.Linking.{loop_start, links_words, links_pairs, loop_next, loop_end}
 use Rattle.grammar.proofs.links.link.Goals as goal
 
 pub count-count-requires : goal.count-count-requires

@@ -2,8 +2,7 @@
 -- nonterminals left.
 -- Assumes nothing.
 use Prim.Native.Nat.{◌-◌}
-use native.Mathlib.Omega.{arith}
-use Rattle.grammar.proofs.Linking.{LinkLoop, loop_start, links_words, links_pairs, loop_next, loop_end}
+use Rattle.grammar.proofs.Linking.{LinkLoop}
 use Rattle.grammar.proofs.links.link.Given as goal
 
 abbrev pub invariant-loop-a : goal.invariant-loop-a

@@ -1,9 +1,9 @@
-use Prim.Native.Nat.{◌+◌, ◌*◌, ◌-◌, ◌/◌, ◌≤◌, ◌<◌}
+use Prim.Native.Nat.{◌+◌, ◌*◌, ◌/◌, ◌≤◌, ◌<◌}
 use native.Mathlib.Omega.{arith}
 use native.Mathlib.Nat.{mod-lt}
 use lib.Dec.{lit<}
 use lib.ListN.{length, length-set}
-use Rattle.grammar.proofs.Linking.{PairLoop, pairs_start, pairs_end, pair_room, pair_high, pair_more}
+use Rattle.grammar.proofs.Linking.{pairs_start, pairs_end, pair_room, pair_high, pair_more}
 use Rattle.grammar.proofs.links.link_pairs.Goals as goal
 
 pub overflow_add-a : goal.overflow_add-a

@@ -1,12 +1,8 @@
 -- `links::link_pairs` meets its contract. The loop's invariant is `PairLoop`: the pair rules at the places below i are linked. The measure
 -- is the places left.
 -- Assumes nothing.
-use Prim.Native.Nat.{◌+◌, ◌*◌, ◌-◌, ◌/◌, ◌≤◌, ◌<◌}
-use native.Mathlib.Omega.{arith}
-use native.Mathlib.Nat.{mod-lt}
-use lib.Dec.{lit<}
-use lib.ListN.{length, length-set}
-use Rattle.grammar.proofs.Linking.{PairLoop, pairs_start, pairs_end, pair_room, pair_high, pair_more}
+use Prim.Native.Nat.{◌-◌}
+use Rattle.grammar.proofs.Linking.{PairLoop}
 use Rattle.grammar.proofs.links.link_pairs.Given as goal
 
 abbrev pub invariant-loop-i : goal.invariant-loop-i

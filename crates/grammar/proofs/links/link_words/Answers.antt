@@ -1,8 +1,8 @@
 use mathlib.Core.Path.{◌∙◌}
-use Prim.Native.Nat.{◌-◌, ◌≤◌, ◌<◌}
+use Prim.Native.Nat.{◌≤◌, ◌<◌}
 use native.Mathlib.Omega.{arith}
 use lib.ListN.{length, length-set}
-use Rattle.grammar.proofs.Linking.{WordLoop, words_start, words_end, word_room, word_more}
+use Rattle.grammar.proofs.Linking.{words_start, words_end, word_room, word_more}
 use Rattle.grammar.proofs.links.link_words.Goals as goal
 
 pub overflow_add-a : goal.overflow_add-a

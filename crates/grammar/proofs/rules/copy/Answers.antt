@@ -1,7 +1,5 @@
 use mathlib.Core.Path.{◌≡◌}
-use Prim.Native.Nat.{◌-◌, ◌≤◌}
 use native.Mathlib.Omega.{arith}
-use Rattle.lists.specs.Inner.Tables.{CopiedAs}
 use Rattle.lists.proofs.Tables.{copied_none, copied_more}
 use Rattle.grammar.proofs.rules.copy.Goals as goal
 

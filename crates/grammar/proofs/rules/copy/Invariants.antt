@@ -1,10 +1,7 @@
 -- `copy` meets its contract. The loop's invariant: the first r rows are copied. The measure is how many are left.
 -- Assumes nothing.
-use mathlib.Core.Path.{◌≡◌}
 use Prim.Native.Nat.{◌-◌, ◌≤◌}
-use native.Mathlib.Omega.{arith}
 use Rattle.lists.specs.Inner.Tables.{CopiedAs}
-use Rattle.lists.proofs.Tables.{copied_none, copied_more}
 use Rattle.grammar.proofs.rules.copy.Given as goal
 
 abbrev pub invariant-loop-r : goal.invariant-loop-r

@@ -1,8 +1,6 @@
 -- `append` meets its contract: each test that fails moves the refusal on to the next line; past all of them the record is written.
 -- Assumes nothing.
 use mathlib.Core.Path.{◌≡◌}
-use mathlib.Core.List.{List}
-use Prim.Native.Nat.{ℕ}
 use native.Mathlib.Omega.{arith}
 use Rattle.history.specs.Layout.{records_of}
 use Rattle.history.specs.Refusals.{Accepted}
@@ -62,7 +60,7 @@ write-requires c =
     (record { number = omega (arith, count); few = omega (arith, count); size = omega (arith, count) }, omega arith, omega arith, omega arith)
 
 pub returns-in-Refused : goal.returns-in-Refused
-returns-in-Refused c =     log_history c.args.h.now (playback c.args.sentence.now c.args.voice c.args.played) (omega arith) (omega arith) (omega arith) (omega arith) _ (check_refused _ c.check-a.ensures c.in-Refused.is) (number_some c.in-Refused.r)
+returns-in-Refused c = log_history c.args.h.now (playback c.args.sentence.now c.args.voice c.args.played) (omega arith) (omega arith) (omega arith) (omega arith) _ (check_refused _ c.check-a.ensures c.in-Refused.is) (number_some c.in-Refused.r)
 
 pub returns-else-h-new : goal.returns-else-h-new
 returns-else-h-new c =

@@ -1,6 +1,6 @@
 use mathlib.Core.Path.{◌≡◌, refl, sym, ap, ◌∙◌}
 use mathlib.Core.List.{List}
-use Prim.Native.Nat.{ℕ, ◌+◌, ◌-◌, ◌≤◌, ◌<◌}
+use Prim.Native.Nat.{ℕ, ◌+◌, ◌<◌}
 use native.Mathlib.Omega.{arith}
 use native.Mathlib.Numerals.{add-one}
 use lib.ListN.{length, get_or, set, length-set}
@@ -15,10 +15,10 @@ copied : (h : List ℕ) (at : ℕ) (bs : List ℕ) (i : ℕ) {l : List ℕ} {b :
 copied h at bs i m n e f = rw (e, f) (paste-suc h at bs i 0 m n ∙ ap (paste h at bs) (sym (add-one i)))
 
 pub loop-i-init : goal.loop-i-init
-loop-i-init c =     let a = c.args in (omega arith, paste-zero a.h.now a.at (record_bytes a.next a.fourth a.s.now), refl)
+loop-i-init c = let a = c.args in (omega arith, paste-zero a.h.now a.at (record_bytes a.next a.fourth a.s.now), refl)
 
 pub loop-i-preserved : goal.loop-i-preserved
-loop-i-preserved c =     let a = c.args in
+loop-i-preserved c = let a = c.args in
     let m = record_length a.next a.fourth a.s.now (omega arith) in
     let bs = record_bytes a.next a.fourth a.s.now in (
       omega arith,
@@ -27,7 +27,7 @@ loop-i-preserved c =     let a = c.args in
     )
 
 pub returns : goal.returns
-returns c =     let a = c.args in
+returns c = let a = c.args in
     let bs = record_bytes a.next a.fourth a.s.now in
     let end : c.loop-i.i ≡ 20 = omega arith in
     c.loop-i.invariant.1 ∙ ap (paste a.h.now a.at bs) end ∙ paste_put a.h.now a.at bs 20 (record_length _ _ _ (omega arith))

@@ -25,7 +25,7 @@ unfolding record_bytes
 returns-then-i-eq3 c = rw c.if-i-eq3.true
 
 pub returns-then-i-s : goal.returns-then-i-s
-returns-then-i-s c =     sym (record_word c.args.next c.args.fourth c.args.s.now c.args.i (omega arith))
+returns-then-i-s c = sym (record_word c.args.next c.args.fourth c.args.s.now c.args.i (omega arith))
 
 pub returns-else-i-s : goal.returns-else-i-s
-returns-else-i-s c =     sym (record_word c.args.next c.args.fourth c.args.s.now c.args.i (omega arith) ∙ get_or-eq_default c.args.s.now 0 {n = c.args.i - 4} (omega arith))
+returns-else-i-s c = sym (record_word c.args.next c.args.fourth c.args.s.now c.args.i (omega arith) ∙ get_or-eq_default c.args.s.now 0 {n = c.args.i - 4} (omega arith))

@@ -15,5 +15,5 @@ pub returns-then-k-gt1000 : goal.returns-then-k-gt1000
 returns-then-k-gt1000 c = size_many _ (omega arith) (omega arith)
 
 pub returns : goal.returns
-returns c =     ap (λ (k : ℕ). ltb (length c.args.h.now) (4 + 20 * k)) c.two_at-k.ensures.0
+returns c = ap (λ (k : ℕ). ltb (length c.args.h.now) (4 + 20 * k)) c.two_at-k.ensures.0
     ∙ size_room _ (omega arith) (omega arith)

@@ -20,7 +20,7 @@ pub returns-then-n-eq16 : goal.returns-then-n-eq16
 returns-then-n-eq16 c = misfit_full _ _ (omega arith)
 
 pub returns : goal.returns
-returns c =     let a = c.args in
+returns c = let a = c.args in
     c.some_nonzero.ensures
     ∙ ap (λ (n : ℕ). some_nonzero a.h.now (a.at + 4 + n) (16 - n)) c.wide-n.ensures.0
     ∙ misfit_beyond _ _ (omega arith) (omega arith) (omega (arith, c.if-n-wide.false))

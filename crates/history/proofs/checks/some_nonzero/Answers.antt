@@ -1,7 +1,6 @@
 use mathlib.Core.Path.{◌≡◌, sym, ap, ◌∙◌}
 use mathlib.Core.Bool.{not, ◌||◌}
 use mathlib.Core.List.{List}
-use mathlib.Core.Logic.{⊎_elim}
 use Prim.Native.Nat.{ℕ, ◌+◌, ◌-◌, ◌≤◌, ◌<◌}
 use native.Mathlib.Omega.{arith}
 use native.Mathlib.Decide.{ℕ_discrete}
@@ -41,15 +40,15 @@ loop-i-preserved c =
     let a = c.args in
     elim c.if-n-i.branch [
       | then-n-i w ↦ (
-          omega arith,
-          ap (λ (b : ℕ). not (eqb b 0)) w.bits-is
-          ∙ or_some c.loop-i.bits _
-          ∙ rw c.loop-i.invariant.1 (sym (passed a.h.now a.at a.n c.loop-i.i w.if-n-i.true)),
-        )
+        omega arith,
+        ap (λ (b : ℕ). not (eqb b 0)) w.bits-is
+            ∙ or_some c.loop-i.bits _
+            ∙ rw c.loop-i.invariant.1 (sym (passed a.h.now a.at a.n c.loop-i.i w.if-n-i.true)),
+      )
       | else-n-i w ↦ (
-          omega arith,
-          ap (λ (b : ℕ). not (eqb b 0)) w.bits-is ∙ c.loop-i.invariant.1 ∙ sym (before a.h.now a.at a.n c.loop-i.i w.if-n-i.false),
-        )
+        omega arith,
+        ap (λ (b : ℕ). not (eqb b 0)) w.bits-is ∙ c.loop-i.invariant.1 ∙ sym (before a.h.now a.at a.n c.loop-i.i w.if-n-i.false),
+      )
     ]
 
 pub returns : goal.returns

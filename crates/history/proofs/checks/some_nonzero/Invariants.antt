@@ -1,17 +1,9 @@
 -- `some_nonzero` meets its contract. The loop's invariant: the bits so far are not all 0 exactly if a byte passed, from the place n on, is not 0.
 -- Assumes nothing.
-use mathlib.Core.Path.{◌≡◌, sym, ap, ◌∙◌}
-use mathlib.Core.Bool.{not, ◌||◌}
-use mathlib.Core.List.{List}
-use mathlib.Core.Logic.{⊎_elim}
-use Prim.Native.Nat.{ℕ, ◌+◌, ◌-◌, ◌≤◌, ◌<◌}
-use native.Mathlib.Omega.{arith}
-use native.Mathlib.Decide.{ℕ_discrete}
-use borrow.Author.Tests.{ne_eqb}
-use lib.Bits.{bit_or, or_zero_r, or_add_and, and_le_l}
-use lib.ListN.{get_or}
+use mathlib.Core.Path.{◌≡◌}
+use mathlib.Core.Bool.{not}
+use Prim.Native.Nat.{◌+◌, ◌-◌, ◌≤◌}
 use lib.Dec.{eqb}
-use Rattle.lists.proofs.Tests.{below_step, below_none}
 use Rattle.history.specs.Refusals.{some_nonzero}
 use Rattle.history.proofs.checks.some_nonzero.Given as goal
 

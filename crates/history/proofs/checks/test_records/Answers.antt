@@ -1,5 +1,5 @@
 use mathlib.Core.Path.{◌≡◌, refl, sym, ap, ◌∙◌}
-use mathlib.Core.Bool.{Bool, true, false, ◌||◌, or-false, false≢true}
+use mathlib.Core.Bool.{Bool, true, false, or-false, false≢true}
 use mathlib.Core.List.{List}
 use Prim.Native.Nat.{ℕ, ◌+◌, ◌-◌, ◌≤◌, ◌<◌}
 use native.Mathlib.Omega.{arith}
@@ -81,19 +81,19 @@ pub misfit-requires : goal.misfit-requires
 misfit-requires c = let s = c.requires in omega arith
 
 pub returns-then-misfit : goal.returns-then-misfit
-returns-then-misfit c =     bad c.args.h.now c.requires c.loop-r-test.true c.record_at-at.ensures (sym c.misfit.ensures ∙ c.if-misfit.true)
+returns-then-misfit c = bad c.args.h.now c.requires c.loop-r-test.true c.record_at-at.ensures (sym c.misfit.ensures ∙ c.if-misfit.true)
 
 pub two_at-requires-in-loop-r : goal.two_at-requires-in-loop-r
 two_at-requires-in-loop-r c = let s = c.requires in omega arith
 
 pub loop-r-preserved-then-k-two_at : goal.loop-r-preserved-then-k-two_at
-loop-r-preserved-then-k-two_at c =     next_far c.args.h.now c.requires c.loop-r-test.true c.record_at-at.ensures c.loop-r.invariant
+loop-r-preserved-then-k-two_at c = next_far c.args.h.now c.requires c.loop-r-test.true c.record_at-at.ensures c.loop-r.invariant
     (sym c.misfit.ensures ∙ c.if-misfit.false)
     c.two_at-in-loop-r.ensures.0
     c.if-k-two_at.true
 
 pub loop-r-preserved : goal.loop-r-preserved
-loop-r-preserved c =     next_near c.args.h.now c.requires c.loop-r-test.true c.record_at-at.ensures c.loop-r.invariant
+loop-r-preserved c = next_near c.args.h.now c.requires c.loop-r-test.true c.record_at-at.ensures c.loop-r.invariant
     (sym c.misfit.ensures ∙ c.if-misfit.false)
     c.two_at-in-loop-r.ensures.0
     c.if-k-two_at.false

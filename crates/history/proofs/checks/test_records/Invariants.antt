@@ -1,17 +1,13 @@
 -- `test_records` meets its contract. The loop's invariant: no record passed is bad, and `far` is the test of the head and of the records passed.
 -- Assumes nothing.
-use mathlib.Core.Path.{◌≡◌, refl, sym, ap, ◌∙◌}
-use mathlib.Core.Bool.{Bool, true, false, ◌||◌, or-false, false≢true}
+use mathlib.Core.Path.{◌≡◌}
+use mathlib.Core.Bool.{Bool, false, ◌||◌}
 use mathlib.Core.List.{List}
-use Prim.Native.Nat.{ℕ, ◌+◌, ◌-◌, ◌≤◌, ◌<◌}
-use native.Mathlib.Omega.{arith}
-use borrow.Author.Tests.{lt-ltb, le-ltb}
+use Prim.Native.Nat.{ℕ, ◌-◌, ◌≤◌}
 use lib.Dec.{ltb}
-use Rattle.lists.specs.Searched.{some_below, some_to}
-use Rattle.lists.proofs.Tests.{or_true, to_hit, to_miss, to_some}
-use Rattle.history.specs.Layout.{records_of, head_of, record_at, two_at}
-use Rattle.history.specs.Refusals.{misfit, next_above, bad_record, bad_link}
-use Rattle.history.specs.Inner.Checks.{Sized, TestedAs}
+use Rattle.lists.specs.Searched.{some_to}
+use Rattle.history.specs.Layout.{records_of, head_of, record_at}
+use Rattle.history.specs.Refusals.{misfit, next_above}
 use Rattle.history.proofs.checks.test_records.Given as goal
 
 -- the first r records are passed

@@ -14,4 +14,4 @@ pub two_at-requires : goal.two_at-requires
 two_at-requires c = let k = known _ c.requires in omega arith
 
 pub returns : goal.returns
-returns c =     ap (leb c.args.at) c.two_at.ensures.0 ∙ by_high _ c.args.at (omega arith)
+returns c = ap (leb c.args.at) c.two_at.ensures.0 ∙ by_high _ c.args.at (omega arith)

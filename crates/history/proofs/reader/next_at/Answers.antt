@@ -32,4 +32,4 @@ returns-then-is_record c =
     c.two_at.ensures.0 ∙ ap (two_at c.args.h.now) c.record_at.ensures ∙ next_here _ _ here
 
 pub returns : goal.returns
-returns c =     next_end c.args.h.now c.args.at (sym c.is_record.ensures ∙ c.if-is_record.false)
+returns c = next_end c.args.h.now c.args.at (sym c.is_record.ensures ∙ c.if-is_record.false)

@@ -17,4 +17,4 @@ returns-then-is_record c =
     c.words.ensures ∙ words_here _ _ here
 
 pub returns : goal.returns
-returns c =     words_end c.args.h.now c.args.at (sym c.is_record.ensures ∙ c.if-is_record.false)
+returns c = words_end c.args.h.now c.args.at (sym c.is_record.ensures ∙ c.if-is_record.false)

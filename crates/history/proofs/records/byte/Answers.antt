@@ -17,4 +17,4 @@ pub bounds-h-record_at : goal.bounds-h-record_at
 bounds-h-record_at c = let k = known _ c.requires.0 in omega arith
 
 pub returns : goal.returns
-returns c =     (c.wide.ensures.0 ∙ ap (λ (j : ℕ). get_or c.args.h.now (j + c.args.i) 0) c.record_at.ensures, omega arith)
+returns c = (c.wide.ensures.0 ∙ ap (λ (j : ℕ). get_or c.args.h.now (j + c.args.i) 0) c.record_at.ensures, omega arith)

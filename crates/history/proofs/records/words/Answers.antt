@@ -4,7 +4,7 @@ use mathlib.Core.Path.{◌≡◌, ap, ◌∙◌}
 use mathlib.Core.List.{List}
 use Prim.Native.Nat.{ℕ, ◌+◌, ◌-◌}
 use native.Mathlib.Omega.{arith}
-use lib.ListN.{length, take, drop}
+use lib.ListN.{take, drop}
 use Rattle.history.specs.Layout.{record_at, length_of, record_words}
 use Rattle.history.proofs.Acceptance.{known, words_inside}
 use Rattle.history.proofs.records.words.Goals as goal
@@ -19,11 +19,11 @@ pub record_at-at-requires : goal.record_at-at-requires
 record_at-at-requires c = let k = known _ c.requires.0 in omega arith
 
 pub overflow_add-end : goal.overflow_add-end
-overflow_add-end c =     let i = words_inside c.args.h.now c.requires.0 c.args.r c.requires.1.low c.requires.1.high in omega (arith, i.0, i.1)
+overflow_add-end c = let i = words_inside c.args.h.now c.requires.0 c.args.r c.requires.1.low c.requires.1.high in omega (arith, i.0, i.1)
 
 pub slice_bounds-result-end : goal.slice_bounds-result-end
-slice_bounds-result-end c =     let i = words_inside c.args.h.now c.requires.0 c.args.r c.requires.1.low c.requires.1.high in
+slice_bounds-result-end c = let i = words_inside c.args.h.now c.requires.0 c.args.r c.requires.1.low c.requires.1.high in
     omega (arith, i.0, i.1, c.record_at-at.ensures, c.length.ensures)
 
 pub returns : goal.returns
-returns c =     words_are c.args.h.now c.args.r c.record_at-at.ensures c.length.ensures
+returns c = words_are c.args.h.now c.args.r c.record_at-at.ensures c.length.ensures

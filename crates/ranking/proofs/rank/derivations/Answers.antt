@@ -1,6 +1,5 @@
 -- `derivations` meets its contract: what the whole weighs by the sentence's letters is how many derivations it has.
 -- Assumes nothing.
-use borrow.Author.Rules.{rules}
 use Rattle.ranking.proofs.Finding.{fill_asks, whole_asks, found_as}
 use Rattle.ranking.proofs.rank.derivations.Goals as goal
 

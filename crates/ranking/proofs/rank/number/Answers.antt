@@ -2,7 +2,6 @@
 -- Assumes nothing.
 use mathlib.Core.Path.{◌∙◌}
 use native.Mathlib.Omega.{arith}
-use borrow.Author.Rules.{rules}
 use Rattle.lists.proofs.Tables.{wide_made, made_entry}
 use Rattle.ranking.proofs.Answering.{prepared_none, prepared_refused, rank_unprepared, rank_tabled}
 use Rattle.ranking.proofs.Finding.{prepared_sought}

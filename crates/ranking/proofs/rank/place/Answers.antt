@@ -1,7 +1,6 @@
 -- `place` meets its contract: the walk finds the place of the sentence's first derivation by the measure.
 -- Assumes nothing.
 use Prim.Native.Nat.{zero}
-use borrow.Author.Rules.{rules}
 use lib.ListN.{replicate}
 use Rattle.walk.proofs.Joined.{left_length}
 use Rattle.ranking.proofs.Finding.{place_sought, place_found}

@@ -1,6 +1,5 @@
 -- `rank` meets its contract: either table has room for the sentence's chart.
 -- Assumes nothing.
-use borrow.Author.Rules.{rules}
 use Rattle.ranking.proofs.Finding.{roomy_short, roomy_long}
 use Rattle.ranking.proofs.rank.rank.Goals as goal
 

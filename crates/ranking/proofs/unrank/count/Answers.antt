@@ -1,6 +1,5 @@
 -- `count` meets its contract: the count of S and n.
 -- Assumes nothing.
-use borrow.Author.Rules.{rules}
 use Rattle.ranking.proofs.Finding.{count_asks, count_given}
 use Rattle.ranking.proofs.unrank.count.Goals as goal
 

@@ -1,6 +1,5 @@
 -- `total` meets its contract: what the whole weighs by the choice.
 -- Assumes nothing.
-use borrow.Author.Rules.{rules}
 use Rattle.ranking.proofs.Finding.{total_asks, total_given}
 use Rattle.ranking.proofs.unrank.total.Goals as goal
 

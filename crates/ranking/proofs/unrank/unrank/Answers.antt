@@ -2,7 +2,6 @@
 -- Assumes nothing.
 use mathlib.Core.Path.{◌∙◌}
 use native.Mathlib.Omega.{arith}
-use borrow.Author.Rules.{rules}
 use Rattle.lists.proofs.Tables.{wide_made, made_entry}
 use Rattle.ranking.proofs.Answering.{prepared_none, prepared_refused, give_unprepared, give_tabled}
 use Rattle.ranking.proofs.unrank.unrank.Goals as goal

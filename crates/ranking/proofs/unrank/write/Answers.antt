@@ -1,6 +1,5 @@
 -- `write` meets its contract: the walk by the choice writes the owner of a ticket and measures its number by the counts; what follows is kept.
 -- Assumes nothing.
-use borrow.Author.Rules.{rules}
 use Rattle.walk.proofs.Joined.{left_length}
 use Rattle.ranking.proofs.Finding.{write_sought, written}
 use Rattle.ranking.proofs.unrank.write.Goals as goal

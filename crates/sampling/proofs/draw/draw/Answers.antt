@@ -1,6 +1,5 @@
 -- `draw` meets its contract: each array has room for the numbers.
 -- Assumes nothing.
-use borrow.Author.Rules.{rules}
 use Rattle.sampling.proofs.Answering.{room_all, room_short, room_none}
 use Rattle.sampling.proofs.draw.draw.Goals as goal
 

@@ -6,7 +6,6 @@ use native.Mathlib.Omega.{arith}
 use Rattle.lists.specs.Joined.{sum_over}
 use Rattle.ranking.specs.Inner.Inside.{weigh_in}
 use Rattle.sampling.specs.Inner.Skipping.{heard_spans}
-use borrow.Author.Rules.{rules}
 use Rattle.sampling.proofs.Answering.{struck_sum, skips, skip_sought, skipping_beyond, skipping_short, skipping_written}
 use Rattle.sampling.proofs.draw.draw_from.Goals as goal
 

@@ -2,7 +2,6 @@
 -- Assumes nothing.
 use mathlib.Core.Path.{◌∙◌}
 use native.Mathlib.Omega.{arith}
-use borrow.Author.Rules.{rules}
 use Rattle.charts.specs.Inner.Maps.{counts_map}
 use Rattle.sampling.specs.Question.{plainly}
 use Rattle.sampling.specs.Inner.Preparing.{Drawable}

@@ -1,6 +1,5 @@
 -- `draw_matching_by` meets its contract: each array has room for the places.
 -- Assumes nothing.
-use borrow.Author.Rules.{rules}
 use Rattle.sampling.proofs.Answering.{room_all, room_short, room_none}
 use Rattle.sampling.proofs.draw.draw_matching_by.Goals as goal
 

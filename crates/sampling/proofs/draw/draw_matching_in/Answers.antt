@@ -2,7 +2,6 @@
 -- Assumes nothing.
 use mathlib.Core.Path.{refl, ◌∙◌}
 use native.Mathlib.Omega.{arith}
-use borrow.Author.Rules.{rules}
 use Rattle.lists.proofs.Tables.{wide_made}
 use Rattle.answers.proofs.Numbers.{number_some}
 use Rattle.charts.proofs.Mapping.{counts_map_lem}

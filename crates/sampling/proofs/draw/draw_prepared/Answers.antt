@@ -1,6 +1,5 @@
 -- `draw_prepared` meets its contract: the counts choose and measure.
 -- Assumes nothing.
-use borrow.Author.Rules.{rules}
 use Rattle.charts.proofs.Mapping.{counts_map_lem}
 use Rattle.sampling.proofs.draw.draw_prepared.Goals as goal
 

@@ -1,16 +1,14 @@
 use mathlib.Core.Path.{◌≡◌, refl, ◌∙◌}
-use Prim.Native.Nat.{zero, ◌≤◌, ◌<◌}
+use Prim.Native.Nat.{zero, ◌<◌}
 use native.Mathlib.Omega.{arith}
-use borrow.Author.Rules.{rules}
 use lib.ListN.{length, replicate, length-set}
 use Rattle.ranking.specs.Inner.Inside.{weighs}
 use Rattle.history.proofs.Acceptance.{known}
-use Rattle.history.specs.Layout.{records_of}
 use Rattle.history.specs.Chain.{numbers_from}
 use Rattle.history.specs.Refusals.{Accepted}
-use Rattle.sampling.specs.Inner.Collect.{beginning, ending, Serves, Adds}
+use Rattle.sampling.specs.Inner.Collect.{Adds}
 use Rattle.sampling.specs.declared.heard.Added.TheVariants.{Place}
-use Rattle.sampling.proofs.Collect.{Collecting, collect_start, collect_end, collect_inside, collect_less, collect_room, collect_unheard, collect_many, collect_none, collect_one, serves_start, added_case, serves_still}
+use Rattle.sampling.proofs.Collect.{collect_start, collect_end, collect_inside, collect_less, collect_room, collect_unheard, collect_many, collect_none, collect_one, serves_start, added_case, serves_still}
 use Rattle.sampling.proofs.heard.collect.Goals as goal
 
 pub first-at-requires : goal.first-at-requires
@@ -60,8 +58,7 @@ loop-at-preserved-in-Nothing c =
     let more : c.loop-at.at ≡ 0 → ⊥ = λ z. omega arith in
     let rows : length c.find_heard-f.new.totals ≡ length c.args.totals.now = c.find_heard-f.auto.totals ∙ c.loop-at.invariant.3 in
     let sets : length c.find_heard-f.new.sets ≡ 290 = c.find_heard-f.auto.sets ∙ c.loop-at.invariant.2 in
-    let diary : Accepted c.args.h.now = c.requires.diary in
-    (
+    let diary : Accepted c.args.h.now = c.requires.diary in (
       collect_none c.loop-at.invariant.0 diary more c.makes_heard.ensures c.if-makes_heard.true c.sentence-s.ensures
           (added_case c.requires.planned c.find_heard-f.ensures c.in-Nothing.is) c.after-at.ensures,
       c.find_heard-f.ensures.serves,
@@ -87,7 +84,7 @@ offset_bounds-numbers-count c =
     let more : c.loop-at.at ≡ 0 → ⊥ = λ z. omega arith in
     let diary : Accepted c.args.h.now = c.requires.diary in
     let room : (c.loop-at.count < 1000) × (c.loop-at.count < length c.loop-at.numbers) = let few = collect_room c.loop-at.invariant.0 diary more in
-        (omega (arith, few, (known _ diary).sized.few), omega (arith, few, c.loop-at.invariant.0.long)) in
+    (omega (arith, few, (known _ diary).sized.few), omega (arith, few, c.loop-at.invariant.0.long)) in
     omega (arith, room.0)
 
 pub bounds-numbers-count : goal.bounds-numbers-count
@@ -95,7 +92,7 @@ bounds-numbers-count c =
     let more : c.loop-at.at ≡ 0 → ⊥ = λ z. omega arith in
     let diary : Accepted c.args.h.now = c.requires.diary in
     let room : (c.loop-at.count < 1000) × (c.loop-at.count < length c.loop-at.numbers) = let few = collect_room c.loop-at.invariant.0 diary more in
-        (omega (arith, few, (known _ diary).sized.few), omega (arith, few, c.loop-at.invariant.0.long)) in
+    (omega (arith, few, (known _ diary).sized.few), omega (arith, few, c.loop-at.invariant.0.long)) in
     omega (arith, room.1)
 
 pub note-requires : goal.note-requires
@@ -109,7 +106,7 @@ overflow_add-count c =
     let more : c.loop-at.at ≡ 0 → ⊥ = λ z. omega arith in
     let diary : Accepted c.args.h.now = c.requires.diary in
     let room : (c.loop-at.count < 1000) × (c.loop-at.count < length c.loop-at.numbers) = let few = collect_room c.loop-at.invariant.0 diary more in
-        (omega (arith, few, (known _ diary).sized.few), omega (arith, few, c.loop-at.invariant.0.long)) in
+    (omega (arith, few, (known _ diary).sized.few), omega (arith, few, c.loop-at.invariant.0.long)) in
     omega (arith, room.0)
 
 pub loop-at-smaller-in-Place : goal.loop-at-smaller-in-Place
@@ -127,8 +124,7 @@ loop-at-preserved-in-Place c =
     = added_case c.requires.planned c.find_heard-f.ensures c.in-Place.is in
     let rows : length c.find_heard-f.new.totals ≡ length c.args.totals.now = c.find_heard-f.auto.totals ∙ c.loop-at.invariant.3 in
     let sets : length c.find_heard-f.new.sets ≡ 290 = c.find_heard-f.auto.sets ∙ c.loop-at.invariant.2 in
-    let diary : Accepted c.args.h.now = c.requires.diary in
-    (
+    let diary : Accepted c.args.h.now = c.requires.diary in (
       collect_one c.loop-at.invariant.0 diary more c.makes_heard.ensures c.if-makes_heard.true c.sentence-s.ensures adds c.after-at.ensures,
       c.find_heard-f.ensures.serves,
       sets,

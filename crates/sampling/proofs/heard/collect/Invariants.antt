@@ -1,23 +1,18 @@
 -- `collect` meets its contract. The loop's invariant: the places so far, with what the sentences still to come add, are all of them, the same of where
 -- they end if there is room for that, and the tables serve the next sentence. The measure is the records still to come.
 -- Assumes nothing.
-use mathlib.Core.Path.{◌≡◌, refl, ◌∙◌}
-use Prim.Native.Nat.{zero, ◌≤◌, ◌<◌}
-use native.Mathlib.Omega.{arith}
-use borrow.Author.Rules.{rules}
-use lib.ListN.{length, replicate, length-set}
+use mathlib.Core.Path.{◌≡◌}
+use Prim.Native.Nat.{◌≤◌}
+use lib.ListN.{length}
 use Rattle.ranking.specs.Inner.Inside.{weighs}
-use Rattle.history.proofs.Acceptance.{known}
 use Rattle.history.specs.Layout.{records_of}
 use Rattle.history.specs.Chain.{numbers_from}
-use Rattle.history.specs.Refusals.{Accepted}
-use Rattle.sampling.specs.Inner.Collect.{beginning, ending, Serves, Adds}
-use Rattle.sampling.specs.declared.heard.Added.TheVariants.{Place}
-use Rattle.sampling.proofs.Collect.{Collecting, collect_start, collect_end, collect_inside, collect_less, collect_room, collect_unheard, collect_many, collect_none, collect_one, serves_start, added_case, serves_still}
+use Rattle.sampling.specs.Inner.Collect.{beginning, ending, Serves}
+use Rattle.sampling.proofs.Collect.{Collecting}
 use Rattle.sampling.proofs.heard.collect.Given as goal
 
 abbrev pub invariant-loop-at : goal.invariant-loop-at
-invariant-loop-at l =     Collecting l.rules (weighs l.rules l.measure) beginning l.h l.question.length l.question.voice l.numbers l.at l.count
+invariant-loop-at l = Collecting l.rules (weighs l.rules l.measure) beginning l.h l.question.length l.question.voice l.numbers l.at l.count
     × Serves l.rules l.plan l.map l.measure l.sets l.totals
     × (length l.sets ≡ 290)
     × (length l.totals ≡ length l.initial.totals)

@@ -2,7 +2,6 @@
 -- whether it stands.
 -- Assumes nothing.
 use mathlib.Core.Path.{◌≡◌, sym, ◌∙◌}
-use borrow.Author.Rules.{rules}
 use lib.ListN.{length}
 use Rattle.charts.specs.Inner.Plan.{length_in}
 use Rattle.ranking.specs.Inner.Ranking.{FoundAs}

@@ -1,10 +1,6 @@
-use mathlib.Core.Path.{◌≡◌, refl, sym, ◌∙◌}
-use Prim.Native.Nat.{◌-◌, ◌≤◌}
+use mathlib.Core.Path.{refl, sym, ◌∙◌}
 use native.Mathlib.Omega.{arith}
 use native.Mathlib.Numerals.{add-one}
-use borrow.Author.Rules.{rules}
-use lib.ListN.{length, drop}
-use Rattle.lists.specs.Searched.{some_of}
 use Rattle.sampling.specs.Pattern.{neither, bad_pattern}
 use Rattle.sampling.proofs.Blanks.{bad_here, bad_later, bad_none}
 use Rattle.sampling.proofs.pattern.bad.Goals as goal

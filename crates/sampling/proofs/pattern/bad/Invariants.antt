@@ -1,14 +1,10 @@
 -- `bad` meets its contract. The loop's invariant: some byte is neither if one from p on is. The measure is the bytes left.
 -- Assumes nothing.
-use mathlib.Core.Path.{◌≡◌, refl, sym, ◌∙◌}
+use mathlib.Core.Path.{◌≡◌}
 use Prim.Native.Nat.{◌-◌, ◌≤◌}
-use native.Mathlib.Omega.{arith}
-use native.Mathlib.Numerals.{add-one}
-use borrow.Author.Rules.{rules}
 use lib.ListN.{length, drop}
 use Rattle.lists.specs.Searched.{some_of}
 use Rattle.sampling.specs.Pattern.{neither, bad_pattern}
-use Rattle.sampling.proofs.Blanks.{bad_here, bad_later, bad_none}
 use Rattle.sampling.proofs.pattern.bad.Given as goal
 
 abbrev pub invariant-loop-p : goal.invariant-loop-p

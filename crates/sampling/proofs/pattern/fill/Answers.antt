@@ -2,7 +2,6 @@
 -- Assumes nothing.
 use mathlib.Core.Path.{refl}
 use Prim.Native.Nat.{zero}
-use borrow.Author.Rules.{rules}
 use lib.ListN.{replicate}
 use Rattle.charts.specs.Inner.Plan.{chart_row}
 use Rattle.sampling.proofs.Readying.{chart_asks, chart_filled}

@@ -2,11 +2,9 @@
 -- Assumes nothing.
 use mathlib.Core.Path.{sym, ◌∙◌}
 use native.Mathlib.Omega.{arith}
-use borrow.Author.Tests.{not-true, not-false}
 use Rattle.lists.specs.Inner.Tables.{Kept}
 use Rattle.lists.proofs.Tables.{kept_same}
 use Rattle.counting.specs.Inner.Preparing.{Tabled}
-use borrow.Author.Rules.{rules}
 use Rattle.counting.proofs.Preparing.{prepare_asks, filled_large, filled_tabled}
 use Rattle.sampling.specs.Question.{asked}
 use Rattle.sampling.proofs.Asking.{ask_unopened, ask_voice, ask_large, ask_pattern, ask_ready}

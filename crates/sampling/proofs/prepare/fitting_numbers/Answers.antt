@@ -3,7 +3,6 @@
 -- Assumes nothing.
 use mathlib.Core.Path.{refl, sym, ◌∙◌}
 use native.Mathlib.Omega.{arith}
-use borrow.Author.Rules.{rules}
 use Rattle.lists.proofs.Tables.{wide_made}
 use Rattle.sampling.proofs.Readying.{asks_chart, chooses_fitting, still_charted, length_low, behind_room, asks_fitting, fitted}
 use Rattle.sampling.proofs.Answering.{none_heard}

@@ -1,6 +1,5 @@
 -- `heard_numbers` meets its contract: either table has room for the charts.
 -- Assumes nothing.
-use borrow.Author.Rules.{rules}
 use Rattle.ranking.proofs.Finding.{roomy_short, roomy_long}
 use Rattle.sampling.proofs.prepare.heard_numbers.Goals as goal
 

@@ -2,7 +2,6 @@
 -- Assumes nothing.
 use mathlib.Core.Path.{refl}
 use native.Mathlib.Omega.{arith}
-use borrow.Author.Rules.{rules}
 use Rattle.lists.proofs.Tables.{wide_made}
 use Rattle.sampling.proofs.Readying.{counts_asked, asks_ready, asks_collect, plainly_heard}
 use Rattle.sampling.proofs.prepare.heard_numbers_in.Goals as goal

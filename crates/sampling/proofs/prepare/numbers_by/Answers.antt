@@ -3,7 +3,6 @@
 use mathlib.Core.Path.{refl}
 use Prim.Native.Nat.{◌≤◌}
 use native.Mathlib.Omega.{arith}
-use borrow.Author.Rules.{rules}
 use lib.ListN.{length}
 use Rattle.history.specs.Layout.{records_of}
 use Rattle.history.proofs.Acceptance.{known}
@@ -14,13 +13,13 @@ use Rattle.sampling.proofs.prepare.numbers_by.Goals as goal
 pub order_first-m-requires : goal.order_first-m-requires
 order_first-m-requires c =
     let few : c.in-Numbers.k ≤ 1000 = let found = collect_case c.collect-c.ensures c.in-Numbers.is in
-        omega (arith, found.holds.1, (known _ c.requires.diary).sized.few) in
+    omega (arith, found.holds.1, (known _ c.requires.diary).sized.few) in
     few
 
 pub order_first-requires : goal.order_first-requires
 order_first-requires c =
     let few : c.in-Numbers.k ≤ 1000 = let found = collect_case c.collect-c.ensures c.in-Numbers.is in
-        omega (arith, found.holds.1, (known _ c.requires.diary).sized.few) in
+    omega (arith, found.holds.1, (known _ c.requires.diary).sized.few) in
     few
 
 pub returns-in-Ambiguous : goal.returns-in-Ambiguous

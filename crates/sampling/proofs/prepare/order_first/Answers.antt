@@ -1,7 +1,6 @@
 -- `order_first` meets its contract: the part with the first k numbers is sorted.
 -- Assumes nothing.
 use native.Mathlib.Omega.{arith}
-use borrow.Author.Rules.{rules}
 use Rattle.sampling.proofs.Answering.{sorted_first}
 use Rattle.sampling.proofs.prepare.order_first.Goals as goal
 

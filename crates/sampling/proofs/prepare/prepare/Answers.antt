@@ -2,7 +2,6 @@
 -- Assumes nothing.
 use mathlib.Core.Path.{refl}
 use native.Mathlib.Omega.{arith}
-use borrow.Author.Rules.{rules}
 use Rattle.sampling.proofs.Asking.{asked_none, asked_refused}
 use Rattle.sampling.proofs.Answering.{unprepared, recorded_prepared}
 use Rattle.sampling.proofs.prepare.prepare.Goals as goal

@@ -1,7 +1,6 @@
 -- `records_matching` meets its contract: the history's refusals, then 15; the pattern's chart chooses.
 -- Assumes nothing.
 use mathlib.Core.Path.{◌≡◌}
-use borrow.Author.Rules.{rules}
 use Rattle.history.specs.Layout.{records_of}
 use Rattle.history.specs.Refusals.{Accepted}
 use Rattle.history.proofs.Outcome.{check_accepted, check_refused}

@@ -1,11 +1,9 @@
 -- `remaining_in` meets its contract: where preparing is refused so is the call; else the figures are T, how many are heard, and the difference.
 -- Assumes nothing.
 use mathlib.Core.Path.{◌≡◌, sym, ◌∙◌}
-use Prim.Native.Nat.{ℕ}
-use borrow.Author.Rules.{rules}
 use Rattle.charts.specs.Inner.Maps.{counts_map}
 use Rattle.charts.proofs.Mapping.{counts_map_lem}
-use Rattle.ranking.specs.Inner.Inside.{total_in, weigh_in}
+use Rattle.ranking.specs.Inner.Inside.{weigh_in}
 use Rattle.ranking.proofs.Finding.{counts_total}
 use Rattle.sampling.specs.Question.{plainly}
 use Rattle.sampling.specs.Inner.Preparing.{Drawable}

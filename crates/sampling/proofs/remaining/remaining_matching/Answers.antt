@@ -2,7 +2,6 @@
 -- Assumes nothing.
 use mathlib.Core.Path.{refl}
 use native.Mathlib.Omega.{arith}
-use borrow.Author.Rules.{rules}
 use Rattle.sampling.proofs.Readying.{behind_five, behind_room}
 use Rattle.sampling.proofs.Answering.{tables_matching}
 use Rattle.sampling.proofs.remaining.remaining_matching.Goals as goal

@@ -1,7 +1,6 @@
 -- `remaining_matching_in` meets its contract: where preparing is refused so is the call; else the figures are T, how many are heard, and the difference.
 -- Assumes nothing.
 use mathlib.Core.Path.{refl, ◌∙◌}
-use borrow.Author.Rules.{rules}
 use Rattle.lists.proofs.Tables.{wide_made}
 use Rattle.answers.proofs.Numbers.{number_some}
 use Rattle.sampling.specs.Question.{asked}

@@ -4,7 +4,7 @@ use native.Mathlib.Omega.{arith}
 use lib.ListN.{length}
 use Rattle.lists.specs.Inner.Tickets.{gone}
 use Rattle.sampling.specs.Inner.Skipping.{heard_spans}
-use Rattle.sampling.proofs.Skipping.{Searching, search_start, search_right, search_left, search_end, gone_within}
+use Rattle.sampling.proofs.Skipping.{search_start, search_right, search_left, search_end, gone_within}
 use Rattle.sampling.proofs.skip.skip.Goals as goal
 
 pub loop-low-init : goal.loop-low-init
@@ -41,7 +41,7 @@ overflow_add-first c =
     let weigh : let l = c.loop-low in
     let a = c.args in
     c.passed.result ≡ gone (l.low + (l.high - l.low) / 2) (heard_spans a.heard.now a.sums.now) = let x = c.loop-low in
-        c.passed.ensures ∙ c.requires.told.passed_are (x.low + (x.high - x.low) / 2) (omega (arith, inside)) in
+    c.passed.ensures ∙ c.requires.told.passed_are (x.low + (x.high - x.low) / 2) (omega (arith, inside)) in
     let x = c.loop-low in
     omega (arith, weigh, gone_within c.args.heard.now c.args.sums.now (x.low + (x.high - x.low) / 2) (omega (arith, inside)), c.requires.fits)
 
@@ -63,7 +63,7 @@ loop-low-preserved-then-heard-mid c =
     let weigh : let l = c.loop-low in
     let a = c.args in
     c.passed.result ≡ gone (l.low + (l.high - l.low) / 2) (heard_spans a.heard.now a.sums.now) = let x = c.loop-low in
-        c.passed.ensures ∙ c.requires.told.passed_are (x.low + (x.high - x.low) / 2) (omega (arith, inside)) in
+    c.passed.ensures ∙ c.requires.told.passed_are (x.low + (x.high - x.low) / 2) (omega (arith, inside)) in
     let m = middle in
     search_right c.requires.apart c.loop-low.invariant m.0 m.1 (omega (arith, weigh, c.if-heard-mid.true))
 
@@ -79,7 +79,7 @@ loop-low-preserved c =
     let weigh : let l = c.loop-low in
     let a = c.args in
     c.passed.result ≡ gone (l.low + (l.high - l.low) / 2) (heard_spans a.heard.now a.sums.now) = let x = c.loop-low in
-        c.passed.ensures ∙ c.requires.told.passed_are (x.low + (x.high - x.low) / 2) (omega (arith, inside)) in
+    c.passed.ensures ∙ c.requires.told.passed_are (x.low + (x.high - x.low) / 2) (omega (arith, inside)) in
     let m = middle in
     search_left c.requires.apart c.loop-low.invariant m.0 m.1 (omega (arith, weigh, c.if-heard-mid.false))
 
@@ -90,7 +90,7 @@ pub overflow_add-result : goal.overflow_add-result
 overflow_add-result c =
     let weigh_end : let a = c.args in
     c.passed-2.result ≡ gone c.loop-low.low (heard_spans a.heard.now a.sums.now) = let s = c.loop-low.invariant in
-        c.passed-2.ensures ∙ c.requires.told.passed_are c.loop-low.low (omega (arith, s.ordered, s.inside)) in
+    c.passed-2.ensures ∙ c.requires.told.passed_are c.loop-low.low (omega (arith, s.ordered, s.inside)) in
     let s = c.loop-low.invariant in
     omega (arith, weigh_end, gone_within c.args.heard.now c.args.sums.now c.loop-low.low (omega (arith, s.ordered, s.inside)), c.requires.fits)
 
@@ -98,5 +98,5 @@ pub returns : goal.returns
 returns c =
     let weigh_end : let a = c.args in
     c.passed-2.result ≡ gone c.loop-low.low (heard_spans a.heard.now a.sums.now) = let s = c.loop-low.invariant in
-        c.passed-2.ensures ∙ c.requires.told.passed_are c.loop-low.low (omega (arith, s.ordered, s.inside)) in
+    c.passed-2.ensures ∙ c.requires.told.passed_are c.loop-low.low (omega (arith, s.ordered, s.inside)) in
     omega (arith, weigh_end, search_end c.loop-low.invariant c.loop-low-test.false)

@@ -1,6 +1,5 @@
 -- `leaf` meets its contract: the word picked is written. Assumes nothing.
 use Rattle.walk.proofs.Leaves.{leaf_written}
-use borrow.Author.Rules.{rules}
 use Rattle.walk.proofs.leaf.leaf.Goals as goal
 
 pub returns : goal.returns

@@ -2,7 +2,6 @@
 -- it weigh stands in the table. Assumes nothing.
 use native.Mathlib.Omega.{arith}
 use Rattle.walk.proofs.Leaves.{any_room, any_picked, has_word, word_picked, word_weighed, place_low}
-use borrow.Author.Rules.{rules}
 use Rattle.walk.proofs.leaf.pick.Goals as goal
 
 pub overflow_add-from : goal.overflow_add-from

@@ -1,5 +1,5 @@
 use native.Mathlib.Omega.{arith}
-use Rattle.walk.proofs.Linking.{Linking, linking_start, linking_low, linking_some, linking_end, linking_next}
+use Rattle.walk.proofs.Linking.{linking_start, linking_low, linking_some, linking_end, linking_next}
 use Rattle.walk.proofs.leaf.place_of.Goals as goal
 
 pub link_at-l-requires : goal.link_at-l-requires

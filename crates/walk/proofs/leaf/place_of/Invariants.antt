@@ -1,7 +1,6 @@
 -- `place_of` meets its contract. The loop goes along the links of the word; its invariant: the place of the word in a is still to come. Each
 -- link leads lower. Assumes nothing.
-use native.Mathlib.Omega.{arith}
-use Rattle.walk.proofs.Linking.{Linking, linking_start, linking_low, linking_some, linking_end, linking_next}
+use Rattle.walk.proofs.Linking.{Linking}
 use Rattle.walk.proofs.leaf.place_of.Given as goal
 
 abbrev pub invariant-loop-l : goal.invariant-loop-l

@@ -1,6 +1,5 @@
-use Prim.Native.Nat.{◌-◌}
 use native.Mathlib.Omega.{arith}
-use Rattle.walk.proofs.Leaves.{Scanning, scanning_start, scanning_low, scanning_room, scanning_found, scanning_next}
+use Rattle.walk.proofs.Leaves.{scanning_start, scanning_low, scanning_room, scanning_found, scanning_next}
 use Rattle.walk.proofs.leaf.scan.Goals as goal
 
 pub words_from-i-requires : goal.words_from-i-requires

@@ -1,8 +1,7 @@
 -- `scan` meets its contract. The loop's invariant: the words before the place i are gone through. While the ticket is one of theirs a word is left.
 -- Assumes nothing.
 use Prim.Native.Nat.{◌-◌}
-use native.Mathlib.Omega.{arith}
-use Rattle.walk.proofs.Leaves.{Scanning, scanning_start, scanning_low, scanning_room, scanning_found, scanning_next}
+use Rattle.walk.proofs.Leaves.{Scanning}
 use Rattle.walk.proofs.leaf.scan.Given as goal
 
 abbrev pub invariant-loop-rest : goal.invariant-loop-rest

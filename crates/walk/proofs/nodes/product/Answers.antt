@@ -1,6 +1,5 @@
 -- `product` meets its contract. Assumes nothing.
 use native.Mathlib.Omega.{arith}
-use borrow.Author.Rules.{rules}
 use Rattle.walk.proofs.nodes.product.Goals as goal
 
 pub overflow_mul-result : goal.overflow_mul-result

@@ -1,8 +1,8 @@
 use mathlib.Core.Path.{refl}
-use Prim.Native.Nat.{◌+◌, ◌*◌, ◌-◌, ◌<◌}
+use Prim.Native.Nat.{◌<◌}
 use native.Mathlib.Omega.{arith}
 use borrow.Author.Rules.{rules}
-use Rattle.walk.proofs.Walking.{a_few, short, Going, going_start, rule_low, left_few, right_few, going_rule, low, cut_by, cut_to, going_found, going_room, going_next}
+use Rattle.walk.proofs.Walking.{a_few, short, going_start, rule_low, left_few, right_few, going_rule, low, cut_by, cut_to, going_found, going_room, going_next}
 use Rattle.walk.proofs.pairs.choose_rule.Goals as goal
 
 pub pairs_from-i-requires : goal.pairs_from-i-requires

@@ -1,14 +1,11 @@
 -- `choose_rule` meets its contract. The loop goes through the pair rules of the node in order and through the left lengths of each; its
 -- invariant says what is to come. Where no left length is, a rule is left while the ticket is one of theirs. Assumes nothing.
-use mathlib.Core.Path.{refl}
-use Prim.Native.Nat.{◌+◌, ◌*◌, ◌-◌, ◌<◌}
-use native.Mathlib.Omega.{arith}
-use borrow.Author.Rules.{rules}
-use Rattle.walk.proofs.Walking.{a_few, short, Going, going_start, rule_low, left_few, right_few, going_rule, low, cut_by, cut_to, going_found, going_room, going_next}
+use Prim.Native.Nat.{◌+◌, ◌*◌, ◌-◌}
+use Rattle.walk.proofs.Walking.{Going}
 use Rattle.walk.proofs.pairs.choose_rule.Given as goal
 
 abbrev pub invariant-loop-k : goal.invariant-loop-k
-invariant-loop-k l =     Going l.rules l.choice l.measure l.node.a l.node.p l.node.m l.ticket l.i l.b l.c l.k l.end l.before l.rest
+invariant-loop-k l = Going l.rules l.choice l.measure l.node.a l.node.p l.node.m l.ticket l.i l.b l.c l.k l.end l.before l.rest
 
 -- how many rules are left, and of the one at hand how many left lengths
 abbrev pub decreases-loop-k : goal.decreases-loop-k

@@ -1,5 +1,4 @@
 -- `draw_by` meets its contract: either room serves the history. Assumes nothing.
-use borrow.Author.Rules.{rules}
 use Rattle.weighing.proofs.Preparing.{rooms_few, rooms_all}
 use Rattle.weighing.proofs.draw.draw_by.Goals as goal
 

@@ -1,7 +1,6 @@
 -- `draw_in` meets its contract: where preparing is refused so is the call, and else the draw from what is prepared is the call's.
 -- Assumes nothing.
 use mathlib.Core.Path.{◌∙◌}
-use borrow.Author.Rules.{rules}
 use Rattle.charts.proofs.Mapping.{counts_map_lem}
 use Rattle.weighing.proofs.Preparing.{call_made, drawn_unready, parts_long, draw_served, drawn_ready}
 use Rattle.weighing.proofs.draw.draw_in.Goals as goal

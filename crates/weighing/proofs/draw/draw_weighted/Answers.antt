@@ -1,5 +1,4 @@
 -- `draw_weighted` meets its contract: each table has room for the history and for the chart of a heard sentence. Assumes nothing.
-use borrow.Author.Rules.{rules}
 use Rattle.weighing.proofs.Preparing.{rooms_none, cleared_short, cleared_long}
 use Rattle.weighing.proofs.draw.draw_weighted.Goals as goal
 

@@ -3,7 +3,6 @@
 -- Assumes nothing.
 use mathlib.Core.Path.{refl}
 use native.Mathlib.Omega.{arith}
-use borrow.Author.Rules.{rules}
 use Rattle.lists.proofs.Tables.{wide_made}
 use Rattle.weighing.proofs.Firsts.{firsts_sum, firsts_ready, plan_low, firsts_collect, firsts_heard}
 use Rattle.weighing.proofs.prepare.first_tickets.Goals as goal

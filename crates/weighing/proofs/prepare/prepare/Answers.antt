@@ -3,7 +3,6 @@
 -- Assumes nothing.
 use Prim.Native.Nat.{◌≤◌}
 use native.Mathlib.Omega.{arith}
-use borrow.Author.Rules.{rules}
 use lib.ListN.{length}
 use Rattle.grammar.specs.Inner.Rules.{Holds}
 use Rattle.charts.specs.Inner.Maps.{weights_map}
@@ -25,13 +24,13 @@ pub records-s-requires : goal.records-s-requires
 records-s-requires c =
     let sought : let a = c.args in
     RecordsSought a.g.now a.question.length a.weights.now c.weigh-p.new.rules c.weigh-p.new.totals a.h.now a.numbers.now a.sums.now = let r = c.requires.room in
-        let q = c.weigh-p.ensures.ready c.in-Ready.is in
-        record {
-          weighed = q;
-          room = r.numbers_room;
-          ends_room = r.sums_room;
-          charts = λ d some. omega (arith, r.charts d some q.tabled.counted.short, c.weigh-p.ensures.size);
-        } in
+    let q = c.weigh-p.ensures.ready c.in-Ready.is in
+    record {
+      weighed = q;
+      room = r.numbers_room;
+      ends_room = r.sums_room;
+      charts = λ d some. omega (arith, r.charts d some q.tabled.counted.short, c.weigh-p.ensures.size);
+    } in
     (_, _, sought)
 
 pub slice_bounds-fill-end : goal.slice_bounds-fill-end
@@ -39,13 +38,13 @@ slice_bounds-fill-end c =
     let room : Accepted c.args.h.now → records_of c.args.h.now ≤ length c.records-s.new.numbers = λ d. omega (arith, c.records-s.auto.numbers, c.requires.room.numbers_room d) in
     let sought : let a = c.args in
     RecordsSought a.g.now a.question.length a.weights.now c.weigh-p.new.rules c.weigh-p.new.totals a.h.now a.numbers.now a.sums.now = let r = c.requires.room in
-        let q = c.weigh-p.ensures.ready c.in-Ready.is in
-        record {
-          weighed = q;
-          room = r.numbers_room;
-          ends_room = r.sums_room;
-          charts = λ d some. omega (arith, r.charts d some q.tabled.counted.short, c.weigh-p.ensures.size);
-        } in
+    let q = c.weigh-p.ensures.ready c.in-Ready.is in
+    record {
+      weighed = q;
+      room = r.numbers_room;
+      ends_room = r.sums_room;
+      charts = λ d some. omega (arith, r.charts d some q.tabled.counted.short, c.weigh-p.ensures.size);
+    } in
     let sampled : SampledBy c.args.g.now c.args.h.now (plainly c.args.question.length c.args.question.voice) (weighs c.args.weights.now)
     (weighed_rows c.args.g.now c.args.question.length c.args.question.voice c.args.weights.now)
     c.records-s.new.rules c.records-s.new.totals weights_map c.records-s.new.numbers c.records-s.result = prepared_sampled c.weigh-p.ensures c.in-Ready.is room (c.records-s.ensures _ _ sought).recorded in
@@ -60,13 +59,13 @@ fill-requires c =
     let room : Accepted c.args.h.now → records_of c.args.h.now ≤ length c.records-s.new.numbers = λ d. omega (arith, c.records-s.auto.numbers, c.requires.room.numbers_room d) in
     let sought : let a = c.args in
     RecordsSought a.g.now a.question.length a.weights.now c.weigh-p.new.rules c.weigh-p.new.totals a.h.now a.numbers.now a.sums.now = let r = c.requires.room in
-        let q = c.weigh-p.ensures.ready c.in-Ready.is in
-        record {
-          weighed = q;
-          room = r.numbers_room;
-          ends_room = r.sums_room;
-          charts = λ d some. omega (arith, r.charts d some q.tabled.counted.short, c.weigh-p.ensures.size);
-        } in
+    let q = c.weigh-p.ensures.ready c.in-Ready.is in
+    record {
+      weighed = q;
+      room = r.numbers_room;
+      ends_room = r.sums_room;
+      charts = λ d some. omega (arith, r.charts d some q.tabled.counted.short, c.weigh-p.ensures.size);
+    } in
     let sampled : SampledBy c.args.g.now c.args.h.now (plainly c.args.question.length c.args.question.voice) (weighs c.args.weights.now)
     (weighed_rows c.args.g.now c.args.question.length c.args.question.voice c.args.weights.now)
     c.records-s.new.rules c.records-s.new.totals weights_map c.records-s.new.numbers c.records-s.result = prepared_sampled c.weigh-p.ensures c.in-Ready.is room (c.records-s.ensures _ _ sought).recorded in
@@ -83,13 +82,13 @@ returns-in-Refused-s c =
     let room : Accepted c.args.h.now → records_of c.args.h.now ≤ length c.records-s.new.numbers = λ d. omega (arith, c.records-s.auto.numbers, c.requires.room.numbers_room d) in
     let sought : let a = c.args in
     RecordsSought a.g.now a.question.length a.weights.now c.weigh-p.new.rules c.weigh-p.new.totals a.h.now a.numbers.now a.sums.now = let r = c.requires.room in
-        let q = c.weigh-p.ensures.ready c.in-Ready.is in
-        record {
-          weighed = q;
-          room = r.numbers_room;
-          ends_room = r.sums_room;
-          charts = λ d some. omega (arith, r.charts d some q.tabled.counted.short, c.weigh-p.ensures.size);
-        } in
+    let q = c.weigh-p.ensures.ready c.in-Ready.is in
+    record {
+      weighed = q;
+      room = r.numbers_room;
+      ends_room = r.sums_room;
+      charts = λ d some. omega (arith, r.charts d some q.tabled.counted.short, c.weigh-p.ensures.size);
+    } in
     let sampled : SampledBy c.args.g.now c.args.h.now (plainly c.args.question.length c.args.question.voice) (weighs c.args.weights.now)
     (weighed_rows c.args.g.now c.args.question.length c.args.question.voice c.args.weights.now)
     c.records-s.new.rules c.records-s.new.totals weights_map c.records-s.new.numbers c.records-s.result = prepared_sampled c.weigh-p.ensures c.in-Ready.is room (c.records-s.ensures _ _ sought).recorded in
@@ -100,13 +99,13 @@ returns-in-Ready-s c =
     let room : Accepted c.args.h.now → records_of c.args.h.now ≤ length c.records-s.new.numbers = λ d. omega (arith, c.records-s.auto.numbers, c.requires.room.numbers_room d) in
     let sought : let a = c.args in
     RecordsSought a.g.now a.question.length a.weights.now c.weigh-p.new.rules c.weigh-p.new.totals a.h.now a.numbers.now a.sums.now = let r = c.requires.room in
-        let q = c.weigh-p.ensures.ready c.in-Ready.is in
-        record {
-          weighed = q;
-          room = r.numbers_room;
-          ends_room = r.sums_room;
-          charts = λ d some. omega (arith, r.charts d some q.tabled.counted.short, c.weigh-p.ensures.size);
-        } in
+    let q = c.weigh-p.ensures.ready c.in-Ready.is in
+    record {
+      weighed = q;
+      room = r.numbers_room;
+      ends_room = r.sums_room;
+      charts = λ d some. omega (arith, r.charts d some q.tabled.counted.short, c.weigh-p.ensures.size);
+    } in
     let sampled : SampledBy c.args.g.now c.args.h.now (plainly c.args.question.length c.args.question.voice) (weighs c.args.weights.now)
     (weighed_rows c.args.g.now c.args.question.length c.args.question.voice c.args.weights.now)
     c.records-s.new.rules c.records-s.new.totals weights_map c.records-s.new.numbers c.records-s.result = prepared_sampled c.weigh-p.ensures c.in-Ready.is room (c.records-s.ensures _ _ sought).recorded in

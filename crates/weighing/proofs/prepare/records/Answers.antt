@@ -2,7 +2,6 @@
 -- Assumes nothing.
 use mathlib.Core.Path.{◌≡◌, sym, ◌∙◌}
 use native.Mathlib.Omega.{arith}
-use borrow.Author.Rules.{rules}
 use Rattle.history.specs.Layout.{records_of}
 use Rattle.history.specs.Refusals.{Accepted}
 use Rattle.history.proofs.Outcome.{check_accepted, check_refused}

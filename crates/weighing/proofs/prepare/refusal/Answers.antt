@@ -1,7 +1,5 @@
 -- `refusal` meets its contract: 10 applies where the counts don't fit, and else 24 or 25. Assumes nothing.
 use native.Mathlib.Omega.{arith}
-use borrow.Author.Rules.{rules}
-use borrow.Author.Tests.{not-true, not-false}
 use Rattle.lists.proofs.Tables.{wide_made, made_entry}
 use Rattle.counting.specs.Inner.Letters.{any}
 use Rattle.counting.proofs.Besides.{alone}

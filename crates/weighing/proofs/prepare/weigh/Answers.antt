@@ -4,7 +4,6 @@ use mathlib.Core.Path.{◌≡◌, sym, ap, ◌∙◌}
 use mathlib.Core.Bool.{false}
 use Prim.Native.Nat.{ℕ}
 use native.Mathlib.Omega.{arith}
-use borrow.Author.Rules.{rules}
 use Rattle.grammar.specs.Layout.{words}
 use Rattle.weighing.specs.Weights.{bad_weights}
 use Rattle.weighing.proofs.Asking.{set_asks, set_opened, tally_sought, weigh_unopened, weigh_voice, weigh_bad, weigh_heavy, weigh_ready}

@@ -1,11 +1,9 @@
-use mathlib.Core.Path.{◌≡◌, refl}
-use mathlib.Core.List.{List}
-use Prim.Native.Nat.{ℕ, ◌-◌, ◌<◌}
+use mathlib.Core.Path.{refl}
+use Prim.Native.Nat.{◌<◌}
 use native.Mathlib.Omega.{arith}
 use borrow.Author.Rules.{rules}
 use lib.ListN.{length}
-use Rattle.weighing.specs.Inner.Sums.{SumsSought}
-use Rattle.weighing.proofs.Summing.{Summing, summing_start, summing_above, summing_fits, summing_turn, summing_end}
+use Rattle.weighing.proofs.Summing.{summing_start, summing_above, summing_fits, summing_turn, summing_end}
 use Rattle.weighing.proofs.sums.fill.Goals as goal
 
 pub loop-i-init : goal.loop-i-init

@@ -1,13 +1,11 @@
 -- `fill` meets its contract. The loop's invariant: the sum is what the first i weigh, and each of the first i ends has become what it should be. The
 -- measure is how many are left. Assumes nothing.
-use mathlib.Core.Path.{◌≡◌, refl}
+use mathlib.Core.Path.{◌≡◌}
 use mathlib.Core.List.{List}
-use Prim.Native.Nat.{ℕ, ◌-◌, ◌<◌}
-use native.Mathlib.Omega.{arith}
-use borrow.Author.Rules.{rules}
+use Prim.Native.Nat.{ℕ, ◌-◌}
 use lib.ListN.{length}
 use Rattle.weighing.specs.Inner.Sums.{SumsSought}
-use Rattle.weighing.proofs.Summing.{Summing, summing_start, summing_above, summing_fits, summing_turn, summing_end}
+use Rattle.weighing.proofs.Summing.{Summing}
 use Rattle.weighing.proofs.sums.fill.Given as goal
 
 abbrev pub invariant-loop-i : goal.invariant-loop-i

@@ -1,11 +1,8 @@
-use mathlib.Core.Path.{◌≡◌, refl, sym, ◌∙◌}
-use Prim.Native.Nat.{◌-◌, ◌≤◌}
+use mathlib.Core.Path.{refl, sym, ◌∙◌}
 use native.Mathlib.Omega.{arith}
 use native.Mathlib.Numerals.{add-one}
 use borrow.Author.Tests.{eq-eqb, ne_eqb}
 use lib.Dec.{eqb}
-use lib.ListN.{length, drop}
-use Rattle.lists.specs.Searched.{some_of}
 use Rattle.sampling.proofs.Blanks.{bad_here, bad_later, bad_none}
 use Rattle.weighing.specs.Weights.{bad_weights}
 use Rattle.weighing.proofs.weights.bad.Goals as goal

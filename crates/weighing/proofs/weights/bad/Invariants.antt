@@ -1,14 +1,10 @@
 -- `bad` meets its contract. The loop's invariant: some weight is 0 if one from w on is. The measure is the weights left.
 -- Assumes nothing.
-use mathlib.Core.Path.{◌≡◌, refl, sym, ◌∙◌}
+use mathlib.Core.Path.{◌≡◌}
 use Prim.Native.Nat.{◌-◌, ◌≤◌}
-use native.Mathlib.Omega.{arith}
-use native.Mathlib.Numerals.{add-one}
-use borrow.Author.Tests.{eq-eqb, ne_eqb}
 use lib.Dec.{eqb}
 use lib.ListN.{length, drop}
 use Rattle.lists.specs.Searched.{some_of}
-use Rattle.sampling.proofs.Blanks.{bad_here, bad_later, bad_none}
 use Rattle.weighing.specs.Weights.{bad_weights}
 use Rattle.weighing.proofs.weights.bad.Given as goal
 

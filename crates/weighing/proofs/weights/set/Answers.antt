@@ -1,8 +1,6 @@
 use mathlib.Core.Path.{◌≡◌, refl}
-use Prim.Native.Nat.{◌-◌, ◌≤◌}
 use native.Mathlib.Omega.{arith}
 use lib.ListN.{length}
-use Rattle.weighing.specs.Inner.Tables.{SetTo}
 use Rattle.weighing.proofs.Writing.{set_start, set_turn}
 use Rattle.weighing.proofs.weights.set.Goals as goal
 

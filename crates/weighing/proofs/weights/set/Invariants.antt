@@ -1,11 +1,8 @@
 -- `set` meets its contract. The loop's invariant: the weights below w are in their row. The measure is the weights left.
 -- Assumes nothing.
-use mathlib.Core.Path.{◌≡◌, refl}
 use Prim.Native.Nat.{◌-◌, ◌≤◌}
-use native.Mathlib.Omega.{arith}
 use lib.ListN.{length}
 use Rattle.weighing.specs.Inner.Tables.{SetTo}
-use Rattle.weighing.proofs.Writing.{set_start, set_turn}
 use Rattle.weighing.proofs.weights.set.Given as goal
 
 abbrev pub invariant-loop-w : goal.invariant-loop-w

@@ -1,8 +1,8 @@
 use mathlib.Core.Path.{sym, ◌∙◌}
-use Prim.Native.Nat.{◌+◌, ◌-◌, ◌≤◌, ◌<◌}
+use Prim.Native.Nat.{◌≤◌, ◌<◌}
 use native.Mathlib.Omega.{arith}
 use Rattle.grammar.specs.Inner.Rules.{count_in}
-use Rattle.weighing.proofs.Before.{SummingUp, summing_start, summing_long, summing_room, summing_low, summing_past, summing_word, summing_end}
+use Rattle.weighing.proofs.Before.{summing_start, summing_long, summing_room, summing_low, summing_past, summing_word, summing_end}
 use Rattle.weighing.proofs.weights.sum_up.Goals as goal
 
 pub count-count-requires : goal.count-count-requires

@@ -1,10 +1,7 @@
 -- `sum_up` meets its contract. The loop's invariant: at the places below i what the words before weigh is there, and the sum so far is that of the words
 -- of a before i. Each turn goes past a word or past a nonterminal. Assumes nothing.
-use mathlib.Core.Path.{sym, ◌∙◌}
-use Prim.Native.Nat.{◌+◌, ◌-◌, ◌≤◌, ◌<◌}
-use native.Mathlib.Omega.{arith}
-use Rattle.grammar.specs.Inner.Rules.{count_in}
-use Rattle.weighing.proofs.Before.{SummingUp, summing_start, summing_long, summing_room, summing_low, summing_past, summing_word, summing_end}
+use Prim.Native.Nat.{◌+◌, ◌-◌}
+use Rattle.weighing.proofs.Before.{SummingUp}
 use Rattle.weighing.proofs.weights.sum_up.Given as goal
 
 abbrev pub invariant-loop-a : goal.invariant-loop-a
