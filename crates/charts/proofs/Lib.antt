@@ -1,5 +1,5 @@
--- The laws of charts. In the proof of a function a need that is plain arithmetic, or a fact at hand, has no name: it is answered
--- where the needs come together.
+-- The laws of charts. Of a function's goals those that the check
+-- finds by itself have no answer.
 mod Gathering
 mod Spreading
 pub mod Placing

@@ -1,5 +1,5 @@
--- The laws of totals, for the crates above. In the proof of a function a need that is plain arithmetic, or a fact at hand, has no name: it is answered
--- where the needs come together.
+-- The laws of totals, for the crates above. Of a function's goals those that the check
+-- finds by itself have no answer.
 pub mod Totals
 pub mod Lettered
 pub mod Needed

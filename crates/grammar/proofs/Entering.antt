@@ -132,7 +132,7 @@ marks_more {seen} {done} r h new m =
         = times_mark seen r [] q (omega (arith, m.long)) in
         omega (arith, rw new at e, m.exact q, times_append q done (r ∷ []))
 
--- the same of one kind: f is words_of or pairsOf
+-- the same of one kind: f is words_of or pairs_of
 module _ {X : Type 0} (f : List Rule → List X) (join : (l r : List Rule) → f (l ++ r) ≡ f l ++ f r) (g : List ℕ) (a : ℕ) where
   kind_next : length (f (before g (a + 1))) ≡ length (f (before g a)) + length (f (chain g a))
   kind_next = ap (λ (l : List Rule). length (f l)) (before_next g a) ∙ simp (join, length-append)

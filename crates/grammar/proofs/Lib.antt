@@ -1,6 +1,6 @@
 -- The laws of grammars. Crates above cite those of derivations (Enumeration, Order, Plain), of walks (Walks), of the table of rules (Ruling) and
--- of its links (Linking, Keyed). In the proof of a function a need that is plain arithmetic, or a fact at hand, has no name: it is answered
--- where the needs come together.
+-- of its links (Linking, Keyed). Of a function's goals those that the check
+-- finds by itself have no answer.
 pub mod Choices
 pub mod Enumeration
 pub mod Order

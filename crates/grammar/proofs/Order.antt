@@ -49,8 +49,8 @@ module _ (chain : ℕ → List Rule) where
   expand_place (one i w) t m = rw (Memᴰ.eq_of_singleton m)
   expand_place (two i B k C j) t m = let q = combine_∈ (node i) (trees chain B k) (trees chain C j) m in rw (← q.4)
 
-  size_of : (B k : ℕ) (t : Tree) → t ∈ trees chain B k → size t ≡ k
-  size_of B k t m = derives_size chain (sound chain B k t m)
+  size_of_lem : (B k : ℕ) (t : Tree) → t ∈ trees chain B k → size t ≡ k
+  size_of_lem B k t m = derives_size chain (sound chain B k t m)
 
   sooner_before : (c d : Choice) → Sooner c d → (t : Tree) → t ∈ expand (trees chain) c
       → (u : Tree) → u ∈ expand (trees chain) d → Before t u
@@ -59,7 +59,7 @@ module _ (chain : ℕ → List Rule) where
   sooner_before c d (sooner_split {i = i} {B = B} {k = k} {C = C} {j = j} {i' = i'} {B' = B'} {k' = k'} {C' = C'} {j' = j'} e e' h) t mt u mu =
       let p = combine_∈ (node i) (trees chain B k) (trees chain C j) mt in
       let q = combine_∈ (node i') (trees chain B' k') (trees chain C' j') mu in
-      let z : size p.0 < size q.0 = omega (arith, size_of B k p.0 p.2, size_of B' k' q.0 q.2) in
+      let z : size p.0 < size q.0 = omega (arith, size_of_lem B k p.0 p.2, size_of_lem B' k' q.0 q.2) in
       rw (← p.4, ← q.4) (by_length e z)
 
   choice_sorted : (A m : ℕ) (c : Choice) → Begins (chain A) 0 m c → ((B k : ℕ) → k < m → Pairwise Before (trees chain B k))
@@ -68,7 +68,7 @@ module _ (chain : ℕ → List Rule) where
   choice_sorted A m (two i B k C j) h ih =
       pairwise_combine Before Before Before (node i) (trees chain B k) (trees chain C j) (ih B k (omega arith)) (ih C j (omega arith))
       (λ x y y' b. by_right refl refl b)
-      (λ x x' m₁ m₂ b y y'. let z : size x ≡ size x' = omega (arith, size_of B k x m₁, size_of B k x' m₂) in by_left refl z b)
+      (λ x x' m₁ m₂ b y y'. let z : size x ≡ size x' = omega (arith, size_of_lem B k x m₁, size_of_lem B k x' m₂) in by_left refl z b)
 
   sorted_below : (n A m : ℕ) → m < n → Pairwise Before (trees chain A m)
   sorted_below zero A m h = absurd (omega arith)

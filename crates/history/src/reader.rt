@@ -1,7 +1,6 @@
 // The reader of a history: a struct that holds the history's bytes and the number of the record where it stands. The work is done by functions
-// on the bytes and the number, which the borrow checker covers. `open`, `standing` and `moved` are over the struct, and take it apart; `first`,
-// `sentence` and `after` make one in a local, so that every other module reads through it with a slice and a number in hand. These six are
-// proved by hand.
+// on the bytes and the number. `open`, `standing` and `moved` are over the struct, and take it apart; `first`, `sentence` and `after` make one in
+// a local, so that every other module reads through it with a slice and a number in hand.
 ghost use Rattle.std.specs.Prelude.{◌≡◌};
 ghost use Rattle.history.specs.Layout.{head_of};
 ghost use Rattle.history.specs.Refusals.{Accepted};

@@ -1,4 +1,4 @@
--- Sums, lengths and maps over `++`, concatMap and combine. Each by induction on the list.
+-- Sums, lengths and maps over `++`, concat_map and combine. Each by induction on the list.
 -- Assumes nothing.
 use mathlib.Core.Path.{◌≡◌, refl, sym, ap, ◌∙◌}
 use mathlib.Core.Bool.{Bool, true, false, cond}

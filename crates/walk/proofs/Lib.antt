@@ -1,5 +1,5 @@
--- The laws of the walk. In the proof of a function a need that is plain arithmetic, or a fact at hand, has no name: it is answered
--- where the needs come together.
+-- The laws of the walk. Of a function's goals those that the check
+-- finds by itself have no answer.
 mod Linking
 mod Leaves
 pub mod Joined

@@ -46,7 +46,7 @@ link_at-a-requires c =
 pub has-requires : goal.has-requires
 has-requires c =
     let owner : c.link_at-a.result < 32 = pair_owner_lem c.requires c.loop-l-test.true c.loop-l.invariant _ c.link_at-a.ensures.0 in
-    owner
+    omega (arith, owner, c.requires.b_low)
 
 pub overflow_mul-totals : goal.overflow_mul-totals
 overflow_mul-totals c =

@@ -36,7 +36,7 @@ overflow_sub-m c =
 pub moved-requires : goal.moved-requires
 moved-requires c =
     let low : c.lowest-k.result < 32 = lowest_low c.loop-left.left c.lowest-k.result c.lowest-k.ensures in
-    low
+    omega (arith, low)
 
 pub overflow_sub-spots : goal.overflow_sub-spots
 overflow_sub-spots c =

@@ -10,7 +10,7 @@ use Rattle.sampling.proofs.Answering.{struck_sum, skips, skip_sought, skipping_b
 use Rattle.sampling.proofs.draw.draw_from.Goals as goal
 
 pub passed-requires : goal.passed-requires
-passed-requires c n = c.requires.0.told.enough n
+passed-requires c n = omega (arith, c.requires.0.told.enough n)
 
 pub overflow_sub-left : goal.overflow_sub-left
 overflow_sub-left c =
