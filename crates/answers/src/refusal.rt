@@ -4,60 +4,37 @@ ghost use Rattle.answers.specs.Inner.Refusals.{refusal_number};
 
 #[derive(Clone, Copy)]
 pub enum Refusal {
-    GrammarTooShort,
-    GrammarOutOfRange,
-    GrammarWrongSize,
-    GrammarBadRule,
-    GrammarBadLink,
-    GrammarRuleMetTwice,
-    GrammarRuleOnNoChain,
-    GrammarEqualRules,
-    BadLength,
-    TooManyDerivations,
-    HistoryWrongSize,
-    HistoryBadRecord,
-    HistoryBadLink,
-    HistoryBadChain,
-    HeardAmbiguous,
-    NumberBeyond,
-    SentenceUnderivable,
-    HistoryFull,
-    BufferTooShort,
-    BadPattern,
-    BadVoice,
-    BadPlayed,
-    BadWeights,
-    TooManyTickets,
+    GrammarTooShort = 1,
+    GrammarOutOfRange = 2,
+    GrammarWrongSize = 3,
+    GrammarBadRule = 4,
+    GrammarBadLink = 5,
+    GrammarRuleMetTwice = 6,
+    GrammarRuleOnNoChain = 7,
+    GrammarEqualRules = 8,
+    BadLength = 9,
+    TooManyDerivations = 10,
+    HistoryWrongSize = 11,
+    HistoryBadRecord = 12,
+    HistoryBadLink = 13,
+    HistoryBadChain = 14,
+    HeardAmbiguous = 15,
+    NumberBeyond = 16,
+    SentenceUnderivable = 17,
+    HistoryFull = 19,
+    BufferTooShort = 20,
+    BadPattern = 21,
+    BadVoice = 22,
+    BadPlayed = 23,
+    BadWeights = 24,
+    TooManyTickets = 25,
 }
 
 // The refusal's number in the documents.
-pub fn number(r: Refusal) -> u8
-    ensures { result ≡ refusal_number r }
-{
-    match r {
-        Refusal::GrammarTooShort => 1,
-        Refusal::GrammarOutOfRange => 2,
-        Refusal::GrammarWrongSize => 3,
-        Refusal::GrammarBadRule => 4,
-        Refusal::GrammarBadLink => 5,
-        Refusal::GrammarRuleMetTwice => 6,
-        Refusal::GrammarRuleOnNoChain => 7,
-        Refusal::GrammarEqualRules => 8,
-        Refusal::BadLength => 9,
-        Refusal::TooManyDerivations => 10,
-        Refusal::HistoryWrongSize => 11,
-        Refusal::HistoryBadRecord => 12,
-        Refusal::HistoryBadLink => 13,
-        Refusal::HistoryBadChain => 14,
-        Refusal::HeardAmbiguous => 15,
-        Refusal::NumberBeyond => 16,
-        Refusal::SentenceUnderivable => 17,
-        Refusal::HistoryFull => 19,
-        Refusal::BufferTooShort => 20,
-        Refusal::BadPattern => 21,
-        Refusal::BadVoice => 22,
-        Refusal::BadPlayed => 23,
-        Refusal::BadWeights => 24,
-        Refusal::TooManyTickets => 25,
+impl From<Refusal> for u8 {
+    fn from(r: Refusal) -> u8
+        ensures { result ≡ refusal_number r }
+    {
+        r as u8
     }
 }

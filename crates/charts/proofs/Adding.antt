@@ -11,7 +11,7 @@ use native.Mathlib.Omega.{arith}
 use native.Mathlib.Decide.{ℕ_discrete}
 use borrow.Author.Tests.{eq-eqb, ne_eqb}
 use lib.Dec.{eqb}
-use lib.ListN.{get_or, drop}
+use lib.ListN.{get_or}
 use Rattle.lists.specs.Joined.{◌∈◌, sum_over, up_from}
 use Rattle.lists.specs.Inner.Tables.{entry}
 use Rattle.lists.proofs.Sums.{sum_plus, sum_const, sum_none, sum_single}
@@ -113,10 +113,10 @@ module _ {rules plan : List (List ℕ)} {wanted row left right b rights : ℕ} {
   abbrev part : ℕ → ℕ → ℕ
   part c A = tie_sum rules (x * y c) b c A
 
-  pub left_start : {s : ℕ} (cs : ℕ) → ((c : ℕ) → member cs c ≡ (member rights c && member (partners plan b) c))
+  pub left_start : {s : ℕ} {all : ℕ} (cs : ℕ) → cs ≡ all → ((c : ℕ) → member all c ≡ (member rights c && member (partners plan b) c))
       → LeftWalk rules wanted row left right b before before s cs
-  left_start cs m =
-      parts_start wanted part cs q.adds.wide (λ A h c l z. none A h c l (sym (m c) ∙ z))
+  left_start cs e m =
+      parts_start wanted part cs q.adds.wide (λ A h c l z. none A h c l (sym (m c) ∙ rw e at z))
       (λ A h. ap (λ (v : ℕ). only wanted A v) (ties_come q.adds.table A h x y b))
     where
       none : (A : ℕ) → A < count_in rules → (c : ℕ) → c < 32 → (member rights c && member (partners plan b) c) ≡ false → part c A ≡ 0
@@ -129,10 +129,10 @@ module _ {rules plan : List (List ℕ)} {wanted row left right b rights : ℕ} {
               (rw (q.zero c l (and_cases (member rights c) (member (partners plan b) c) z e)) (omega arith))
 
   module _ {now : List (List ℕ)} {s : ℕ} (cs : ℕ) (w : LeftWalk rules wanted row left right b before now s cs) where
-    pub left_end : cs ≡ 0 → GrownAs row (count_in rules) (λ A. only wanted A (side_sum rules x y b A)) before now s
+    pub left_end : members cs ≡ [] → GrownAs row (count_in rules) (λ A. only wanted A (side_sum rules x y b A)) before now s
     left_end e = parts_end wanted part cs w e
 
-    module _ (c : ℕ) (first : members cs ≡ c ∷ drop 1 (members cs)) where
+    module _ (c next : ℕ) (t : members cs ≡ c ∷ members next) where
       -- the rows of the halves are as they were
       same : entry now left b * entry now right c ≡ x * y c
       same =
@@ -145,18 +145,17 @@ module _ {rules plan : List (List ℕ)} {wanted row left right b rights : ℕ} {
           linked = q.adds.linked;
           wide = w.wide;
           inside = omega (arith, q.adds.inside, w.long);
-          fits = λ A h. rw same (parts_fits wanted part cs w c first A h (q.adds.fits A h));
+          fits = λ A h. rw same (parts_fits wanted part cs w c next t A h (q.adds.fits A h));
         };
         left_inside = omega (arith, q.left_inside, w.long);
         right_inside = omega (arith, q.right_inside, w.long);
         b_low = q.b_low;
-        c_low = lowest_low cs c first;
+        c_low = lowest_low cs c t;
       }
 
-      pub left_step : {after : List (List ℕ)} {s' s'' : ℕ} (next : ℕ) → members next ≡ drop 1 (members cs)
-          → GrownAs row (count_in rules) (λ A. only wanted A (tie_sum rules (entry now left b * entry now right c) b c A)) now after s'
+      pub left_step : {after : List (List ℕ)} {s' s'' : ℕ} → GrownAs row (count_in rules) (λ A. only wanted A (tie_sum rules (entry now left b * entry now right c) b c A)) now after s'
           → ((i : ℕ) → member s'' i ≡ (member s i || member s' i)) → LeftWalk rules wanted row left right b before after s'' next
-      left_step next rest g m = parts_step wanted part cs w c first next rest (rw same at g) m
+      left_step g m = parts_step wanted part cs w c next t (rw same at g) m
 
 -- ---- for all
 
@@ -176,16 +175,16 @@ module _ {rules plan : List (List ℕ)} {wanted row left right : ℕ} {sets : Li
   abbrev side : ℕ → ℕ → ℕ
   side b A = side_sum rules (xs b) ys b A
 
-  pub split_start : {s : ℕ} → SplitWalk rules wanted row left right before before s (get_or sets left 0)
-  split_start =
-      parts_start wanted side (get_or sets left 0) q.adds.wide (λ A h b l z. side_zero rules A (xs b) ys b (q.zeros.0 b l z))
+  pub split_start : {s : ℕ} (bs : ℕ) → bs ≡ get_or sets left 0 → SplitWalk rules wanted row left right before before s bs
+  split_start bs e =
+      parts_start wanted side bs q.adds.wide (λ A h b l z. side_zero rules A (xs b) ys b (q.zeros.0 b l (rw e at z)))
       (λ A h. ap (λ (v : ℕ). only wanted A v) (sides_come q.adds.table A h xs ys))
 
   module _ {now : List (List ℕ)} {s : ℕ} (bs : ℕ) (w : SplitWalk rules wanted row left right before now s bs) where
-    pub split_end : bs ≡ 0 → GrownAs row (count_in rules) (λ A. only wanted A (pair_sum rules xs ys A)) before now s
+    pub split_end : members bs ≡ [] → GrownAs row (count_in rules) (λ A. only wanted A (pair_sum rules xs ys A)) before now s
     split_end e = parts_end wanted side bs w e
 
-    module _ (b : ℕ) (first : members bs ≡ b ∷ drop 1 (members bs)) where
+    module _ (b next : ℕ) (t : members bs ≡ b ∷ members next) where
       left_same : get_or now left [] ≡ get_or before left []
       left_same = w.others left q.apart.0
 
@@ -203,17 +202,16 @@ module _ {rules plan : List (List ℕ)} {wanted row left right : ℕ} {sets : Li
           linked = q.adds.linked;
           wide = w.wide;
           inside = omega (arith, q.adds.inside, w.long);
-          fits = λ A h. rw (same_side A) (parts_fits wanted side bs w b first A h (q.adds.fits A h));
+          fits = λ A h. rw (same_side A) (parts_fits wanted side bs w b next t A h (q.adds.fits A h));
         };
         left_inside = omega (arith, q.left_inside.0, w.long);
         right_inside = omega (arith, q.right_inside.0, w.long);
-        b_low = lowest_low bs b first;
+        b_low = lowest_low bs b t;
         zero = λ A l z. ap (λ (r : List ℕ). get_or r A 0) right_same ∙ q.zeros.1 A l z;
         pairs = q.pairs;
         apart = q.apart;
       }
 
-      pub split_step : {after : List (List ℕ)} {s' s'' : ℕ} (next : ℕ) → members next ≡ drop 1 (members bs)
-          → GrownAs row (count_in rules) (λ A. only wanted A (side_sum rules (entry now left b) (entry now right) b A)) now after s'
+      pub split_step : {after : List (List ℕ)} {s' s'' : ℕ} → GrownAs row (count_in rules) (λ A. only wanted A (side_sum rules (entry now left b) (entry now right) b A)) now after s'
           → ((i : ℕ) → member s'' i ≡ (member s i || member s' i)) → SplitWalk rules wanted row left right before after s'' next
-      split_step next rest g m = parts_step wanted side bs w b first next rest (grown_ext (λ A h. rw (same_side A)) g) m
+      split_step g m = parts_step wanted side bs w b next t (grown_ext (λ A h. rw (same_side A)) g) m

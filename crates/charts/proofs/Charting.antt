@@ -10,12 +10,12 @@ use Prim.Native.Nat.{ℕ, ◌+◌, ◌-◌, ◌≤◌, ◌<◌}
 use native.Mathlib.Omega.{arith}
 use native.Mathlib.Decide.{ℕ_discrete, dec_le, dec_lt}
 use borrow.Author.Tests.{ne_eqb}
-use lib.ListN.{length, get_or, drop}
+use lib.ListN.{length, get_or}
 use Rattle.lists.specs.Inner.Tables.{entry, Wide}
 use Rattle.lists.specs.Joined.{◌∈◌}
 use Rattle.sets.specs.Inner.Sets.{member, members}
 use Rattle.sets.proofs.Digits.{member_none}
-use Rattle.sets.proofs.Loops.{turn_out, turn}
+use Rattle.sets.proofs.Loops.{turn_out, none_out}
 use Rattle.sets.proofs.Lists.{members_∈}
 use Rattle.grammar.specs.Inner.Rules.{count_in, ruled}
 use Rattle.counting.specs.Totals.{total, T}
@@ -206,20 +206,6 @@ module _ {rules plan map : List (List ℕ)} {first n m left : ℕ} {sets : List 
 -- ---- all spans
 
 module _ {rules plan map : List (List ℕ)} {first n : ℕ} where
-  -- before the spans of the length 1
-  pub lengths_start : {sets : List ℕ} {totals : List (List ℕ)} → Fills rules plan map first n sets totals
-      → LengthenedAs rules plan map first n 1 (spots plan 1) sets totals sets totals
-  lengths_start q = record {
-    filled = record {
-      fills = q;
-      shorter = λ p k s l h. absurd (omega (arith, s.some));
-      here = λ p s h z. absurd (false≢true (sym z ∙ h));
-    };
-    sets_long = refl;
-    long = refl;
-    kept = λ r h. refl;
-  }
-
   -- on to the next length
   pub lengths_next : (m : ℕ) {sets sets' sets'' : List ℕ} {totals totals' totals'' : List (List ℕ)}
       → LengthenedAs rules plan map first n m (spots plan m) sets totals sets' totals' → LengthenedAs rules plan map first n m 0 sets' totals' sets'' totals''
@@ -273,37 +259,47 @@ module _ {rules plan map : List (List ℕ)} {first n : ℕ} where
       below p A m a s true h = omega (arith, w.filled.shorter p m s (omega (arith, s.inside)) h A a)
       below p A m a s false h = rw (w.filled.fills.planned.rows.none p m s h) (omega (arith, w.filled.fills.blank.zeros A))
 
+-- no position is left
+all_here : {rules plan map : List (List ℕ)} {first n m : ℕ} {sets : List ℕ} {totals : List (List ℕ)} (left : ℕ) → members left ≡ []
+    → FilledTo rules plan map first n m left sets totals → FilledTo rules plan map first n m 0 sets totals
+all_here left e f = record {
+  fills = f.fills;
+  shorter = f.shorter;
+  here = λ p s h z. f.here p s h (none_out left p e (omega (arith, s.inside, f.fills.blank.counted.short)));
+}
+
 -- before the positions in `left`, whatever n the plan is for and wherever the chart begins
 pub record LengthWalk (rules plan map : List (List ℕ)) (m left : ℕ) (sets : List ℕ) (totals : List (List ℕ)) (sets' : List ℕ) (totals' : List (List ℕ)) : Type 0 where
   pub among : (p : ℕ) → p ∈ members left → p ∈ members (spots plan m)
   pub done : (first n : ℕ) → Lengthens rules plan map first n m sets totals → LengthenedAs rules plan map first n m left sets totals sets' totals'
 
 module _ {rules plan map : List (List ℕ)} {m : ℕ} {sets : List ℕ} {totals : List (List ℕ)} where
-  pub length_start : LengthWalk rules plan map m (spots plan m) sets totals sets totals
-  length_start = record {
-    among = λ p i. i;
-    done = λ first n q. record { filled = q.filled; sets_long = refl; long = refl; kept = λ r h. refl };
+  pub length_start : (left : ℕ) → left ≡ spots plan m → LengthWalk rules plan map m left sets totals sets totals
+  length_start left e = record {
+    among = λ p i. rw e at i;
+    done = λ first n q. record { filled = rw e q.filled; sets_long = refl; long = refl; kept = λ r h. refl };
   }
 
   module _ {left : ℕ} {sets' : List ℕ} {totals' : List (List ℕ)} (w : LengthWalk rules plan map m left sets totals sets' totals') where
-    pub length_end : left ≡ 0 → (first n : ℕ) → Lengthens rules plan map first n m sets totals → LengthenedAs rules plan map first n m 0 sets totals sets' totals'
-    length_end e first n q = rw e at (w.done first n q)
+    pub length_end : members left ≡ [] → (first n : ℕ) → Lengthens rules plan map first n m sets totals → LengthenedAs rules plan map first n m 0 sets totals sets' totals'
+    length_end e first n q =
+        let d = w.done first n q in
+        record { filled = all_here left e d.filled; sets_long = d.sets_long; long = d.long; kept = d.kept }
 
-    module _ (p : ℕ) (least : members left ≡ p ∷ drop 1 (members left)) where
+    module _ (p next : ℕ) (t : members left ≡ p ∷ members next) where
       spot : (p < 32) × (needed plan p m ≡ true)
-      spot = members_∈ (spots plan m) p (w.among p (rw least (Memᴰ.head refl)))
+      spot = members_∈ (spots plan m) p (w.among p (rw t (Memᴰ.head refl)))
 
       pub length_asks : (first n : ℕ) → Lengthens rules plan map first n m sets totals → Spans rules plan map p m sets' totals'
       length_asks first n q = span_asks (w.done first n q).filled q.some q.short p spot.0 spot.1
 
-      pub length_step : {sets'' : List ℕ} {totals'' : List (List ℕ)} (next : ℕ) → members next ≡ drop 1 (members left)
-          → SpannedAs rules plan map p m sets' totals' sets'' totals'' → LengthWalk rules plan map m next sets totals sets'' totals''
-      length_step next rest d = record {
-        among = λ i j. w.among i (rw least (Memᴰ.tail (rw rest at j)));
+      pub length_step : {sets'' : List ℕ} {totals'' : List (List ℕ)} → SpannedAs rules plan map p m sets' totals' sets'' totals'' → LengthWalk rules plan map m next sets totals sets'' totals''
+      length_step d = record {
+        among = λ i j. w.among i (rw t (Memᴰ.tail j));
         done = λ first n q.
             let a = w.done first n q in
             record {
-              filled = span_next a.filled q.some q.short p spot.0 spot.1 d next (turn left p least next rest);
+              filled = span_next a.filled q.some q.short p spot.0 spot.1 d next t;
               sets_long = d.long ∙ a.sets_long;
               long = d.made.long ∙ a.long;
               kept = λ r h. span_kept a.filled q.some q.short p spot.0 spot.1 d r h ∙ a.kept r h;
@@ -319,9 +315,6 @@ pub record FillWalk (rules plan map : List (List ℕ)) (n m : ℕ) (sets : List 
   pub done : (first : ℕ) → Fills rules plan map first n sets totals → LengthenedAs rules plan map first n m (spots plan m) sets totals sets' totals'
 
 module _ {rules plan map : List (List ℕ)} {n : ℕ} {sets : List ℕ} {totals : List (List ℕ)} where
-  pub fill_start : FillWalk rules plan map n 1 sets totals sets totals
-  fill_start = record { some = omega arith; short = omega arith; done = λ first q. lengths_start q }
-
   module _ {m : ℕ} {sets' : List ℕ} {totals' : List (List ℕ)} (w : FillWalk rules plan map n m sets totals sets' totals') where
     pub fill_asks : (first : ℕ) → Fills rules plan map first n sets totals → m ≤ n → Lengthens rules plan map first n m sets' totals'
     fill_asks first q h = record { some = w.some; short = h; filled = (w.done first q).filled }

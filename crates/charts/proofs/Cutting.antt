@@ -6,7 +6,7 @@ use mathlib.Core.List.Memᴰ
 use mathlib.Core.List.{List, [], ◌∷◌}
 use Prim.Native.Nat.{ℕ, ◌+◌, ◌-◌, ◌≤◌, ◌<◌}
 use native.Mathlib.Omega.{arith}
-use lib.ListN.{length, get_or, set, drop, length-set}
+use lib.ListN.{get_or, set, length-set}
 use Rattle.lists.specs.Joined.{◌∈◌}
 use Rattle.lists.specs.Inner.Tables.{entry}
 use Rattle.lists.proofs.Sums.{sum_ext}
@@ -17,7 +17,7 @@ use Rattle.grammar.specs.Inner.Rules.{count_in}
 use Rattle.counting.specs.Refusals.{most}
 use Rattle.charts.specs.Inner.Maps.{row_at}
 use Rattle.charts.specs.Inner.Plan.{cuts, wanted}
-use Rattle.charts.specs.Inner.Filling.{Clears, only, pair_sum, cut_sum, cuts_sum, GrownAs, AddsSplit, MadeAs, Half, Joins}
+use Rattle.charts.specs.Inner.Filling.{only, pair_sum, cut_sum, cuts_sum, GrownAs, AddsSplit, MadeAs, Half, Joins}
 use Rattle.charts.proofs.Growing.{growing_start, grown_ext, Parts, parts_end, parts_fits, parts_step}
 use Rattle.charts.proofs.Making.{zeros, cleared, cleared_wide, made}
 
@@ -84,16 +84,7 @@ module _ {rules plan map : List (List ℕ)} {p m : ℕ} {sets : List ℕ} {befor
 
   -- the row as it was read from the map
   module _ (row : ℕ) (e : row ≡ row_at map p m) where
-    pub cuts_beside : row < length sets
-    cuts_beside = omega (arith, q.beside)
-
-    pub cuts_clears : Clears (get_or sets row 0) row before
-    cuts_clears = rw e (record { wide = q.makes.wide; inside = q.makes.inside; zero = q.makes.zero })
-
     module _ {now : List (List ℕ)} (z : now ≡ set before row zeros) where
-      pub cuts_long : length now ≡ length before
-      cuts_long = ap length z ∙ length-set before row zeros
-
       pub cuts_joins : Joins rules plan map p m sets now
       cuts_joins = rw (z, e) joins_blank
 
@@ -107,26 +98,38 @@ module _ {rules plan map : List (List ℕ)} {p m : ℕ} {sets : List ℕ} {befor
 
 -- ---- cut after cut, from a row of zeros
 
-pub record CutsWalk (rules plan map : List (List ℕ)) (p m : ℕ) (before now : List (List ℕ)) (s ks : ℕ) : Type 0 where
+pub record CutsWalk (rules plan map : List (List ℕ)) (p m : ℕ) (sets : List ℕ) (before now : List (List ℕ)) (s ks : ℕ) : Type 0 where
+  pub joins : Joins rules plan map p m sets before
+  pub clear : (A : ℕ) → A < 32 → entry before (row_at map p m) A ≡ 0
   pub among : (k : ℕ) → k ∈ members ks → k ∈ members (cuts plan m)
   pub parts : Parts (row_at map p m) (count_in rules) (λ A. only (wanted plan m) A (cuts_sum rules plan map before p m A)) (wanted plan m)
       (λ k A. cut_sum rules map before p m A k) before now s ks
 
-module _ {rules plan map : List (List ℕ)} {p m : ℕ} {sets : List ℕ} {before : List (List ℕ)} (q : Joins rules plan map p m sets before)
-    (clear : (A : ℕ) → A < 32 → entry before (row_at map p m) A ≡ 0) where
-  abbrev part : ℕ → ℕ → ℕ
-  part k A = cut_sum rules map before p m A k
+pub cuts_start : {rules plan map : List (List ℕ)} {p m : ℕ} {sets : List ℕ} {before now : List (List ℕ)} {row s : ℕ} → Joins rules plan map p m sets before
+    → row ≡ row_at map p m → now ≡ set before row zeros → (ks : ℕ) → ks ≡ cuts plan m → CutsWalk rules plan map p m sets now now s ks
+cuts_start {now = now} {row = row} q e z ks is =
+    let j = cuts_joins q row e z in
+    record {
+      joins = j;
+      clear = cuts_clear q row e z;
+      among = λ k i. rw is at i;
+      parts = growing_start j.makes.wide (λ A h. rw is refl);
+    }
 
-  pub cuts_start : {s : ℕ} → CutsWalk rules plan map p m before before s (cuts plan m)
-  cuts_start = record { among = λ k i. i; parts = growing_start q.makes.wide (λ A h. refl) }
+module _ {rules plan map : List (List ℕ)} {p m : ℕ} {sets : List ℕ} {before : List (List ℕ)} where
+  module _ {now : List (List ℕ)} {s ks : ℕ} (w : CutsWalk rules plan map p m sets before now s ks) where
+    abbrev q : Joins rules plan map p m sets before
+    q = w.joins
 
-  module _ {now : List (List ℕ)} {s ks : ℕ} (w : CutsWalk rules plan map p m before now s ks) where
-    pub cuts_end : ks ≡ 0 → GrownAs (row_at map p m) (count_in rules) (λ A. only (wanted plan m) A (cuts_sum rules plan map before p m A)) before now s
+    abbrev part : ℕ → ℕ → ℕ
+    part k A = cut_sum rules map before p m A k
+
+    pub cuts_end : members ks ≡ [] → GrownAs (row_at map p m) (count_in rules) (λ A. only (wanted plan m) A (cuts_sum rules plan map before p m A)) before now s
     cuts_end e = parts_end (wanted plan m) part ks w.parts e
 
-    module _ (k : ℕ) (first : members ks ≡ k ∷ drop 1 (members ks)) where
+    module _ (k next : ℕ) (t : members ks ≡ k ∷ members next) where
       pub cut_is : (k < 32) × (member (cuts plan m) k ≡ true)
-      cut_is = members_∈ (cuts plan m) k (w.among k (rw first (Memᴰ.head refl)))
+      cut_is = members_∈ (cuts plan m) k (w.among k (rw t (Memᴰ.head refl)))
 
       left : Half map (row_at map p m) p k sets before
       left = q.left k cut_is.0 cut_is.1
@@ -149,8 +152,8 @@ module _ {rules plan map : List (List ℕ)} {p m : ℕ} {sets : List ℕ} {befor
       fits : (A : ℕ) → A < count_in rules → entry now (row_at map p m) A + only (wanted plan m) A (cut_sum rules map now p m A k) ≤ most
       fits A h =
           rw (same A)
-          (parts_fits (wanted plan m) part ks w.parts k first A h
-          (omega (arith, clear A (omega (arith, q.makes.table.few)), q.fits A h)))
+          (parts_fits (wanted plan m) part ks w.parts k next t A h
+          (omega (arith, w.clear A (omega (arith, q.makes.table.few)), q.fits A h)))
 
       asks : AddsSplit rules plan (wanted plan m) (row_at map p m) (row_at map p k) (row_at map (p + k) (m - k)) sets now
       asks = record {
@@ -171,13 +174,14 @@ module _ {rules plan map : List (List ℕ)} {p m : ℕ} {sets : List ℕ} {befor
         apart = (left.apart, right.apart);
       }
 
-      step : {after : List (List ℕ)} {s' s'' : ℕ} (next : ℕ) → members next ≡ drop 1 (members ks)
-          → GrownAs (row_at map p m) (count_in rules) (λ A. only (wanted plan m) A (cut_sum rules map now p m A k)) now after s'
-          → ((i : ℕ) → member s'' i ≡ (member s i || member s' i)) → CutsWalk rules plan map p m before after s'' next
-      step next rest g u = record {
-        among = λ i j. w.among i (rw first (Memᴰ.tail (rw rest at j)));
+      step : {after : List (List ℕ)} {s' s'' : ℕ} → GrownAs (row_at map p m) (count_in rules) (λ A. only (wanted plan m) A (cut_sum rules map now p m A k)) now after s'
+          → ((i : ℕ) → member s'' i ≡ (member s i || member s' i)) → CutsWalk rules plan map p m sets before after s'' next
+      step g u = record {
+        joins = q;
+        clear = w.clear;
+        among = λ i j. w.among i (rw t (Memᴰ.tail j));
         parts =
-            parts_step (wanted plan m) part ks w.parts k first next rest (grown_ext (λ A h. rw (same A)) g) u;
+            parts_step (wanted plan m) part ks w.parts k next t (grown_ext (λ A h. rw (same A)) g) u;
       }
 
       -- the rows as they were read from the map
@@ -185,7 +189,6 @@ module _ {rules plan map : List (List ℕ)} {p m : ℕ} {sets : List ℕ} {befor
         pub cut_asks : AddsSplit rules plan (wanted plan m) row x y sets now
         cut_asks = rw (e, ex, ey) asks
 
-        pub cut_step : {after : List (List ℕ)} {s' s'' : ℕ} (next : ℕ) → members next ≡ drop 1 (members ks)
-            → GrownAs row (count_in rules) (λ A. only (wanted plan m) A (pair_sum rules (entry now x) (entry now y) A)) now after s'
-            → ((i : ℕ) → member s'' i ≡ (member s i || member s' i)) → CutsWalk rules plan map p m before after s'' next
-        cut_step next rest g u = step next rest (rw (e, ex, ey) at g) u
+        pub cut_step : {after : List (List ℕ)} {s' s'' : ℕ} → GrownAs row (count_in rules) (λ A. only (wanted plan m) A (pair_sum rules (entry now x) (entry now y) A)) now after s'
+            → ((i : ℕ) → member s'' i ≡ (member s i || member s' i)) → CutsWalk rules plan map p m sets before after s'' next
+        cut_step g u = step (rw (e, ex, ey) at g) u

@@ -1,6 +1,6 @@
 -- A row of sets, one store after another, and the turns of the loops that gather pair rules, wanted nonterminals and left lengths.
 -- Assumes nothing.
-use mathlib.Core.Path.{◌≡◌, refl, sym, ◌∙◌}
+use mathlib.Core.Path.{◌≡◌, refl, ◌∙◌}
 use mathlib.Core.Bool.{true, ◌||◌}
 use mathlib.Core.Logic.{inl, inr}
 use mathlib.Core.List.{List, []}
@@ -15,7 +15,7 @@ use Rattle.lists.specs.Inner.Tables.{entry}
 use Rattle.sets.specs.Inner.Sets.{member, members}
 use Rattle.sets.proofs.Loops.{with_more, with_new, with_only, none_member}
 use Rattle.grammar.specs.Inner.Rules.{left_at, right_at, count_in}
-use Rattle.charts.specs.Inner.Planning.{at, Sides, SidedAs, WantedAs, AllWantedAs, CutAs, AllCutAs}
+use Rattle.charts.specs.Inner.Planning.{at, Sides, WantedAs, CutAs, AllCutAs}
 
 -- ---- a row of sets
 
@@ -25,15 +25,6 @@ module _ (row : List ℕ) (long : length row ≡ 32) (i x : ℕ) (low : i < 32) 
 
   pub stored_same : at (set row i x) i ≡ x
   stored_same = get_or-set_same row i x 0 (omega arith)
-
-  -- what holds of each set below i, and of the one stored at i
-  pub stored_each : (P : ℕ → ℕ → Type 0) → ((j : ℕ) → 1 ≤ j → j ≤ i - 1 → P j (at row j)) → P i x
-      → (j : ℕ) → 1 ≤ j → j ≤ i + 1 - 1 → P j (at (set row i x) j)
-  stored_each P before here j h l =
-      elim (ℕ_discrete j i) [
-        | yes e ↦ rw (e, stored_same) here
-        | no n ↦ rw (get_or-set_other row i j x 0 n) (before j h (omega arith))
-      ]
 
   -- no member is lost where the set stored has those that stood there
   pub stored_more : ((a : ℕ) → member (at row i) a ≡ true → member x a ≡ true) → (j a : ℕ) → member (at row j) a ≡ true → member (at (set row i x) j) a ≡ true
@@ -46,33 +37,12 @@ module _ (row : List ℕ) (long : length row ≡ 32) (i x : ℕ) (low : i < 32) 
 -- ---- pair rules
 
 -- places and nonterminals are small
-pub sides_low : {rules : List (List ℕ)} {end : ℕ} {row : List ℕ} → Sides rules end row → (i : ℕ) → i < end
-    → (i < 256) × (left_at rules i < 32) × (right_at rules i < 32)
-sides_low {rules} s i h =
+pub sides_low : {rules : List (List ℕ)} {end : ℕ} {row : List ℕ} → Sides rules end row → {i : ℕ} → i < end → (i < 256) × (left_at rules i < 32) × (right_at rules i < 32)
+sides_low {rules} s {i} h =
     let l = s.table.pair_low (count_in rules) (omega arith) in
     let f = s.table.few in
     let e = s.all in
     (omega arith, omega (arith, s.table.lefts i (omega arith)), omega (arith, s.table.rights i (omega arith)))
-
-pub sided_start : {rules : List (List ℕ)} {row : List ℕ} {lefts rights : ℕ} → length row ≡ 32 → SidedAs rules 0 row lefts rights
-sided_start long =
-    record { long = long; pair = λ i h. absurd (omega arith); left = λ i h. absurd (omega arith); right = λ i h. absurd (omega arith) }
-
-module _ {rules : List (List ℕ)} {i : ℕ} {row : List ℕ} {lefts rights : ℕ} (s : SidedAs rules i row lefts rights)
-    (b c : ℕ) (eb : b ≡ left_at rules i) (ec : c ≡ right_at rules i) (low : b < 32) (x : ℕ)
-    (wx : (d : ℕ) → member x d ≡ (member (at row b) d || eqb c d))
-    (lefts' : ℕ) (wl : (d : ℕ) → member lefts' d ≡ (member lefts d || eqb b d))
-    (rights' : ℕ) (wr : (d : ℕ) → member rights' d ≡ (member rights d || eqb c d)) where
-  pub sided_turn : SidedAs rules (i + 1) (set row b x) lefts' rights'
-  sided_turn =
-      record {
-        long = stored_long row s.long b x low;
-        pair = below_more (λ j. member (at (set row b x) (left_at rules j)) (right_at rules j) ≡ true) i
-            (λ j h. stored_more row s.long b x low (λ a t. with_more (at row b) c x wx a t) (left_at rules j) (right_at rules j) (s.pair j h))
-            (rw (← eb, stored_same row s.long b x low) (with_new (at row b) c x wx (right_at rules i) (sym ec)));
-        left = below_more (λ j. member lefts' (left_at rules j) ≡ true) i (λ j h. with_more lefts b lefts' wl (left_at rules j) (s.left j h)) (with_new lefts b lefts' wl (left_at rules i) (sym eb));
-        right = below_more (λ j. member rights' (right_at rules j) ≡ true) i (λ j h. with_more rights c rights' wr (right_at rules j) (s.right j h)) (with_new rights c rights' wr (right_at rules i) (sym ec));
-      }
 
 -- ---- wanted nonterminals
 
@@ -97,14 +67,6 @@ module _ {totals : List (List ℕ)} {a m s : ℕ} (w : WantedAs totals a m s) wh
         has = below_more (λ A. 1 ≤ entry totals m A → member s A ≡ true) a (λ A h t. w.has A h t) (λ t. absurd (omega arith));
         only = w.only;
       }
-
-pub wanted_start : {totals : List (List ℕ)} {N : ℕ} {row : List ℕ} → length row ≡ 32 → AllWantedAs totals N (1 - 1) row
-wanted_start long = record { long = long; each = λ m h l. absurd (omega arith) }
-
-pub wanted_turn : {totals : List (List ℕ)} {N m : ℕ} {row : List ℕ} {x : ℕ} → m < 32 → AllWantedAs totals N (m - 1) row → WantedAs totals N m x
-    → AllWantedAs totals N (m + 1 - 1) (set row m x)
-wanted_turn {totals} {N} {m} {row} {x} low w h =
-    record { long = stored_long row w.long m x low; each = stored_each row w.long m x low (λ j s. WantedAs totals N j s) w.each h }
 
 -- ---- left lengths
 
@@ -149,14 +111,6 @@ cuts_end w e =
       has = λ B C j some less a b c d. w.has j (omega arith) B C some a b c d;
       only = λ j u t. let q = w.only j u t in (q.0, omega (arith, q.1));
     }
-
-pub cutting_start : {wanted : List ℕ} {lefts rights : ℕ} {row : List ℕ} → length row ≡ 32 → AllCutAs wanted lefts rights (1 - 1) row
-cutting_start long = record { long = long; each = λ m h l. absurd (omega arith) }
-
-pub cutting_turn : {wanted : List ℕ} {lefts rights m : ℕ} {row : List ℕ} {x : ℕ} → m < 32 → AllCutAs wanted lefts rights (m - 1) row
-    → CutAs wanted lefts rights m x → AllCutAs wanted lefts rights (m + 1 - 1) (set row m x)
-cutting_turn {wanted} {lefts} {rights} {m} {row} {x} low w h =
-    record { long = stored_long row w.long m x low; each = stored_each row w.long m x low (λ j s. CutAs wanted lefts rights j s) w.each h }
 
 -- the row's first place, which no length has, is free for the plan's own length
 pub cutting_length : {wanted : List ℕ} {lefts rights n : ℕ} {row : List ℕ} → AllCutAs wanted lefts rights n row → (x : ℕ) → AllCutAs wanted lefts rights n (set row 0 x)

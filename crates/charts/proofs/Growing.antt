@@ -9,14 +9,13 @@ use native.Mathlib.Omega.{arith}
 use native.Mathlib.Decide.{ℕ_discrete}
 use borrow.Author.Tests.{eq-eqb, ne_eqb}
 use lib.Dec.{eqb}
-use lib.ListN.{length, get_or, set, length-set, drop}
+use lib.ListN.{length, get_or, set, length-set}
 use Rattle.lists.specs.Inner.Tables.{entry, put, Wide}
 use Rattle.lists.proofs.Tests.{or_left, or_right, cond_none}
 use Rattle.lists.proofs.Tables.{put_same, put_row, put_beside, wide_put}
 use Rattle.lists.specs.Joined.{sum_over, up_from}
 use Rattle.sets.specs.Inner.Sets.{member, members}
 use Rattle.sets.proofs.Lists.{sum_members}
-use Rattle.sets.proofs.Loops.{over}
 use Rattle.counting.specs.Refusals.{most}
 use Rattle.charts.specs.Inner.Filling.{Growing, GrownAs, only}
 
@@ -112,20 +111,18 @@ module _ {row count : ℕ} {f : ℕ → ℕ} (w : ℕ) (part : ℕ → ℕ → �
       growing_start wide (λ A h. ap (λ (x : ℕ). only w A x) (sum_members left (λ i. part i A) (z A h)) ∙ e A h)
 
   module _ {now : List (List ℕ)} {s : ℕ} (left : ℕ) (g : Parts row count f w part before now s left) where
-    pub parts_end : left ≡ 0 → GrownAs row count f before now s
-    parts_end e = growing_end g (λ A h. cond_none (member w A) (sum_over (λ i. part i A) (members left)) (ap (λ (l : List ℕ). sum_over (λ i. part i A) l) (over left e)))
+    pub parts_end : members left ≡ [] → GrownAs row count f before now s
+    parts_end e = growing_end g (λ A h. cond_none (member w A) (sum_over (λ i. part i A) (members left)) (ap (λ (l : List ℕ). sum_over (λ i. part i A) l) e))
 
-    module _ (i : ℕ) (first : members left ≡ i ∷ drop 1 (members left)) where
-      splits : (A : ℕ) → only w A (sum_over (λ i. part i A) (members left)) ≡ only w A (part i A) + only w A (sum_over (λ i. part i A) (drop 1 (members left)))
+    module _ (i next : ℕ) (t : members left ≡ i ∷ members next) where
+      splits : (A : ℕ) → only w A (sum_over (λ i. part i A) (members left)) ≡ only w A (part i A) + only w A (sum_over (λ i. part i A) (members next))
       splits A =
-          ap (λ (l : List ℕ). only w A (sum_over (λ i. part i A) l)) first
-          ∙ only_plus w A (part i A) (sum_over (λ i. part i A) (drop 1 (members left)))
+          ap (λ (l : List ℕ). only w A (sum_over (λ i. part i A) l)) t
+          ∙ only_plus w A (part i A) (sum_over (λ i. part i A) (members next))
 
       pub parts_fits : (A : ℕ) → A < count → entry before row A + f A ≤ most → entry now row A + only w A (part i A) ≤ most
       parts_fits A h m = growing_fits g A (only w A (part i A)) h (omega (arith, splits A)) m
 
-      pub parts_step : {after : List (List ℕ)} {s' s'' : ℕ} (next : ℕ) → members next ≡ drop 1 (members left)
-          → GrownAs row count (λ A. only w A (part i A)) now after s' → ((b : ℕ) → member s'' b ≡ (member s b || member s' b))
+      pub parts_step : {after : List (List ℕ)} {s' s'' : ℕ} → GrownAs row count (λ A. only w A (part i A)) now after s' → ((b : ℕ) → member s'' b ≡ (member s b || member s' b))
           → Parts row count f w part before after s'' next
-      parts_step next rest q m =
-          growing_more g q (λ A h. splits A ∙ ap (λ (l : List ℕ). only w A (part i A) + only w A (sum_over (λ i. part i A) l)) (sym rest)) m
+      parts_step q m = growing_more g q (λ A h. splits A) m

@@ -1,13 +1,12 @@
--- A row made from zeros: of a single position by its letter, of a longer span cut after cut; and a set stored beside it.
+-- A row made from zeros: of a single position by its letter, of a longer span cut after cut.
 -- Assumes nothing.
 use mathlib.Core.Path.{◌≡◌, refl, sym, ap, ◌∙◌}
 use mathlib.Core.List.{List}
 use Prim.Native.Nat.{ℕ, ◌≤◌, ◌<◌}
 use native.Mathlib.Omega.{arith}
-use borrow.Author.Tests.{ne_eqb, eq-eqb}
+use borrow.Author.Tests.{ne_eqb}
 use lib.Dec.{eqb}
 use lib.ListN.{length, get_or, set, replicate, length-set, get_or-replicate}
-use lib.Seq.{get_or-set_same, get_or-set_other}
 use Rattle.lists.specs.Searched.{bit}
 use Rattle.lists.specs.Inner.Tables.{entry, Wide}
 use Rattle.lists.proofs.Sums.{sum_ext, sum_one}
@@ -17,8 +16,7 @@ use Rattle.grammar.proofs.Ruling.{word_count_lem}
 use Rattle.counting.specs.Inner.Letters.{any, weighed}
 use Rattle.charts.specs.Inner.Letters.{letter_at, weight_by}
 use Rattle.charts.specs.Inner.Maps.{row_at}
-use Rattle.charts.specs.Inner.Filling.{Clears, word_count, word_times, leaf_sum, GrownAs, Clear, MadeAs, Makes, only, cuts_sum, span_sum, Joins, Spans, SpannedAs}
-use Rattle.charts.specs.Inner.Plan.{wanted}
+use Rattle.charts.specs.Inner.Filling.{word_count, word_times, leaf_sum, GrownAs, Clear, MadeAs, Makes}
 
 abbrev pub zeros : List ℕ
 zeros = replicate 32 0
@@ -48,9 +46,6 @@ made_ext e g = record { long = g.long; wide = g.wide; here = λ A u. g.here A u 
 -- ---- a single position
 
 module _ {rules map : List (List ℕ)} {p old : ℕ} {before : List (List ℕ)} (q : Makes rules map p 1 old before) where
-  pub leaf_clears : (row : ℕ) → row ≡ row_at map p 1 → Clears old row before
-  leaf_clears row e = rw e (record { wide = q.wide; inside = q.inside; zero = q.zero })
-
   pub leaf_low : (letter_at map p ≡ any → ⊥) → letter_at map p < 256
   leaf_low n = omega (arith, q.letter)
 
@@ -58,9 +53,6 @@ module _ {rules map : List (List ℕ)} {p old : ℕ} {before : List (List ℕ)} 
   module _ (row : ℕ) (e : row ≡ row_at map p 1) {now : List (List ℕ)} (z : now ≡ set before row zeros) where
     inside : row < length before
     inside = omega (arith, q.inside)
-
-    pub leaf_long : length now ≡ length before
-    leaf_long = ap length z ∙ length-set before row zeros
 
     pub leaf_clear : Clear rules now row
     leaf_clear =
@@ -99,33 +91,3 @@ module _ {rules map : List (List ℕ)} {p old : ℕ} {before : List (List ℕ)} 
 
         all : (A : ℕ) → A < count_in rules → word_times rules (letter_at map p) A ≡ leaf_sum rules map p A
         all A h = sum_ext (λ w. bit (eqb (letter_at map p) w)) (weight_by rules map p) (words_in rules A) (λ w m. one w)
-
-module _ {rules plan map : List (List ℕ)} {p m : ℕ} {sets : List ℕ} {before : List (List ℕ)} (q : Spans rules plan map p m sets before) where
-  -- a set is stored beside the row
-  stored : (row : ℕ) → row ≡ row_at map p m → {after : List (List ℕ)} {s : ℕ}
-      → MadeAs (row_at map p m) (count_in rules) (span_sum rules plan map before p m) before after s
-      → SpannedAs rules plan map p m sets before (set sets row s) after
-  stored row e {after} {s} d =
-      let is : get_or (set sets row s) (row_at map p m) 0 ≡ s = rw e (get_or-set_same sets (row_at map p m) s 0 q.beside) in
-      record {
-        made = rw is d;
-        long = length-set sets row s;
-        others = λ r n. get_or-set_other sets row r s 0 (λ z. n (z ∙ e));
-      }
-
-  module _ (one : m ≡ 1) where
-    pub span_leaf_asks : (row : ℕ) → row ≡ row_at map p m → Makes rules map p 1 (get_or sets row 0) before
-    span_leaf_asks row e = rw (e, one) (rw one at q.makes)
-
-    pub span_leaf : (row : ℕ) → row ≡ row_at map p m → {after : List (List ℕ)} {s : ℕ}
-        → MadeAs (row_at map p 1) (count_in rules) (leaf_sum rules map p) before after s → SpannedAs rules plan map p m sets before (set sets row s) after
-    span_leaf row e {after} {s} d = stored row e (made_ext (λ A h. sym (rw (eq-eqb m 1 one))) (rw (← one) at d))
-
-  module _ (more : m ≡ 1 → ⊥) where
-    pub span_cuts_asks : Joins rules plan map p m sets before
-    span_cuts_asks = q.joins (omega (arith, q.makes.some, more))
-
-    pub span_cuts : (row : ℕ) → row ≡ row_at map p m → {after : List (List ℕ)} {s : ℕ}
-        → MadeAs (row_at map p m) (count_in rules) (λ A. only (wanted plan m) A (cuts_sum rules plan map before p m A)) before after s
-        → SpannedAs rules plan map p m sets before (set sets row s) after
-    span_cuts row e d = stored row e (made_ext (λ A h. sym (rw (ne_eqb m 1 more))) d)

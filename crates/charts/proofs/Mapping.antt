@@ -2,17 +2,16 @@
 -- the same at all of them; the spans that a plan needs are closed under halving.
 -- Assumes nothing.
 use mathlib.Core.Path.{◌≡◌, refl, sym, ap, ◌∙◌}
-use mathlib.Core.Bool.{Bool, true, false, ◌&&◌}
-use mathlib.Core.List.{List, []}
+use mathlib.Core.Bool.{Bool, true}
+use mathlib.Core.List.{List, [], ◌∷◌}
 use Prim.Native.Nat.{ℕ, zero, suc, ◌+◌, ◌≤◌, ◌<◌}
 use native.Mathlib.Omega.{arith}
 use native.Mathlib.Decide.{ℕ_discrete}
-use borrow.Author.Count.{below_more}
 use borrow.Author.Tests.{eq-eqb, ne_eqb}
-use lib.ListN.{length, get_or, set, drop, length-set, length-drop, get_or-replicate, drop_of_length-le}
+use lib.ListN.{length, get_or, drop, length-drop, get_or-replicate}
 use lib.Seq.{drop-cons, get_or-drop}
-use Rattle.lists.specs.Inner.Tables.{entry, put, Wide}
-use Rattle.lists.proofs.Tables.{put_same, put_row, put_beside, wide_put}
+use Rattle.std.specs.List.{list_all, zip}
+use Rattle.lists.specs.Inner.Tables.{entry, Wide}
 use Rattle.grammar.specs.Inner.Rules.{ruled}
 use Rattle.counting.specs.Totals.{total, total_by}
 use Rattle.counting.specs.Inner.Counted.{Asked, Tallied, Counted}
@@ -22,7 +21,7 @@ use Rattle.counting.proofs.Asking.{counted_rows, counted_kept}
 use Rattle.charts.specs.Inner.Chart.{Blank, Beside, Clean, Filled}
 use Rattle.counting.specs.Inner.Letters.{any, by_letter}
 use Rattle.charts.specs.Inner.Letters.{letter_at, weight_by, letter_of, admits, stands}
-use Rattle.charts.specs.Inner.Maps.{row_at, total_at, Span, Closed, Mapped, ByLength, Everywhere, rows_from, map_by, counts_map, LetteredAs}
+use Rattle.charts.specs.Inner.Maps.{row_at, total_at, Span, Closed, Mapped, ByLength, Everywhere, rows_from, map_by, counts_map}
 use Rattle.charts.specs.Inner.Plan.{needed, none_row, chart_row, end_of, Planned}
 
 -- ---- maps by length alone
@@ -53,29 +52,6 @@ pub record LetteredTo (blank : ℕ) (words : List ℕ) (k : ℕ) (before after :
   pub bytes : (p : ℕ) → p < k → get_or words p 0 < 256
   pub kept : (r : ℕ) → 1 ≤ r → get_or after r [] ≡ get_or before r []
 
-module _ {blank : ℕ} {words : List ℕ} where
-  pub lettered_start : {map : List (List ℕ)} → length map ≡ 17 → Wide map 16 → LetteredTo blank words 0 map map
-  lettered_start long wide =
-      record { long = long; wide = wide; letters = λ p h. absurd (omega arith); bytes = λ p h. absurd (omega arith); kept = λ r h. refl }
-
-  pub lettered_turn : {k x : ℕ} {before map : List (List ℕ)} → LetteredTo blank words k before map → k < 16 → x ≡ letter_of blank (get_or words k 0)
-      → get_or words k 0 < 256 → LetteredTo blank words (k + 1) before (put map 0 k x)
-  lettered_turn {k} {x} {before} {map} w low is byte =
-      let first : 0 < length map = omega (arith, w.long) in
-      let here : letter_at (put map 0 k x) k ≡ x = put_same map 0 k x first (omega (arith, w.wide.row 0 first)) in
-      record {
-        long = length-set map 0 (set (get_or map 0 []) k x) ∙ w.long;
-        wide = wide_put map 16 0 k x w.wide;
-        letters = below_more (λ p. letter_at (put map 0 k x) p ≡ letter_of blank (get_or words p 0)) k
-            (λ p h. put_beside map 0 k x p first (λ e. omega arith) ∙ w.letters p h) (here ∙ is);
-        bytes = below_more (λ p. get_or words p 0 < 256) k w.bytes byte;
-        kept = λ r h. put_row map 0 k x r (λ e. omega arith) ∙ w.kept r h;
-      }
-
-  pub lettered_end : {k : ℕ} {before after : List (List ℕ)} → LetteredTo blank words k before after → k ≡ length words → LetteredAs blank words before after
-  lettered_end w e =
-      record { long = w.long; wide = w.wide; letters = λ p h. w.letters p (omega arith); bytes = λ p h. w.bytes p (omega arith); kept = w.kept }
-
 -- a byte's letter asks for a word or for any; where no byte is a blank, for that word
 pub letter_low : (blank x : ℕ) → x < 256 → letter_of blank x ≤ any
 letter_low blank x h =
@@ -89,23 +65,17 @@ letter_itself x h = rw (ne_eqb x any (λ e. omega arith))
 
 -- ---- words that stand, one after another
 
-module _ (map : List (List ℕ)) where
-  pub stands_end : (p : ℕ) (s : List ℕ) → length s ≤ p → stands map p (drop p s) ≡ true
-  stands_end p s h = ap (stands map p) (drop_of_length-le s h)
-
-  -- the word at p
-  step : (p : ℕ) (s : List ℕ) → p < length s
-      → stands map p (drop p s) ≡ (admits (letter_at map p) (get_or s p 0) && stands map (suc p) (drop (suc p) s))
-  step p s h = ap (stands map p) (drop-cons s p 0 h)
-
-  -- a word that stands, and one that doesn't
-  pub stands_more : (p : ℕ) (s : List ℕ) → p < length s → admits (letter_at map p) (get_or s p 0) ≡ true
-      → stands map (suc p) (drop (suc p) s) ≡ stands map p (drop p s)
-  stands_more p s h e = sym (step p s h ∙ rw e)
-
-  pub stands_fails : (p : ℕ) (s : List ℕ) → p < length s → admits (letter_at map p) (get_or s p 0) ≡ false
-      → stands map p (drop p s) ≡ false
-  stands_fails p s h e = step p s h ∙ rw e
+-- the sentence stands if each word is one that the letter beside it asks for
+pub stands_zip : (map : List (List ℕ)) (p : ℕ) (u : List ℕ) → p + length u ≤ length (get_or map 0 [])
+    → list_all (λ (e : ℕ × ℕ). admits e.0 e.1) (zip (drop p (get_or map 0 [])) u) ≡ stands map p u
+stands_zip map p [] h = none (drop p (get_or map 0 []))
+  where
+    none : (l : List ℕ) → list_all (λ (e : ℕ × ℕ). admits e.0 e.1) (zip l []) ≡ true
+    none [] = refl
+    none (x ∷ l) = refl
+stands_zip map p (w ∷ u) h =
+    let e : _ = drop-cons (get_or map 0 []) p 0 (omega arith) in
+    rw (e, stands_zip map (suc p) u (omega arith))
 
 -- ---- totals by length alone
 

@@ -1,16 +1,13 @@
 -- Rows of spans, length after length: those of a length begin where those of the shorter ones end.
 -- So every span has a row of its own.
 -- Assumes nothing.
-use mathlib.Core.Path.{◌≡◌, refl, sym, ap, ◌∙◌}
+use mathlib.Core.Path.{◌≡◌, sym, ap, ◌∙◌}
 use mathlib.Core.Bool.{Bool, true, false, cond}
 use mathlib.Core.List.{List, []}
 use Prim.Native.Nat.{ℕ, zero, suc, ◌+◌, ◌-◌, ◌≤◌, ◌<◌}
 use native.Mathlib.Omega.{arith}
-use borrow.Author.Count.{below_more}
 use native.Mathlib.Decide.{ℕ_discrete, dec_lt}
 use lib.ListN.{length, get_or, set, length-set}
-use lib.Seq.{get_or-set_same, get_or-set_other}
-use Rattle.lists.specs.Inner.Tables.{Wide}
 use Rattle.lists.proofs.Tables.{row_same, row_other, wide_row}
 use Rattle.sets.specs.Inner.Sets.{member}
 use Rattle.charts.specs.Inner.Maps.{row_at, Span}
@@ -35,9 +32,6 @@ room_low n h = omega (arith, spans_le n 16 h)
 -- ---- where the rows of a length begin
 
 module _ (first n : ℕ) where
-  pub base_first : base_of first n 1 ≡ first
-  base_first = let e : n + 1 - 1 ≡ n = omega arith in rw e (omega arith)
-
   pub base_next : (m : ℕ) → 1 ≤ m → m ≤ n → base_of first n (m + 1) ≡ base_of first n m + (n - m + 1)
   base_next m h l =
       let e : n + 1 - m ≡ suc (n - m) = omega arith in
@@ -68,19 +62,7 @@ module _ (first n : ℕ) where
 pub rows_start : {spots base : ℕ} {row : List ℕ} → length row ≡ 16 → RowAs spots base 0 row
 rows_start long = record { long = long; each = λ p h. absurd (omega arith) }
 
-pub rows_turn : {spots base p x : ℕ} {row : List ℕ} → RowAs spots base p row → p < 16 → x ≡ row_from spots base p → RowAs spots base (p + 1) (set row p x)
-rows_turn {spots} {base} {p} {x} {row} r low e =
-    record {
-      long = length-set row p x ∙ r.long;
-      each = below_more (λ q. get_or (set row p x) q 0 ≡ row_from spots base q) p
-          (λ q h. get_or-set_other row p q x 0 (λ z. omega arith) ∙ r.each q h)
-          (get_or-set_same row p x 0 (omega (arith, r.long)) ∙ e);
-    }
-
 -- ---- all rows
-
-pub placed_start : {spots : List ℕ} {first n : ℕ} {map : List (List ℕ)} → length map ≡ 17 → Wide map 16 → PlacedAs spots first n 1 map map
-placed_start long wide = record { long = long; wide = wide; letters = refl; each = λ p j h l. absurd (omega arith) }
 
 pub placed_turn : {spots : List ℕ} {first n m base : ℕ} {before map : List (List ℕ)} {row : List ℕ} → PlacedAs spots first n m before map → 1 ≤ m → m ≤ n → n ≤ 16
     → base ≡ base_of first n m → RowAs (at spots m) base (n - m + 1) row → PlacedAs spots first n (m + 1) before (set map m row)

@@ -15,7 +15,7 @@ use lib.Seq.{get_or-set_other}
 use Rattle.sets.specs.Inner.Sets.{member, members}
 use Rattle.sets.proofs.Digits.{member_none}
 use Rattle.sets.proofs.Lists.{members_∈}
-use Rattle.sets.proofs.Loops.{turn_among, turn_out, with_new, with_only, either_left, either_right, either_cases, moved_there, moved_back, none_member}
+use Rattle.sets.proofs.Loops.{turn_among, turn_out, with_new, with_only, either_left, either_right, either_cases, moved_there, moved_back, none_member, none_out}
 use Rattle.charts.specs.Inner.Planning.{at, Halves, Inside, Spreads, SpreadAs, Spots, SpottedAs}
 use Rattle.charts.proofs.Gathering.{stored_long, stored_same, stored_more}
 
@@ -44,21 +44,10 @@ pub record Spreading (s m left : ℕ) (before row : List ℕ) : Type 0 where
   pub rest : (k : ℕ) → k < 32 → member left k ≡ true → member s k ≡ true
   pub kept : (n : ℕ) → m ≤ n → n ≤ 16 → Inside n before → Inside n row
 
-pub spreading_start : (s m : ℕ) (row : List ℕ) → length row ≡ 32 → Spreading s m s row row
-spreading_start s m row long =
-    record {
-      long = long;
-      more = λ p j t. t;
-      same = λ j h. refl;
-      done = λ p k l u t f h. absurd (false≢true (sym f ∙ t));
-      rest = λ k l t. t;
-      kept = λ n h l w. w;
-    }
-
 -- the lowest left length lies inside
-pub lowest_within : {s m left : ℕ} {before row : List ℕ} → Spreads s m before → Spreading s m left before row → (k : ℕ) → k < 32
-    → member left k ≡ true → (1 ≤ k) × (k < m)
-lowest_within a w k h t = a.within k h (w.rest k h t)
+pub lowest_within : {s m left : ℕ} {before row : List ℕ} → Spreads s m before → Spreading s m left before row → {k : ℕ} {l : List ℕ} → members left ≡ k ∷ l
+    → (1 ≤ k) × (k < m)
+lowest_within {left = left} a w {k} t = let h = members_∈ left k (rw t (Memᴰ.head refl)) in a.within k h.0 (w.rest k h.0 h.1)
 
 module _ {s m left : ℕ} {before row : List ℕ} (a : Spreads s m before) (w : Spreading s m left before row)
     (k next : ℕ) (t : members left ≡ k ∷ members next)
@@ -69,7 +58,7 @@ module _ {s m left : ℕ} {before row : List ℕ} (a : Spreads s m before) (w : 
   low = members_∈ left k (rw t (Memᴰ.head refl))
 
   within : (1 ≤ k) × (k < m)
-  within = lowest_within a w k low.0 low.1
+  within = lowest_within a w t
 
   abbrev one : List ℕ
   one = set row k x
@@ -130,13 +119,13 @@ module _ {s m left : ℕ} {before row : List ℕ} (a : Spreads s m before) (w : 
             ]);
       }
 
-pub spreading_end : {s m left : ℕ} {before row : List ℕ} → Spreading s m left before row → left ≡ 0 → SpreadAs s m before row
+pub spreading_end : {s m left : ℕ} {before row : List ℕ} → Spreading s m left before row → members left ≡ [] → SpreadAs s m before row
 spreading_end {left = left} w e =
     record {
       long = w.long;
       more = w.more;
       same = w.same;
-      halves = λ p k l u c h. w.done p k l u c (rw e (member_none k)) h;
+      halves = λ p k l u c h. w.done p k l u c (none_out left k e u) h;
       kept = w.kept;
     }
 
@@ -159,26 +148,15 @@ module _ {cuts : List ℕ} {n : ℕ} {row : List ℕ} (a : Spots cuts n row) whe
             ]);
       }
 
--- the spans of m positions are as they should be for their halves to be added
-pub spotted_spreads : {cuts : List ℕ} {n : ℕ} {first row : List ℕ} {least m : ℕ} → Spots cuts n first → SpottedAs cuts n least row → 1 ≤ m → m ≤ n
-    → Spreads (at cuts m) m row
-spotted_spreads {m = m} a w h l =
-    record {
-      long = w.long;
-      short = omega (arith, a.short);
-      within = λ k u t. a.within m k u h l t;
-      low = λ p u t. omega (arith, w.inside.inside p m u h l t, a.short);
-    }
-
-pub spotted_turn : {cuts : List ℕ} {n : ℕ} {first row after : List ℕ} {m : ℕ} → Spots cuts n first → SpottedAs cuts n (m + 1) row → m ≤ n
-    → SpreadAs (at cuts m) m row after → SpottedAs cuts n m after
+pub spotted_turn : {cuts : List ℕ} {n : ℕ} {first row after : List ℕ} {m : ℕ} → Spots cuts n first → SpottedAs cuts n m row → m - 1 ≤ n
+    → SpreadAs (at cuts (m - 1)) (m - 1) row after → SpottedAs cuts n (m - 1) after
 spotted_turn {m = m} a w l s =
     record {
       long = s.long;
       whole = s.more 0 _ w.whole;
       halves = λ p j k h u i v c t.
-          elim (ℕ_discrete j m) [
-            | yes e ↦ rw e (s.halves p k i v (rw e at c) (rw (e, s.same m (omega arith)) at t))
+          elim (ℕ_discrete j (m - 1)) [
+            | yes e ↦ rw e (s.halves p k i v (rw e at c) (rw (e, s.same (m - 1) (omega arith)) at t))
             | no d ↦
                 let q = w.halves p j k (omega arith) u i v c (rw (s.same j h) at t) in
                 (s.more p k q.0, s.more (p + k) (j - k) q.1)
@@ -187,7 +165,7 @@ spotted_turn {m = m} a w l s =
     }
 
 -- spans of one position have no halves
-pub spotted_end : {cuts : List ℕ} {n : ℕ} {first row : List ℕ} {m : ℕ} → Spots cuts n first → SpottedAs cuts n (m + 1) row → m ≡ 1 → SpottedAs cuts n 1 row
+pub spotted_end : {cuts : List ℕ} {n : ℕ} {first row : List ℕ} {m : ℕ} → Spots cuts n first → SpottedAs cuts n m row → m ≤ 2 → SpottedAs cuts n 1 row
 spotted_end a w e =
     record {
       long = w.long;

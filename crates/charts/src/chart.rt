@@ -41,14 +41,12 @@ fn add_words(rules: &[[u8; 256]], row: usize, totals: &mut [[u64; 32]]) -> u32
 {
     let count = rules::count(rules);
     let mut set = sets::none();
-    let mut a = 0;
-    while a < count {
+    for a in 0..count {
         let words = rules::words_from(rules, a + 1) - rules::words_from(rules, a);
         if words != 0 {
             totals[row][a] = words as u64;
             set = sets::with(set, a);
         }
-        a += 1;
     }
     set
 }
@@ -67,26 +65,6 @@ fn add_word(rules: &[[u8; 256]], x: usize, row: usize, totals: &mut [[u64; 32]])
         l = rules::link_at(rules, rules::NEXT_WORD, l);
     }
     set
-}
-
-// The row of the position p; it is 0 outside `old`.
-fn fill_leaf(
-    rules: &[[u8; 256]],
-    map: &[[u16; 16]; 17],
-    p: usize,
-    old: u32,
-    totals: &mut [[u64; 32]],
-) -> u32
-    requires { Makes rules.now map.now p 1 old totals.old }
-    ensures { MadeAs (row_at map.now p 1) (count_in rules.now) (leaf_sum rules.now map.now p) totals.old totals.new result }
-{
-    let row = maps::row_at(map, p, 1);
-    clear(old, row, totals);
-    let x = map[maps::LETTERS][p];
-    if x == letters::ANY {
-        return add_words(rules, row, totals);
-    }
-    add_word(rules, x as usize, row, totals)
 }
 
 // ---- two positions or more
@@ -129,127 +107,108 @@ fn add_pair(
     set
 }
 
-// What those with the left nonterminal b add; the right row is 0 outside `rights`.
-fn add_left(
-    rules: &[[u8; 256]],
-    plan: &[[u32; 32]; 4],
-    wanted: u32,
-    s: Split,
-    b: usize,
-    rights: u32,
-    totals: &mut [[u64; 32]],
-) -> u32
-    requires { AddsLeft rules.now plan.now wanted s.row s.left s.right b rights totals.old }
-    ensures { GrownAs s.row (count_in rules.now) (λ A. only wanted A (side_sum rules.now (entry totals.old s.left b) (entry totals.old s.right) b A)) totals.old totals.new result }
-{
-    let mut set = sets::none();
-    let mut cs = sets::both(rights, plan[PARTNERS][b]);
-    while cs != 0 {
-        let c = sets::lowest(cs);
-        set = sets::either(set, add_pair(rules, wanted, s, b, c, totals));
-        cs = sets::after_lowest(cs);
-    }
-    set
+// ---- rows by the spans
+
+// What filling reads.
+#[derive(Clone, Copy)]
+struct Sources<'a> {
+    rules: &'a [[u8; 256]],
+    plan: &'a [[u32; 32]; 4],
+    map: &'a [[u16; 16]; 17],
 }
 
-// What all pair rules add.
-fn add_split(
-    rules: &[[u8; 256]],
-    plan: &[[u32; 32]; 4],
-    wanted: u32,
-    s: Split,
-    sets: &[u32],
-    totals: &mut [[u64; 32]],
-) -> u32
-    requires { AddsSplit rules.now plan.now wanted s.row s.left s.right sets.now totals.old }
-    ensures { GrownAs s.row (count_in rules.now) (λ A. only wanted A (pair_sum rules.now (entry totals.old s.left) (entry totals.old s.right) A)) totals.old totals.new result }
-{
-    let left = s.left;
-    let right = s.right;
-    let rights = sets[right];
-    let mut set = sets::none();
-    let mut bs = sets[left];
-    while bs != 0 {
-        let b = sets::lowest(bs);
-        set = sets::either(set, add_left(rules, plan, wanted, s, b, rights, totals));
-        bs = sets::after_lowest(bs);
+impl<'a> Sources<'a> {
+    // The row of the position p; it is 0 outside `old`.
+    fn fill_leaf(&self, p: usize, old: u32, totals: &mut [[u64; 32]]) -> u32
+        requires { Makes self.now.rules.now self.now.map.now p 1 old totals.old }
+        ensures { MadeAs (row_at self.now.map.now p 1) (count_in self.now.rules.now) (leaf_sum self.now.rules.now self.now.map.now p) totals.old totals.new result }
+    {
+        let row = maps::row_at(self.map, p, 1);
+        clear(old, row, totals);
+        let x = self.map[maps::LETTERS][p];
+        if x == letters::ANY {
+            return add_words(self.rules, row, totals);
+        }
+        add_word(self.rules, x as usize, row, totals)
     }
-    set
-}
 
-// The row of the m positions from p on, cut after cut.
-fn fill_cuts(
-    rules: &[[u8; 256]],
-    plan: &[[u32; 32]; 4],
-    map: &[[u16; 16]; 17],
-    p: usize,
-    m: usize,
-    sets: &[u32],
-    totals: &mut [[u64; 32]],
-) -> u32
-    requires { Joins rules.now plan.now map.now p m sets.now totals.old }
-    ensures { MadeAs (row_at map.now p m) (count_in rules.now) (λ A. only (wanted plan.now m) A (cuts_sum rules.now plan.now map.now totals.old p m A)) totals.old totals.new result }
-{
-    let row = maps::row_at(map, p, m);
-    clear(sets[row], row, totals);
-    let wanted = plan[WANTED][m];
-    let mut set = sets::none();
-    let mut ks = plan[CUTS][m];
-    while ks != 0 {
-        let k = sets::lowest(ks);
-        let s = Split {
-            row: row,
-            left: maps::row_at(map, p, k),
-            right: maps::row_at(map, p + k, m - k),
-        };
-        set = sets::either(set, add_split(rules, plan, wanted, s, sets, totals));
-        ks = sets::after_lowest(ks);
+    // What those with the left nonterminal b add; the right row is 0 outside `rights`.
+    fn add_left(
+        &self,
+        wanted: u32,
+        s: Split,
+        b: usize,
+        rights: u32,
+        totals: &mut [[u64; 32]],
+    ) -> u32
+        requires { AddsLeft self.now.rules.now self.now.plan.now wanted s.row s.left s.right b rights totals.old }
+        ensures { GrownAs s.row (count_in self.now.rules.now) (λ A. only wanted A (side_sum self.now.rules.now (entry totals.old s.left b) (entry totals.old s.right) b A)) totals.old totals.new result }
+    {
+        let mut set = sets::none();
+        for c in sets::each(sets::both(rights, self.plan[PARTNERS][b])) {
+            set = sets::either(set, add_pair(self.rules, wanted, s, b, c, totals));
+        }
+        set
     }
-    set
+
+    // What all pair rules add.
+    fn add_split(&self, wanted: u32, s: Split, sets: &[u32], totals: &mut [[u64; 32]]) -> u32
+        requires { AddsSplit self.now.rules.now self.now.plan.now wanted s.row s.left s.right sets.now totals.old }
+        ensures { GrownAs s.row (count_in self.now.rules.now) (λ A. only wanted A (pair_sum self.now.rules.now (entry totals.old s.left) (entry totals.old s.right) A)) totals.old totals.new result }
+    {
+        let rights = sets[s.right];
+        let mut set = sets::none();
+        for b in sets::each(sets[s.left]) {
+            set = sets::either(set, self.add_left(wanted, s, b, rights, totals));
+        }
+        set
+    }
+
+    // The row of the m positions from p on, cut after cut.
+    fn fill_cuts(&self, p: usize, m: usize, sets: &[u32], totals: &mut [[u64; 32]]) -> u32
+        requires { Joins self.now.rules.now self.now.plan.now self.now.map.now p m sets.now totals.old }
+        ensures { MadeAs (row_at self.now.map.now p m) (count_in self.now.rules.now) (λ A. only (wanted self.now.plan.now m) A (cuts_sum self.now.rules.now self.now.plan.now self.now.map.now totals.old p m A)) totals.old totals.new result }
+    {
+        let row = maps::row_at(self.map, p, m);
+        clear(sets[row], row, totals);
+        let wanted = self.plan[WANTED][m];
+        let mut set = sets::none();
+        for k in sets::each(self.plan[CUTS][m]) {
+            let s = Split {
+                row,
+                left: maps::row_at(self.map, p, k),
+                right: maps::row_at(self.map, p + k, m - k),
+            };
+            set = sets::either(set, self.add_split(wanted, s, sets, totals));
+        }
+        set
+    }
+
+    // The row of a span, and its set.
+    fn fill_span(&self, p: usize, m: usize, sets: &mut [u32], totals: &mut [[u64; 32]])
+        requires { Spans self.now.rules.now self.now.plan.now self.now.map.now p m sets.old totals.old }
+        ensures { SpannedAs self.now.rules.now self.now.plan.now self.now.map.now p m sets.old totals.old sets.new totals.new }
+    {
+        let row = maps::row_at(self.map, p, m);
+        if m == 1 {
+            sets[row] = self.fill_leaf(p, sets[row], totals);
+            return;
+        }
+        sets[row] = self.fill_cuts(p, m, &sets[..], totals);
+    }
+
+    // The rows of the needed spans of m positions.
+    fn fill_length(&self, m: usize, sets: &mut [u32], totals: &mut [[u64; 32]])
+        requires { (first n : ℕ) × Lengthens self.now.rules.now self.now.plan.now self.now.map.now first n m sets.old totals.old }
+        ensures { (first n : ℕ) → Lengthens self.now.rules.now self.now.plan.now self.now.map.now first n m sets.old totals.old → LengthenedAs self.now.rules.now self.now.plan.now self.now.map.now first n m 0 sets.old totals.old sets.new totals.new }
+    {
+        for p in sets::each(self.plan[SPOTS][m]) {
+            self.fill_span(p, m, sets, totals);
+        }
+    }
 }
 
 // ---- all
-
-// The row of a span, and its set.
-fn fill_span(
-    rules: &[[u8; 256]],
-    plan: &[[u32; 32]; 4],
-    map: &[[u16; 16]; 17],
-    p: usize,
-    m: usize,
-    sets: &mut [u32],
-    totals: &mut [[u64; 32]],
-)
-    requires { Spans rules.now plan.now map.now p m sets.old totals.old }
-    ensures { SpannedAs rules.now plan.now map.now p m sets.old totals.old sets.new totals.new }
-{
-    let row = maps::row_at(map, p, m);
-    if m == 1 {
-        sets[row] = fill_leaf(rules, map, p, sets[row], totals);
-        return;
-    }
-    sets[row] = fill_cuts(rules, plan, map, p, m, &sets[..], totals);
-}
-
-// The rows of the needed spans of m positions.
-fn fill_length(
-    rules: &[[u8; 256]],
-    plan: &[[u32; 32]; 4],
-    map: &[[u16; 16]; 17],
-    m: usize,
-    sets: &mut [u32],
-    totals: &mut [[u64; 32]],
-)
-    requires { (first n : ℕ) × Lengthens rules.now plan.now map.now first n m sets.old totals.old }
-    ensures { (first n : ℕ) → Lengthens rules.now plan.now map.now first n m sets.old totals.old → LengthenedAs rules.now plan.now map.now first n m 0 sets.old totals.old sets.new totals.new }
-{
-    let mut left = plan[SPOTS][m];
-    while left != 0 {
-        let p = sets::lowest(left);
-        fill_span(rules, plan, map, p, m, sets, totals);
-        left = sets::after_lowest(left);
-    }
-}
 
 // The chart of the map's letters, shorter spans first. The sets are those that the chart before left, if any.
 pub fn fill(
@@ -262,10 +221,8 @@ pub fn fill(
     requires { (first : ℕ) × Fills rules.now plan.now map.now first (length_in plan.now) sets.old totals.old }
     ensures { (first : ℕ) → Fills rules.now plan.now map.now first (length_in plan.now) sets.old totals.old → ChartedAs rules.now plan.now map.now first (length_in plan.now) totals.old sets.new totals.new }
 {
-    let n = plan::length(plan);
-    let mut m = 1;
-    while m <= n {
-        fill_length(rules, plan, map, m, sets, totals);
-        m += 1;
+    let sources = Sources { rules, plan, map };
+    for m in 1..plan::length(plan) + 1 {
+        sources.fill_length(m, sets, totals);
     }
 }

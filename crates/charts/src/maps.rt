@@ -31,25 +31,19 @@ pub const BY_WEIGHT: [[u16; 16]; 17] = [
     [27; 16], [28; 16], [29; 16], [30; 16], [31; 16], [32; 16], [33; 16], [34; 16],
 ];
 
-fn long(x: u16) -> usize
-    ensures { result ≡ x }
-{
-    x as usize
-}
-
 // The row of the m positions from p on.
 pub fn row_at(map: &[[u16; 16]; 17], p: usize, m: usize) -> usize
     requires { (p < 16) × (m ≤ 16) }
     ensures { result ≡ row_at map.now p m }
 {
-    long(map[m][p])
+    usize::from(map[m][p])
 }
 
 // The letter of a byte.
 fn letter(x: u8, blank: u16) -> u16
     ensures { result ≡ letter_of blank x }
 {
-    let word = x as u16;
+    let word = u16::from(x);
     if word == blank { ANY } else { word }
 }
 
@@ -58,10 +52,8 @@ pub fn set_letters(words: &[u8], blank: u16, map: &mut [[u16; 16]; 17])
     requires { (length words.now ≤ 16) × (length map.old ≡ 17) × Wide map.old 16 }
     ensures { LetteredAs blank words.now map.old map.new }
 {
-    let mut p = 0;
-    while p < words.len() {
-        map[LETTERS][p] = letter(words[p], blank);
-        p += 1;
+    for (p, w) in words.iter().enumerate() {
+        map[LETTERS][p] = letter(*w, blank);
     }
 }
 
@@ -69,10 +61,7 @@ pub fn set_letters(words: &[u8], blank: u16, map: &mut [[u16; 16]; 17])
 fn admits(letter: u16, w: u8) -> bool
     ensures { result ≡ admits letter w }
 {
-    if ANY <= letter {
-        return true;
-    }
-    letter == w as u16
+    ANY <= letter || letter == u16::from(w)
 }
 
 // Whether each word is one that the letter at its position asks for. The map of the counts, whose row of a single word is none of a chart, asks for any.
@@ -80,15 +69,9 @@ pub fn fits(map: &[[u16; 16]; 17], sentence: &[u8]) -> bool
     requires { Fitted map.now sentence.now }
     ensures { result ≡ stands map.now 0 sentence.now }
 {
-    if row_at(map, 0, 1) < NONE {
-        return true;
-    }
-    let mut p = 0;
-    while p < sentence.len() {
-        if !admits(map[LETTERS][p], sentence[p]) {
-            return false;
-        }
-        p += 1;
-    }
-    true
+    row_at(map, 0, 1) < NONE
+        || map[LETTERS]
+            .iter()
+            .zip(sentence)
+            .all(|(l, w)| admits(*l, *w))
 }

@@ -21,12 +21,6 @@ pub const WANTED: usize = 2;
 
 pub const PARTNERS: usize = 3;
 
-fn long(x: u32) -> usize
-    ensures { result ≡ x }
-{
-    x as usize
-}
-
 // The nonterminals that stand left in pair rules, and right.
 #[derive(Clone, Copy)]
 struct PairSides {
@@ -35,20 +29,19 @@ struct PairSides {
 }
 
 // The right nonterminals of each left one, from the first `end` pair rules.
+#[tactic(auto, using(crate::proofs::Gathering::sides_low))]
 fn link(rules: &[[u8; 256]], end: usize, partners: &mut [u32; 32]) -> PairSides
     requires { Sides rules.now end partners.old }
     ensures { SidedAs rules.now end partners.new result.lefts result.rights }
 {
     let mut lefts = sets::none();
     let mut rights = sets::none();
-    let mut i = 0;
-    while i < end {
+    for i in 0..end {
         let b = rules::left_at(rules, i);
         let c = rules::right_at(rules, i);
         partners[b] = sets::with(partners[b], c);
         lefts = sets::with(lefts, b);
         rights = sets::with(rights, c);
-        i += 1;
     }
     PairSides { lefts, rights }
 }
@@ -59,12 +52,10 @@ fn wanted_at(totals: &[[u64; 32]], count: usize, m: usize) -> u32
     ensures { WantedAs totals.now count m result }
 {
     let mut s = sets::none();
-    let mut a = 0;
-    while a < count {
+    for a in 0..count {
         if totals[m][a] != 0 {
             s = sets::with(s, a);
         }
-        a += 1;
     }
     s
 }
@@ -73,10 +64,8 @@ fn want(totals: &[[u64; 32]], count: usize, n: usize, wanted: &mut [u32; 32])
     requires { (count ≤ 32) × (n ≤ 16) × (17 ≤ length totals.now) × (length wanted.old ≡ 32) }
     ensures { AllWantedAs totals.now count n wanted.new }
 {
-    let mut m = 1;
-    while m <= n {
+    for m in 1..n + 1 {
         wanted[m] = wanted_at(totals, count, m);
-        m += 1;
     }
 }
 
@@ -93,14 +82,10 @@ fn cuts_at(wanted: &[u32; 32], lefts: u32, rights: u32, m: usize) -> u32
     ensures { CutAs wanted.now lefts rights m result }
 {
     let mut s = sets::none();
-    let mut k = 1;
-    while k < m {
-        if meets(wanted[k], lefts) {
-            if meets(wanted[m - k], rights) {
-                s = sets::with(s, k);
-            }
+    for k in 1..m {
+        if meets(wanted[k], lefts) && meets(wanted[m - k], rights) {
+            s = sets::with(s, k);
         }
-        k += 1;
     }
     s
 }
@@ -109,10 +94,8 @@ fn cut(wanted: &[u32; 32], lefts: u32, rights: u32, n: usize, cuts: &mut [u32; 3
     requires { (n ≤ 16) × (length cuts.old ≡ 32) }
     ensures { AllCutAs wanted.now lefts rights n cuts.new }
 {
-    let mut m = 1;
-    while m <= n {
+    for m in 1..n + 1 {
         cuts[m] = cuts_at(wanted, lefts, rights, m);
-        m += 1;
     }
 }
 
@@ -122,12 +105,9 @@ fn spread(cuts: u32, m: usize, spots: &mut [u32; 32])
     ensures { SpreadAs cuts m spots.old spots.new }
 {
     let here = spots[m];
-    let mut left = cuts;
-    while left != 0 {
-        let k = sets::lowest(left);
+    for k in sets::each(cuts) {
         spots[k] = sets::either(spots[k], here);
         spots[m - k] = sets::either(spots[m - k], sets::moved(here, k));
-        left = sets::after_lowest(left);
     }
 }
 
@@ -137,10 +117,8 @@ fn spot(cuts: &[u32; 32], n: usize, spots: &mut [u32; 32])
     ensures { SpottedAs cuts.now n 1 spots.new }
 {
     spots[n] = sets::with(sets::none(), 0);
-    let mut m = n;
-    while 1 < m {
+    for m in (2..n + 1).rev() {
         spread(cuts[m], m, spots);
-        m -= 1;
     }
 }
 
@@ -150,19 +128,18 @@ fn row_from(spots: u32, base: usize, p: usize) -> u16
     ensures { result ≡ row_from spots base p }
 {
     if sets::has(spots, p) {
-        return (base + p) as u16;
+        (base + p) as u16
+    } else {
+        NONE as u16
     }
-    NONE as u16
 }
 
 fn row(spots: u32, base: usize, end: usize, row: &mut [u16; 16])
     requires { (base ≤ 290) × (end ≤ 16) × (length row.old ≡ 16) }
     ensures { RowAs spots base end row.new }
 {
-    let mut p = 0;
-    while p < end {
+    for p in 0..end {
         row[p] = row_from(spots, base, p);
-        p += 1;
     }
 }
 
@@ -173,13 +150,11 @@ fn place(spots: &[u32; 32], n: usize, first: usize, map: &mut [[u16; 16]; 17])
 {
     let mut rows = [0u16; 16];
     let mut base = first;
-    let mut m = 1;
-    while m <= n {
+    for m in 1..n + 1 {
         let end = n - m + 1;
         row(spots[m], base, end, &mut rows);
         map[m] = rows;
         base += end;
-        m += 1;
     }
 }
 
@@ -187,7 +162,7 @@ fn place(spots: &[u32; 32], n: usize, first: usize, map: &mut [[u16; 16]; 17])
 pub fn length(plan: &[[u32; 32]; 4]) -> usize
     ensures { result ≡ length_in plan.now }
 {
-    long(plan[CUTS][LENGTH])
+    plan[CUTS][LENGTH] as usize
 }
 
 pub fn build(

@@ -1,7 +1,7 @@
 -- Counts beside totals. Where each word counts for something, no count is above its total: by induction on the length. And the two parts of a table that
 -- hold them, when one of them is written and the other stays.
 -- Assumes nothing.
-use mathlib.Core.Path.{◌≡◌, refl, sym, ap, ◌∙◌}
+use mathlib.Core.Path.{◌≡◌, refl, ap, ◌∙◌, sym}
 use mathlib.Core.Bool.{Bool, true, false, false≢true}
 use mathlib.Core.List.{List, [], ◌∷◌, ◌++◌, append-nil}
 use Prim.Native.Nat.{ℕ, zero, suc, ◌+◌, ◌-◌, ◌≤◌, ◌<◌}
@@ -13,23 +13,19 @@ use borrow.Rule.Slice.PartMut.{put_mid, post_of, same_len_mid, take_put, drop_pu
 use Rattle.lists.specs.Joined.{◌∈◌, up_from}
 use Rattle.lists.specs.Inner.Tables.{put}
 use Rattle.lists.proofs.Members.{up_from_∈}
-use Rattle.lists.proofs.Sums.{sum_le}
+use Rattle.lists.proofs.Sums.{sum_le, sum_none}
+use Rattle.lists.proofs.Places.{get_or_same}
 use Rattle.sets.specs.Inner.Sets.{members}
 use Rattle.grammar.specs.Chains.{words_of, pairs_of}
-use Rattle.grammar.specs.Inner.Rules.{left_at, right_at, pair_from, count_in, pairs_in, ruled, Ruled}
+use Rattle.grammar.specs.Inner.Rules.{words_in, left_at, right_at, pair_from, count_in, pairs_in, ruled, Ruled}
 use Rattle.grammar.proofs.Ruling.{words_ruled, pairs_ruled, pair_inside}
 use Rattle.counting.specs.Totals.{total_by}
 use Rattle.counting.specs.Refusals.{most}
 use Rattle.counting.specs.Inner.Counted.{count_at, longest_at}
 use Rattle.counting.specs.Inner.Letters.{weighed, by_letter}
 use Rattle.counting.specs.Inner.Needs.{needs_at, MemberOf, FoundAs}
-use Rattle.counting.specs.Inner.Filling.{TalliedAs, BothAs, EachCounts, Beside, BesideAs, part_sum, Below, HalvesBeside, Deriving, DerivingBeside, longer, stored, PlacedAs, RowFilling, RowTo, RowFilledAs, Filling, FilledAs}
-use Rattle.counting.specs.declared.tallies.Tally.{Tally}
-use Rattle.counting.specs.declared.tallies.Tally.TheVariants as says
-use Rattle.counting.specs.declared.tallies.Both.{Both}
-use Rattle.counting.specs.declared.tallies.Both.TheVariants.{Fit, Over}
-use Rattle.counting.proofs.Totals.{product_at, pair_total, by_one, by_more, total_none}
-use Rattle.counting.proofs.PairSums.{says_fits, says_over, both_fit, both_over, halves_asked}
+use Rattle.counting.specs.Inner.Filling.{no_counts, Beside, BesideAs, part_sum, Below, HalvesBeside, Deriving, DerivingBeside, longer, stored, PlacedAs, RowFilling, RowTo, RowFilledAs, Filling, FilledAs}
+use Rattle.counting.proofs.Totals.{product_at, pair_total, left_none, by_one, by_more, total_none}
 use Rattle.counting.proofs.Filling.{Summing, summing_start, listed, summing_added, summing_past, summing_end, row_start, row_asks, row_over, row_step, row_end, Rising, rising_start, rising_asks, rising_over, rising_step, rising_end}
 
 -- the first row begins a table of its own: no counts are beside it
@@ -39,40 +35,40 @@ alone letter weights own = record { weights = weights; own = own; counts = λ z.
 
 -- ---- no count is above its total
 
-module _ {rules : List (List ℕ)} {u : ℕ → ℕ} (t : Ruled rules) (each : EachCounts rules u) where
-  less_below : (n A m : ℕ) → m < n → A < count_in rules → total_by (ruled rules) (λ w. 1) A m ≤ total_by (ruled rules) u A m
+module _ {rules : List (List ℕ)} {u v : ℕ → ℕ} (t : Ruled rules) (less : (A w : ℕ) → A < count_in rules → w ∈ words_in rules A → v w ≤ u w) where
+  less_below : (n A m : ℕ) → m < n → A < count_in rules → total_by (ruled rules) v A m ≤ total_by (ruled rules) u A m
   less_below zero A m l h = absurd (omega arith)
-  less_below (suc n) A zero l h = omega (arith, total_none (ruled rules) (λ p w. 1) 0 A)
+  less_below (suc n) A zero l h = omega (arith, total_none (ruled rules) (λ p w. v w) 0 A)
   less_below (suc n) A (suc zero) l h =
       omega (
         arith,
-        by_one (ruled rules) (λ w. 1) A,
+        by_one (ruled rules) v A,
         by_one (ruled rules) u A,
-        sum_le (λ w. 1) u (words_of (ruled rules A)) (λ w i. each A w h (rw (words_ruled rules A) at i)),
+        sum_le v u (words_of (ruled rules A)) (λ w i. less A w h (rw (words_ruled rules A) at i)),
       )
   less_below (suc n) A (suc (suc m)) l h =
       let m₂ = suc (suc m) in
       omega (
         arith,
-        by_more (ruled rules) (λ w. 1) A m₂ (omega arith),
+        by_more (ruled rules) v A m₂ (omega arith),
         by_more (ruled rules) u A m₂ (omega arith),
-        sum_le (pair_total (λ p. total_by (ruled rules) (λ w. 1)) 0 m₂) (pair_total (λ p. total_by (ruled rules) u) 0 m₂) (pairs_of (ruled rules A))
+        sum_le (pair_total (λ p. total_by (ruled rules) v) 0 m₂) (pair_total (λ p. total_by (ruled rules) u) 0 m₂) (pairs_of (ruled rules A))
             (λ x i. let inside = pair_inside t A x h (rw (pairs_ruled rules A) at i) in
-            sum_le (product_at (λ p. total_by (ruled rules) (λ w. 1)) x.0 x.1 0 m₂) (product_at (λ p. total_by (ruled rules) u) x.0 x.1 0 m₂) (up_from 1 (m₂ - 1))
+            sum_le (product_at (λ p. total_by (ruled rules) v) x.0 x.1 0 m₂) (product_at (λ p. total_by (ruled rules) u) x.0 x.1 0 m₂) (up_from 1 (m₂ - 1))
             (λ k j. let q = up_from_∈ 1 (m₂ - 1) j in
             mul-le-mul (less_below n x.0 k (omega arith) inside.0) (less_below n x.1 (m₂ - k) (omega arith) inside.1))),
       )
 
-  pub count_less : (A m : ℕ) → A < count_in rules → total_by (ruled rules) (λ w. 1) A m ≤ total_by (ruled rules) u A m
+  pub count_less : (A m : ℕ) → A < count_in rules → total_by (ruled rules) v A m ≤ total_by (ruled rules) u A m
   count_less A m h = less_below (suc m) A m (omega arith) h
 
   -- nor in the two tables
-  table_less : {totals counts : List (List ℕ)} {m X : ℕ} → X < count_in rules → Below rules u totals m X → Below rules (λ w. 1) counts m X
+  table_less : {totals counts : List (List ℕ)} {m X : ℕ} → X < count_in rules → Below rules u totals m X → Below rules v counts m X
       → (k : ℕ) → 1 ≤ k → k < m → count_at counts X k ≤ count_at totals X k
   table_less {X = X} h b c k l r = omega (arith, b.right k l r, c.right k l r, count_less X k h)
 
 -- so a pair rule's sums can be added beside each other
-beside_asked : {rules totals counts : List (List ℕ)} {u : ℕ → ℕ} {m a B C before counted : ℕ} → DerivingBeside rules u totals counts m a → (B, C) ∈ pairs_in rules a
+beside_asked : {rules totals counts : List (List ℕ)} {u v : ℕ → ℕ} {m a B C before counted : ℕ} → DerivingBeside rules u v totals counts m a → (B, C) ∈ pairs_in rules a
     → counted ≤ before → HalvesBeside totals counts B C m before counted
 beside_asked {a = a} {B} {C} d i l =
     let t = d.own.table in
@@ -80,43 +76,78 @@ beside_asked {a = a} {B} {C} d i l =
     let own = d.own.halves (B, C) i in
     let beside = d.beside.halves (B, C) i in
     record {
-      halves = halves_asked d.own i (omega (arith, d.own.some));
       long = d.beside.long;
-      left = table_less t d.each inside.0 own.0 beside.0;
-      right = table_less t d.each inside.1 own.1 beside.1;
+      left = table_less t d.less inside.0 own.0 beside.0;
+      right = table_less t d.less inside.1 own.1 beside.1;
       less = l;
     }
 
 -- ---- the loop over a nonterminal's pair rules
 
 -- before the pair rule at i of the table: each sum so far with what is due, that of the counts no more than the other
-pub record SummingBeside (rules : List (List ℕ)) (u : ℕ → ℕ) (a m i total count : ℕ) : Type 0 where
+pub record SummingBeside (rules : List (List ℕ)) (u v : ℕ → ℕ) (a m i total count : ℕ) : Type 0 where
   pub own : Summing rules u a m i total
-  pub beside : Summing rules (λ w. 1) a m i count
+  pub beside : Summing rules v a m i count
   pub less : count ≤ total
 
-module _ {rules totals counts : List (List ℕ)} {u : ℕ → ℕ} {m a : ℕ} (d : DerivingBeside rules u totals counts m a) (more : 2 ≤ m) where
-  pub beside_start : {i : ℕ} → i ≡ pair_from rules a → SummingBeside rules u a m i 0 0
+module _ {rules totals counts : List (List ℕ)} {u v : ℕ → ℕ} {m a : ℕ} (d : DerivingBeside rules u v totals counts m a) (more : 2 ≤ m) where
+  pub beside_start : {i : ℕ} → i ≡ pair_from rules a → SummingBeside rules u v a m i 0 0
   beside_start e = record { own = summing_start d.own more e; beside = summing_start d.beside more e; less = omega arith }
 
-  module _ {i total count : ℕ} (w : SummingBeside rules u a m i total count) where
-    pub beside_end : pair_from rules (a + 1) ≤ i → (total ≡ total_by (ruled rules) u a m) × (count ≡ total_by (ruled rules) (λ w. 1) a m) × (count ≤ total)
+  module _ {i total count : ℕ} (w : SummingBeside rules u v a m i total count) where
+    pub beside_end : pair_from rules (a + 1) ≤ i → (total ≡ total_by (ruled rules) u a m) × (count ≡ total_by (ruled rules) v a m) × (count ≤ total)
     beside_end l = (summing_end d.own more w.own l, summing_end d.beside more w.beside l, w.less)
 
     module _ (l : i < pair_from rules (a + 1)) {B C : ℕ} (e_b : B ≡ left_at rules i) (e_c : C ≡ right_at rules i) where
       pub beside_asks : HalvesBeside totals counts B C m total count
       beside_asks = beside_asked d (listed d.own more w.own l e_b e_c) w.less
 
-      abbrev AddedAs : Both → Type 0
-      AddedAs = BothAs (total + part_sum (count_at totals) B C m (m - 1)) (count + part_sum (count_at counts) B C m (m - 1))
+      pub beside_step : {x c : ℕ} → x ≡ total + part_sum (count_at totals) B C m (m - 1) → c ≡ count + part_sum (count_at counts) B C m (m - 1) → c ≤ x → SummingBeside rules u v a m (i + 1) x c
+      beside_step e f g = record { own = summing_added d.own more w.own l e_b e_c e; beside = summing_added d.beside more w.beside l e_b e_c f; less = g }
 
-      pub beside_step : {v c : ℕ} {r : Both} → r ≡ Fit v c → AddedAs r → SummingBeside rules u a m (i + 1) v c
-      beside_step e f =
-          let q = both_fit e f in
-          record { own = summing_added d.own more w.own l e_b e_c q.0; beside = summing_added d.beside more w.beside l e_b e_c q.1; less = q.2 }
+      pub beside_past : most < total + part_sum (count_at totals) B C m (m - 1) → most < total_by (ruled rules) u a m
+      beside_past f = summing_past d.own more w.own l e_b e_c f
 
-      pub beside_over : {r : Both} → r ≡ Over → AddedAs r → most < total_by (ruled rules) u a m
-      beside_over e f = summing_past d.own more w.own l e_b e_c (both_over _ e f)
+-- ---- nothing counted beside
+
+none_here : (A m : ℕ) → count_at no_counts A m ≡ 0
+none_here A m = ap (λ (r : List ℕ). get_or r A 0) (get_or_same 17 m [])
+
+pub none_beside : {totals : List (List ℕ)} {B C m before : ℕ} → HalvesBeside totals no_counts B C m before 0
+none_beside {B = B} {C} = record {
+  long = omega arith;
+  left = λ k l u. omega (arith, none_here B k);
+  right = λ k l u. omega (arith, none_here C k);
+  less = omega arith;
+}
+
+module _ (rules : List (List ℕ)) where
+  none_below : (n A m : ℕ) → m < n → total_by (ruled rules) (λ w. 0) A m ≡ 0
+  none_below zero A m l = absurd (omega arith)
+  none_below (suc n) A zero l = total_none (ruled rules) (λ p w. 0) 0 A
+  none_below (suc n) A (suc zero) l = by_one (ruled rules) (λ w. 0) A ∙ sum_none (λ w. 0) (words_of (ruled rules A)) (λ w i. refl)
+  none_below (suc n) A (suc (suc m)) l =
+      let m₂ = suc (suc m) in
+      by_more (ruled rules) (λ w. 0) A m₂ (omega arith)
+      ∙ sum_none (pair_total (λ p. total_by (ruled rules) (λ w. 0)) 0 m₂) (pairs_of (ruled rules A))
+      (λ x i. sum_none (product_at (λ p. total_by (ruled rules) (λ w. 0)) x.0 x.1 0 m₂) (up_from 1 (m₂ - 1))
+      (λ k j. let q = up_from_∈ 1 (m₂ - 1) j in
+      left_none (λ p. total_by (ruled rules) (λ w. 0)) x.0 x.1 0 m₂ k (none_below n x.0 k (omega arith))))
+
+none_asked : {rules : List (List ℕ)} {m X : ℕ} → X < 32 → Below rules (λ w. 0) no_counts m X
+none_asked {rules} {m} {X} h = record {
+  inside = h;
+  right = λ k l r. none_here X k ∙ sym (none_below rules (suc k) X k (omega arith));
+  longest = λ k l r o. none_below rules (suc k) X k (omega arith);
+}
+
+alone_asks : {rules totals : List (List ℕ)} {u : ℕ → ℕ} {m a : ℕ} → Deriving rules u totals m a → DerivingBeside rules u (λ w. 0) totals no_counts m a
+alone_asks d =
+    record {
+      own = d;
+      beside = record { table = d.table; some = d.some; short = d.short; inside = d.inside; long = omega arith; halves = λ x i. let h = d.halves x i in (none_asked h.0.inside, none_asked h.1.inside) };
+      less = λ A w h i. omega arith;
+    }
 
 -- ---- the two parts of a table
 
@@ -173,34 +204,13 @@ module _ (at : ℕ) (whole : List (List ℕ)) (a m v c : ℕ) (low : 17 ≤ at) 
         put_ahead at half half_within ahead l ∙ ahead_stored,
       )
 
-placed : {rules : List (List ℕ)} {u : ℕ → ℕ} {before after : List (List ℕ)} {m a v : ℕ} → v ≤ most → v ≡ total_by (ruled rules) u a m → after ≡ stored before a m v
-    → PlacedAs rules u before after m a true
-placed l e s = record { here = λ _. (omega (arith, e), rw (← e) s); over = λ z. absurd (false≢true (sym z)) }
-
-unplaced : {rules : List (List ℕ)} {u : ℕ → ℕ} {before : List (List ℕ)} {m a : ℕ} → most < total_by (ruled rules) u a m → PlacedAs rules u before before m a false
-unplaced l = record { here = λ z. absurd (false≢true z); over = λ _. (l, refl) }
-
 module _ {rules totals : List (List ℕ)} {letter at m a : ℕ} (b : Beside rules letter at (λ u t. Deriving rules u t m a) totals) where
   abbrev u : ℕ → ℕ
   u = by_letter rules letter
 
-  abbrev DoneAs : (after : List (List ℕ)) → Bool → Type 0
-  DoneAs after fits = BesideAs rules letter at (λ u b t. PlacedAs rules u b t m a) totals after fits
-
-  -- a total that doesn't fit
-  past_most : most < total_by (ruled rules) u a m → DoneAs totals false
-  past_most l = record { own = unplaced l; counts = λ n z. absurd (false≢true z) }
-
   -- without counts
-  module _ (e : at ≡ 0) where
-    pub place_asks : Deriving rules u totals m a × (letter ≡ weighed → 14 ≤ length rules)
-    place_asks = (rw e at b.own, b.weights)
-
-    pub place_over : {t : Tally} → t ≡ says.Over → TalliedAs (total_by (ruled rules) u a m) t → DoneAs totals false
-    place_over z f = past_most (says_over z f)
-
-    pub place_fits : {after : List (List ℕ)} {v : ℕ} {t : Tally} → v ≤ most → t ≡ says.Fits v → TalliedAs (total_by (ruled rules) u a m) t → after ≡ stored totals a m v → DoneAs after true
-    place_fits l z f s = record { own = rw e (placed l (says_fits z f) s); counts = λ n. absurd (n e) }
+  pub place_asks : at ≡ 0 → DerivingBeside rules u (λ w. 0) totals no_counts m a × (letter ≡ weighed → 14 ≤ length rules)
+  place_asks e = (alone_asks (rw e at b.own), b.weights)
 
   -- with them
   module _ (n : at ≡ 0 → ⊥) where
@@ -209,26 +219,12 @@ module _ {rules totals : List (List ℕ)} {letter at m a : ℕ} (b : Beside rule
         let high : at + 17 ≤ length totals = omega (arith, length-drop at totals, b.own.long) in
         (omega (arith, length-take-le at totals (omega arith), (b.counts n).long), high)
 
-    pub place_beside_asks : DerivingBeside rules u (take (length totals - at) (drop at totals)) (take (at - 0) totals) m a × (letter ≡ weighed → 14 ≤ length rules)
+    pub place_beside_asks : DerivingBeside rules u (λ w. 1) (take (length totals - at) (drop at totals)) (take (at - 0) totals) m a × (letter ≡ weighed → 14 ≤ length rules)
     place_beside_asks =
         let h : at ≤ length totals = omega (arith, place_within) in
-        (record { own = rw (behind_is at totals h) b.own; beside = rw (ahead_is at totals h) (b.counts n); each = b.each n }, b.weights)
-
-    abbrev FoundBoth : Both → Type 0
-    FoundBoth = BothAs (total_by (ruled rules) u a m) (total_by (ruled rules) (λ w. 1) a m)
-
-    pub place_beside_over : {r : Both} → r ≡ Over → FoundBoth r → DoneAs totals false
-    place_beside_over z f = past_most (both_over _ z f)
-
-    pub place_beside_fit : {after : List (List ℕ)} {v c : ℕ} {r : Both} → v ≤ most → r ≡ Fit v c → FoundBoth r
-        → (drop at after ≡ stored (drop at totals) a m v) × (take at after ≡ stored (take at totals) a m c) → DoneAs after true
-    place_beside_fit l z f s = let q = both_fit z f in record { own = placed l q.0 s.0; counts = λ n z. placed (omega (arith, q.2)) q.1 s.1 }
+        (record { own = rw (behind_is at totals h) b.own; beside = rw (ahead_is at totals h) (b.counts n); less = b.each n }, b.weights)
 
 -- ---- a row and the rows, in both parts
-
--- a table whose part behind keeps its length keeps its own
-same_size : (at : ℕ) (before after : List (List ℕ)) → 17 ≤ length (drop at before) → length (drop at after) ≡ length (drop at before) → length after ≡ length before
-same_size at before after l e = omega (arith, length-drop at before, length-drop at after)
 
 module _ {rules start : List (List ℕ)} {letter at m set : ℕ} (f : Beside rules letter at (λ u t. RowFilling rules u t m set) start) where
   abbrev pub RowsTo : (totals : List (List ℕ)) (left : ℕ) → Type 0
@@ -237,20 +233,14 @@ module _ {rules start : List (List ℕ)} {letter at m set : ℕ} (f : Beside rul
   abbrev pub RowsAs : (totals : List (List ℕ)) → Bool → Type 0
   RowsAs totals fits = BesideAs rules letter at (λ u b t. RowFilledAs rules u b t m set) start totals fits
 
-  pub rows_same : {after : List (List ℕ)} {fits : Bool} → RowsAs after fits → length after ≡ length start
-  rows_same {after} d = same_size at start after f.own.long d.own.kept.long
-
   pub rows_start : RowsTo start set
   rows_start = record { own = row_start f.own; counts = λ n z. row_start (f.counts n) }
 
   module _ {totals : List (List ℕ)} {left : ℕ} (w : RowsTo totals left) where
-    pub rows_size : length totals ≡ length start
-    rows_size = same_size at start totals f.own.long w.own.kept.long
-
-    pub rows_end : left ≡ 0 → RowsAs totals true
+    pub rows_end : members left ≡ [] → RowsAs totals true
     rows_end e = record { own = row_end f.own w.own e; counts = λ n z. row_end (f.counts n) (w.counts n refl) e }
 
-    module _ {a : ℕ} (first : members left ≡ a ∷ drop 1 (members left)) (among : (A : ℕ) → MemberOf left A → MemberOf set A) where
+    module _ {a : ℕ} {rest : List ℕ} (first : members left ≡ a ∷ rest) (among : (A : ℕ) → MemberOf left A → MemberOf set A) where
       pub rows_asks : Beside rules letter at (λ u t. Deriving rules u t m a) totals
       rows_asks = record {
         weights = f.weights;
@@ -265,10 +255,10 @@ module _ {rules start : List (List ℕ)} {letter at m set : ℕ} (f : Beside rul
             let q = p.own.over z in
             record { own = rw q.1 (row_over f.own w.own first among q.0); counts = λ n z. absurd (false≢true z) }
 
-        pub rows_step : fits ≡ true → (next : ℕ) → members next ≡ drop 1 (members left) → RowsTo after next
-        rows_step z next rest = record {
-          own = let q = p.own.here z in row_step f.own w.own first among next rest q.0 q.1;
-          counts = λ n y. let q = (p.counts n z).here refl in row_step (f.counts n) (w.counts n refl) first among next rest q.0 q.1;
+        pub rows_step : fits ≡ true → (next : ℕ) → rest ≡ members next → RowsTo after next
+        rows_step z next e = record {
+          own = let q = p.own.here z in row_step f.own w.own first among next e q.0 q.1;
+          counts = λ n y. let q = (p.counts n z).here refl in row_step (f.counts n) (w.counts n refl) first among next e q.0 q.1;
         }
 
 module _ {rules start : List (List ℕ)} {letter at n : ℕ} (f : Beside rules letter at (λ u t. Filling rules n t) start) where
@@ -277,9 +267,6 @@ module _ {rules start : List (List ℕ)} {letter at n : ℕ} (f : Beside rules l
 
   abbrev pub FillsAs : (totals : List (List ℕ)) → Bool → Type 0
   FillsAs totals fits = BesideAs rules letter at (λ u b t. FilledAs rules u n b t) start totals fits
-
-  pub fills_same : {after : List (List ℕ)} {fits : Bool} → FillsAs after fits → length after ≡ length start
-  fills_same {after} d = same_size at start after f.own.long d.own.long
 
   abbrev by : ℕ → ℕ
   by = by_letter rules letter
@@ -291,9 +278,6 @@ module _ {rules start : List (List ℕ)} {letter at n : ℕ} (f : Beside rules l
   fills_start = record { own = rising_start by f.own; counts = λ n z. rising_start ones (f.counts n) }
 
   module _ {totals : List (List ℕ)} {m : ℕ} (r : FillsTo totals m) where
-    pub fills_size : length totals ≡ length start
-    fills_size = same_size at start totals f.own.long r.own.kept.long
-
     pub fills_end : n < m → FillsAs totals true
     fills_end h = record { own = rising_end by f.own r.own h; counts = λ n z. rising_end ones (f.counts n) (r.counts n refl) h }
 

@@ -17,7 +17,7 @@ use Rattle.lists.proofs.Members.{get_or_∈}
 use Rattle.lists.proofs.Tables.{put_same, put_row, put_other_row, put_beside, kept_same, kept_then, kept_put}
 use Rattle.sets.specs.Inner.Sets.{members}
 use Rattle.sets.proofs.Digits.{member_none}
-use Rattle.sets.proofs.Loops.{lowest_low, turn, turn_out, first_member}
+use Rattle.sets.proofs.Loops.{lowest_low, turn_out, first_member, none_out}
 use Rattle.grammar.specs.Inner.Rules.{word_at, left_at, right_at, word_from, pair_from, start_in, words_in, pairs_in, ruled}
 use Rattle.grammar.proofs.Ruling.{words_ruled, pairs_ruled, word_count_lem, pair_count, word_here, pair_here}
 use Rattle.counting.specs.Totals.{total_by}
@@ -26,14 +26,12 @@ use Rattle.counting.specs.Refusals.{most}
 use Rattle.counting.specs.Inner.Counted.{count_at, longest_at, Asked}
 use Rattle.counting.specs.Inner.Letters.{any, by_letter}
 use Rattle.counting.specs.Inner.Needs.{needs_at, NeedsAs, MemberOf, FoundAs}
-use Rattle.counting.specs.Inner.Filling.{TalliedAs, Filling, FilledAs, part_sum, Halves, Below, Deriving, WordsBy, longer, stored, RowFilling, RowTo, RowFilledAs}
-use Rattle.counting.specs.declared.tallies.Tally.{Tally}
-use Rattle.counting.specs.declared.tallies.Tally.TheVariants.{Fits, Over}
+use Rattle.counting.specs.Inner.Filling.{Filling, FilledAs, part_sum, Halves, Below, Deriving, WordsBy, longer, stored, RowFilling, RowTo, RowFilledAs}
 use Rattle.counting.proofs.Totals.{pair_total, by_one, by_more}
 use Rattle.counting.proofs.Lettered.{letter_ones}
 use Rattle.counting.proofs.Needed.{overflows_needed, overflows_fit}
 use Rattle.counting.proofs.Asking.{asked_of}
-use Rattle.counting.proofs.PairSums.{says_fits, says_over, halves_asked, part_counts, halves_below}
+use Rattle.counting.proofs.PairSums.{halves_asked, part_counts, halves_below}
 
 -- ---- the loop over a nonterminal's pair rules
 
@@ -42,9 +40,6 @@ pub record Summing (rules : List (List ℕ)) (u : ℕ → ℕ) (a m i sum : ℕ)
   pub from : pair_from rules a ≤ i
   pub to : i ≤ pair_from rules (a + 1)
   pub due : sum + sum_over (pair_total (λ p. total_by (ruled rules) u) 0 m) (drop (i - pair_from rules a) (pairs_in rules a)) ≡ total_by (ruled rules) u a m
-
-pub deriving_few : {rules totals : List (List ℕ)} {u : ℕ → ℕ} {m a : ℕ} → Deriving rules u totals m a → a < 32
-deriving_few d = omega (arith, d.table.few, d.inside)
 
 module _ {rules totals : List (List ℕ)} {u : ℕ → ℕ} {m a : ℕ} (d : Deriving rules u totals m a) (more : 2 ≤ m) where
   pub summing_start : {i : ℕ} → i ≡ pair_from rules a → Summing rules u a m i 0
@@ -92,12 +87,6 @@ module _ {rules totals : List (List ℕ)} {u : ℕ → ℕ} {m a : ℕ} (d : Der
 
       pub summing_past : most < sum + part_sum (count_at totals) B C m (m - 1) → most < total_by (ruled rules) u a m
       summing_past f = omega (arith, step, f)
-
-      pub summing_step : {v : ℕ} {t : Tally} → t ≡ Fits v → TalliedAs (sum + part_sum (count_at totals) B C m (m - 1)) t → Summing rules u a m (i + 1) v
-      summing_step e f = summing_added (says_fits e f)
-
-      pub summing_over : {t : Tally} → t ≡ Over → TalliedAs (sum + part_sum (count_at totals) B C m (m - 1)) t → most < total_by (ruled rules) u a m
-      summing_over e f = summing_past (says_over e f)
 
 -- ---- the loop over a nonterminal's words
 
@@ -216,12 +205,24 @@ module _ {rules start : List (List ℕ)} {u : ℕ → ℕ} {m set : ℕ} (f : Ro
       longest = λ k l u o. b.longest k l u (w.risen X k (omega arith) o);
     }
 
-    pub row_end : left ≡ 0 → RowFilledAs rules u start totals m set true
-    row_end e = record { row = λ _. rw e at w; over = λ z. absurd (false≢true (sym z)); kept = w.kept }
+    pub row_end : members left ≡ [] → RowFilledAs rules u start totals m set true
+    row_end e = record {
+      row = λ _. record {
+        right = λ A i o. w.right A i (none_out left A e i.0);
+        fits = λ A i o. w.fits A i (none_out left A e i.0);
+        longest = λ A i o. w.longest A i (none_out left A e i.0);
+        only = w.only;
+        risen = w.risen;
+        others = w.others;
+        kept = w.kept;
+      };
+      over = λ z. absurd (false≢true (sym z));
+      kept = w.kept;
+    }
 
-    module _ {a : ℕ} (first : members left ≡ a ∷ drop 1 (members left)) (among : (A : ℕ) → MemberOf left A → MemberOf set A) where
+    module _ {a : ℕ} {rest : List ℕ} (first : members left ≡ a ∷ rest) (among : (A : ℕ) → MemberOf left A → MemberOf set A) where
       chosen : MemberOf set a
-      chosen = among a (lowest_low left a first, first_member left a (drop 1 (members left)) first)
+      chosen = among a (lowest_low left a first, first_member left a rest first)
 
       pub row_asks : Deriving rules u totals m a
       row_asks = record {
@@ -252,11 +253,11 @@ module _ {rules start : List (List ℕ)} {u : ℕ → ℕ} {m set : ℕ} (f : Ro
         past_own : {k : ℕ} → longest_at (stored totals a m v) a < k → k ≤ m → (longest_at totals a < k) × (v ≡ 0)
         past_own l u = longer_past (rw (low_same totals m a v row_long wide chosen.0 f.some f.short) at l) u
 
-      pub row_step : (next : ℕ) → members next ≡ drop 1 (members left) → {after : List (List ℕ)} → total_by (ruled rules) u a m ≤ most
+      pub row_step : (next : ℕ) → rest ≡ members next → {after : List (List ℕ)} → total_by (ruled rules) u a m ≤ most
           → after ≡ stored totals a m (total_by (ruled rules) u a m) → RowTo rules u start after m set next
-      row_step next rest small s =
+      row_step next z small s =
           let v = total_by (ruled rules) u a m in
-          let turned = turn left a first next rest in
+          let turned = rw z at first in
           rw s
           (record {
             right = λ A i o. elim (ℕ_discrete A a) [

@@ -10,12 +10,11 @@ use Prim.Native.Nat.{ℕ, ◌+◌, ◌-◌, ◌≤◌, ◌<◌}
 use native.Mathlib.Omega.{arith}
 use native.Mathlib.Decide.{ℕ_discrete}
 use lib.Dec.{eqb}
-use lib.ListN.{set, drop, length-set}
+use lib.ListN.{set, length-set}
 use lib.Seq.{get_or-set_same, get_or-set_other}
 use Rattle.lists.proofs.Tests.{and_left}
 use Rattle.sets.specs.Inner.Sets.{member, members}
-use Rattle.sets.proofs.Digits.{member_none}
-use Rattle.sets.proofs.Loops.{lowest_low, turn, turn_among, turn_out, first_member, none_member, with_more, with_new, with_only, either_left, either_right, either_cases}
+use Rattle.sets.proofs.Loops.{lowest_low, turn_among, turn_out, first_member, none_member, none_out, with_more, with_new, with_only, either_left, either_right, either_cases}
 use Rattle.grammar.specs.Inner.Rules.{left_at, right_at, pair_from, start_in}
 use Rattle.grammar.proofs.Ruling.{pairs_ruled, pair_listed, pair_place}
 use Rattle.counting.specs.Needed.{whole}
@@ -89,34 +88,29 @@ pub record OwnersTo (rules : List (List ℕ)) (owners before left set : ℕ) : T
   pub only : (B : ℕ) → B < 32 → member set B ≡ true → (member before B ≡ true) ⊎ ((A : ℕ) × MemberOf owners A × HalfOf rules A B)
 
 module _ {rules : List (List ℕ)} {owners before : ℕ} where
-  pub owners_start : OwnersTo rules owners before owners before
-  owners_start = record { among = λ A i. i; more = λ B h. h; has = λ A B i o. absurd (false≢true (sym o ∙ i.1)); only = λ B h m. inl m }
-
   module _ {left set : ℕ} (w : OwnersTo rules owners before left set) where
-    pub owners_end : left ≡ 0 → WithHalvesAs rules (MemberOf owners) before set
-    owners_end e = record { more = w.more; has = λ A B i. w.has A B i (rw e (member_none A)); only = w.only }
+    pub owners_end : members left ≡ [] → WithHalvesAs rules (MemberOf owners) before set
+    owners_end e = record { more = w.more; has = λ A B i. w.has A B i (none_out left A e i.0); only = w.only }
 
-    module _ {a : ℕ} (first : members left ≡ a ∷ drop 1 (members left)) where
-      pub owner_here : MemberOf owners a
-      owner_here = w.among a (lowest_low left a first, first_member left a (drop 1 (members left)) first)
+    pub owner_here : {a : ℕ} {l : List ℕ} → members left ≡ a ∷ l → MemberOf owners a
+    owner_here {a} {l} t = w.among a (lowest_low left a t, first_member left a l t)
 
-      pub owners_step : (next after : ℕ) → members next ≡ drop 1 (members left) → WithHalvesAs rules (λ A. A ≡ a) set after → OwnersTo rules owners before next after
-      owners_step next after rest d =
-          let t = turn left a first next rest in
-          record {
-            among = λ A i. w.among A (i.0, turn_among left a next t A i.0 i.1);
-            more = λ B h. d.more B (w.more B h);
-            has = λ A B i o q.
-                elim (ℕ_discrete A a) [
-                  | yes e ↦ d.has A B e q
-                  | no n ↦ d.more B (w.has A B i (turn_out left a next t A i.0 o n) q)
-                ];
-            only = λ B h m.
-                elim (d.only B h m) [
-                  | inl k ↦ w.only B h k
-                  | inr q ↦ inr (q.0, rw q.1 owner_here, q.2)
-                ];
-          }
+    pub owners_step : (a next after : ℕ) → members left ≡ a ∷ members next → WithHalvesAs rules (λ A. A ≡ a) set after → OwnersTo rules owners before next after
+    owners_step a next after t d =
+        record {
+          among = λ A i. w.among A (i.0, turn_among left a next t A i.0 i.1);
+          more = λ B h. d.more B (w.more B h);
+          has = λ A B i o q.
+              elim (ℕ_discrete A a) [
+                | yes e ↦ d.has A B e q
+                | no n ↦ d.more B (w.has A B i (turn_out left a next t A i.0 o n) q)
+              ];
+          only = λ B h m.
+              elim (d.only B h m) [
+                | inl k ↦ w.only B h k
+                | inr q ↦ inr (q.0, rw q.1 (owner_here t), q.2)
+              ];
+        }
 
 -- ---- length after length, from the whole down
 

@@ -23,6 +23,7 @@ use Rattle.counting.specs.Inner.InOrder.{added_by, InOrder}
 use Rattle.counting.proofs.Totals.{product_at, sums}
 use Rattle.counting.proofs.Tabled.{tabled_alike, tabled_T, tabled_asked}
 use Rattle.counting.proofs.PairSums.{says_all, halves_asked, part_counts, halves_below}
+use Rattle.counting.proofs.Besides.{none_beside}
 
 module _ {g : List ℕ} {rules totals : List (List ℕ)} {A m : ℕ} (h : Holds g rules) (d : Deriving rules (λ w. 1) totals m A) (more : 2 ≤ m) where
   module _ (earlier later : List (ℕ × ℕ)) (B C k : ℕ) (rule : pairs_of (chain g A) ≡ earlier ++ (B, C) ∷ later) (l : k < m) where
@@ -56,9 +57,9 @@ module _ {g : List ℕ} {rules totals : List (List ℕ)} {A m : ℕ} (h : Holds 
   -- while the table is filled: the counts of the lengths below m are there, and T(A, m) fits
   pub in_order : T (chain g) A m ≤ most → InOrder g totals A m
   in_order fits = record {
-    asked = λ earlier later B C k rule l. halves_asked d (listed earlier later B C k rule l) l;
-    added = λ earlier later B C k rule l answer s.
-        says_all answer (omega (arith, within earlier later B C k rule l)) (rw (counts earlier later B C k rule l) at s);
+    asked = λ earlier later B C k rule l. (halves_asked d (listed earlier later B C k rule l) l, none_beside);
+    added = λ earlier later B C k rule l answer beside s.
+        says_all beside answer (omega (arith, within earlier later B C k rule l)) (rw (counts earlier later B C k rule l) at s);
   }
 
 -- and with the table that every call has once it has passed the refusals 1 to 10: of every needed pair of an accepted grammar

@@ -28,9 +28,6 @@ module _ (rules : List (List ℕ)) where
   pub by_same : (x w : ℕ) → (x ≡ any → ⊥) → (x ≡ weighed → ⊥) → x ≡ w → by_letter rules x w ≡ 1
   by_same x w f g e = by_word x w f g ∙ ap bit (eq-eqb x w e)
 
-  pub by_other : (x w : ℕ) → (x ≡ any → ⊥) → (x ≡ weighed → ⊥) → (x ≡ w → ⊥) → by_letter rules x w ≡ 0
-  by_other x w f g e = by_word x w f g ∙ ap bit (ne_eqb x w e)
-
   pub letter_ones : (x : ℕ) → x ≡ any → (l : List ℕ) → sum_over (by_letter rules x) l ≡ length l
   letter_ones x e l = sum_ext (by_letter rules x) (λ w. 1) l (λ w m. by_any x w e) ∙ sum_one l
 

@@ -3,9 +3,9 @@
 -- Assumes nothing.
 use mathlib.Core.Path.{◌≡◌, ap, ◌∙◌}
 use mathlib.Core.List.{List}
-use Prim.Native.Nat.{ℕ, ◌+◌, ◌*◌, ◌-◌, ◌/◌, ◌≤◌, ◌<◌}
+use Prim.Native.Nat.{ℕ, ◌+◌, ◌*◌, ◌-◌, ◌≤◌, ◌<◌}
 use native.Mathlib.Omega.{arith}
-use native.Mathlib.Nat.{mul-le-mul, le-div_iff_mul-le, div-lt_iff_lt-mul}
+use native.Mathlib.Nat.{mul-le-mul}
 use native.Mathlib.Decide.{dec_le}
 use Rattle.lists.specs.Joined.{◌∈◌}
 use Rattle.lists.proofs.Runs.{run_ext, run_last, run_le, run_none, run_same}
@@ -14,55 +14,27 @@ use Rattle.grammar.proofs.Ruling.{pair_inside}
 use Rattle.counting.specs.Totals.{total_by}
 use Rattle.counting.specs.Refusals.{most}
 use Rattle.counting.specs.Inner.Counted.{count_at, longest_at, Asked}
-use Rattle.counting.specs.Inner.Filling.{TalliedAs, BothAs, part_sum, Halves, HalvesBeside, Below, HalvesBelow, Deriving}
-use Rattle.counting.specs.declared.tallies.Tally.{Tally}
-use Rattle.counting.specs.declared.tallies.Tally.TheVariants.{Fits, Over}
-use Rattle.counting.specs.declared.tallies.Both.{Both}
-use Rattle.counting.specs.declared.tallies.Both.TheVariants as both
+use Rattle.counting.specs.Inner.Filling.{BothAs, part_sum, Halves, HalvesBeside, Below, HalvesBelow, Deriving}
+use Rattle.std.specs.Prelude.{Option, Some, None, min}
+use Rattle.counting.specs.Inner.InOrder.{total_in}
 use Rattle.counting.proofs.Totals.{product_at, left_none, right_none}
 use Rattle.counting.proofs.Asking.{asked_left, asked_right}
 
 -- ---- what a tally says
 
-pub says_fits : {n v : ℕ} {r : Tally} → r ≡ Fits v → TalliedAs n r → v ≡ n
-says_fits e h = rw e at h
-
-pub says_over : {n : ℕ} {r : Tally} → r ≡ Over → TalliedAs n r → most < n
-says_over e h = rw e at h
-
-pub both_fit : {n k v c : ℕ} {r : Both} → r ≡ both.Fit v c → BothAs n k r → (v ≡ n) × (c ≡ k) × (c ≤ v)
-both_fit e h = rw e at h
-
-pub both_over : {n : ℕ} (k : ℕ) {r : Both} → r ≡ both.Over → BothAs n k r → most < n
-both_over k e h = rw e at h
-
 -- of a number that fits, the number
-pub says_all : {n : ℕ} (r : Tally) → n ≤ most → TalliedAs n r → r ≡ Fits n
-says_all (Fits v) l h = ap Fits h
-says_all Over l h = absurd (omega arith)
-
--- ---- a product more
-
-pub small_product : (x y : ℕ) → x ≤ 4294967295 → y ≤ 4294967295 → x * y ≤ most
-small_product x y h k = omega (arith, mul-le-mul h k)
-
-pub room : (sum x y : ℕ) → (x ≡ 0 → ⊥) → sum ≤ most → y ≤ (most - sum) / x → sum + x * y ≤ most
-room sum x y h l u =
-    let p : 0 < x = omega arith in
-    omega (arith, (le-div_iff_mul-le {k = x} {x = y} {y = most - sum} p).0 u)
-
-pub no_room_lem : (sum x y : ℕ) → (x ≡ 0 → ⊥) → sum ≤ most → (most - sum) / x < y → most < sum + x * y
-no_room_lem sum x y h l u =
-    let p : 0 < x = omega arith in
-    omega (arith, (div-lt_iff_lt-mul {k = x} {x = most - sum} {y = y} p).0 u)
+pub says_all : {n : ℕ} (k : ℕ) (r : Option (ℕ × ℕ)) → n ≤ most → BothAs n k r → total_in r ≡ Some n
+says_all k (Some x) l h = ap Some h.0
+says_all k None l h = absurd (omega arith)
 
 -- ---- the loop over the left lengths
 
--- after the left length k, the sum is what it was with the products up to k; those of them above `to` are 0
+-- before the left length k, the sum is what it was with the products below k; those of them above `to` are 0
 pub record Adding (count : ℕ → ℕ → ℕ) (B C m to before k sum : ℕ) : Type 0 where
-  pub below : k < m
-  pub added : sum ≡ before + part_sum count B C m k
-  pub over : (i : ℕ) → to < i → i ≤ k → count C (m - i) ≡ 0
+  pub some : 1 ≤ k
+  pub short : k ≤ m
+  pub added : sum ≡ before + part_sum count B C m (k - 1)
+  pub over : (i : ℕ) → to < i → i < k → count C (m - i) ≡ 0
 
 -- a product of a table's counts
 abbrev product : (count : ℕ → ℕ → ℕ) (B C m k : ℕ) → ℕ
@@ -79,47 +51,52 @@ halves_end h = record { bound = h.bound; left_over = h.left_over; right_over = h
 
 module _ {count : ℕ → ℕ → ℕ} {B C m to p q before : ℕ} (h : Ends count B C m to p q) where
   -- left lengths at which the right half is longer than its longest derivation have added nothing
-  pub adding_start : {k : ℕ} → k ≡ m - 1 - q → Adding count B C m to before k before
+  pub adding_start : {k : ℕ} → k ≡ m - min (m - 1) q → Adding count B C m to before k before
   adding_start {k} e =
-      let none : (i : ℕ) → 1 ≤ i → i ≤ k → count C (m - i) ≡ 0 = λ i l u. h.right_over (m - i) (omega arith) (omega arith) in
+      let none : (i : ℕ) → 1 ≤ i → i < k → count C (m - i) ≡ 0 = λ i l u. h.right_over (m - i) (omega arith) (omega arith) in
       record {
-        below = omega (arith, h.bound);
-        added = omega (arith, run_none (product count B C m) 1 k (λ i l u. right_none (λ p. count) B C 0 m i (none i l (omega arith))));
+        some = omega (arith, h.bound);
+        short = omega arith;
+        added = omega (arith, run_none (product count B C m) 1 (k - 1) (λ i l u. right_none (λ p. count) B C 0 m i (none i l (omega arith))));
         over = λ i l u. none i (omega arith) u;
       }
 
   module _ {k sum : ℕ} (w : Adding count B C m to before k sum) where
     -- nor do those up to the bound at which the left half is
-    pub adding_end : {last : ℕ} → last ≤ k → last ≡ to - (to - p) → sum ≡ before + part_sum count B C m to
+    pub adding_end : {last : ℕ} → last + 1 ≤ k → last ≡ min to p → sum ≡ before + part_sum count B C m to
     adding_end l e =
-        elim (dec_le k to) [
-          | yes u ↦ omega (arith, w.added, run_same (product count B C m) 1 k to u (λ i a b. left_none (λ p. count) B C 0 m i (h.left_over i (omega arith) (omega (arith, h.bound)))))
-          | no u ↦ omega (arith, w.added, run_same (product count B C m) 1 to k (omega arith) (λ i a b. right_none (λ p. count) B C 0 m i (w.over i (omega arith) (omega arith))))
+        elim (dec_le (k - 1) to) [
+          | yes u ↦ omega (arith, w.added, run_same (product count B C m) 1 (k - 1) to u (λ i a b. left_none (λ p. count) B C 0 m i (h.left_over i (omega arith) (omega (arith, h.bound)))))
+          | no u ↦ omega (arith, w.added, run_same (product count B C m) 1 to (k - 1) (omega arith) (λ i a b. right_none (λ p. count) B C 0 m i (w.over i (omega arith) (omega arith))))
         ]
 
-    module _ {x y : ℕ} (l : k + 1 ≤ to) (ex : x ≡ count B (k + 1)) (ey : y ≡ count C (m - (k + 1))) where
-      one_more : part_sum count B C m (k + 1) ≡ part_sum count B C m k + x * y
-      one_more = let e : 1 + k ≡ k + 1 = omega arith in rw (ex, ey) (rw e at (run_last (product count B C m) 1 k))
+    module _ {x y : ℕ} (l : k ≤ to) (ex : x ≡ count B k) (ey : y ≡ count C (m - k)) where
+      one_more : part_sum count B C m k ≡ part_sum count B C m (k - 1) + x * y
+      one_more =
+          let e : 1 + (k - 1) ≡ k = omega (arith, w.some) in
+          let f : k - 1 + 1 ≡ k = omega (arith, w.some) in
+          rw (ex, ey) (rw (e, f) at (run_last (product count B C m) 1 (k - 1)))
 
       pub adding_step : {v : ℕ} → v ≡ sum + x * y → Adding count B C m to before (k + 1) v
       adding_step f = record {
-        below = omega (arith, h.bound);
-        added = omega (arith, w.added, one_more, f);
+        some = omega arith;
+        short = omega (arith, h.bound);
+        added = let e : k + 1 - 1 ≡ k = omega arith in rw e (omega (arith, w.added, one_more, f));
         over = λ i a b. absurd (omega arith);
       }
 
-      pub adding_over : most < sum + x * y → most < before + part_sum count B C m to
-      adding_over f = omega (arith, w.added, one_more, run_le (product count B C m) 1 (k + 1) to l, f)
+      pub adding_past : most < sum + x * y → most < before + part_sum count B C m to
+      adding_past f = omega (arith, w.added, one_more, run_le (product count B C m) 1 k to l, f)
 
 -- ---- the counts beside it
 
-module _ {totals counts : List (List ℕ)} {B C m before counted : ℕ} (h : HalvesBeside totals counts B C m before counted) where
+module _ {totals counts : List (List ℕ)} {B C m to before counted : ℕ} (halves : Halves totals B C m to) (h : HalvesBeside totals counts B C m before counted) where
   -- where a total is 0, so is the count
-  pub counts_end : Ends (count_at counts) B C m (m - 1) (longest_at totals B) (longest_at totals C)
+  pub counts_end : Ends (count_at counts) B C m to (longest_at totals B) (longest_at totals C)
   counts_end = record {
-    bound = h.halves.bound;
-    left_over = λ k l u. omega (arith, h.left k (omega arith) u, h.halves.left_over k l u);
-    right_over = λ k l u. omega (arith, h.right k (omega arith) u, h.halves.right_over k l u);
+    bound = halves.bound;
+    left_over = λ k l u. omega (arith, h.left k (omega arith) u, halves.left_over k l u);
+    right_over = λ k l u. omega (arith, h.right k (omega arith) u, halves.right_over k l u);
   }
 
   -- counts that are no more than their totals add no more

@@ -11,15 +11,12 @@ fn with_halves(rules: &[[u8; 256]], a: usize, before: u32) -> u32
     requires { Ruled rules.now × (a < count_in rules.now) }
     ensures { WithHalvesAs rules.now (λ A. A ≡ a) before result }
 {
-    let end = rules::pairs_from(rules, a + 1);
-    let mut i = rules::pairs_from(rules, a);
     let mut set = before;
-    while i < end {
+    for i in rules::pairs_from(rules, a)..rules::pairs_from(rules, a + 1) {
         let b = rules::left_at(rules, i);
         let c = rules::right_at(rules, i);
         set = sets::with(set, b);
         set = sets::with(set, c);
-        i += 1;
     }
     set
 }
@@ -30,10 +27,8 @@ fn with_all_halves(rules: &[[u8; 256]], owners: u32, before: u32) -> u32
     ensures { WithHalvesAs rules.now (MemberOf owners) before result }
 {
     let mut set = before;
-    let mut left = owners;
-    while left != 0 {
-        set = with_halves(rules, sets::lowest(left), set);
-        left = sets::after_lowest(left);
+    for a in sets::each(owners) {
+        set = with_halves(rules, a, set);
     }
     set
 }
@@ -48,12 +43,10 @@ pub fn find(rules: &[[u8; 256]], n: usize, needs: &mut [u32; 17])
     let mut halves = met;
     let mut here = sets::with(met, rules::start(rules));
     needs[n] = here;
-    let mut m = n;
-    while 1 < m {
+    for m in (1..n).rev() {
         halves = with_all_halves(rules, sets::without(here, met), halves);
         met = sets::either(met, here);
         here = halves;
-        m -= 1;
         needs[m] = here;
     }
 }

@@ -1,13 +1,14 @@
 // The table of totals by the names of its rows: those of the length m at `totals[m][a]`` where they are needed, or that one of them is above 2^64 - 1.
 // A letter says what the words count for: by ANY the totals are the counts T.
-ghost use Rattle.std.specs.Prelude.{◌≡◌, ℕ, ◌+◌, ◌*◌, ◌-◌, ◌≤◌, ◌<◌, length, take, drop};
+ghost use Rattle.std.specs.Prelude.{◌≡◌, List, ℕ, ◌+◌, ◌*◌, ◌-◌, ◌≤◌, ◌<◌, length, take, drop};
 ghost use Rattle.lists.specs.Joined.{sum_over};
 ghost use Rattle.lists.specs.Inner.Tables.{CopiedAs};
 ghost use Rattle.grammar.specs.Inner.Rules.{ruled, words_in};
 ghost use Rattle.counting.specs.Totals.{total_by};
+ghost use Rattle.counting.specs.Refusals.{most};
 ghost use Rattle.counting.specs.Inner.Counted.{count_at, longest_at};
-ghost use Rattle.counting.specs.Inner.Letters.{by_letter, weighed};
-ghost use Rattle.counting.specs.Inner.Filling.{TalliedAs, BothAs, Beside, BesideAs, part_sum, Halves, HalvesBeside, Deriving, DerivingBeside, WordsBy, longer, stored, PlacedAs, RowFilling, RowFilledAs, Filling, FilledAs};
+ghost use Rattle.counting.specs.Inner.Letters.{any, by_letter, weighed};
+ghost use Rattle.counting.specs.Inner.Filling.{TalliedAs, BothAs, Beside, BesideAs, part_sum, no_counts, Halves, HalvesBeside, Deriving, DerivingBeside, WordsBy, longer, stored, PlacedAs, RowFilling, RowFilledAs, Filling, FilledAs};
 
 use crate::letters::ANY;
 use crate::{letters, needs};
@@ -15,22 +16,6 @@ use grammar::rules;
 
 // The longest length at which a nonterminal has a derivation; the rows 1 to 16 are those of their lengths.
 pub const LONGEST: usize = 0;
-
-// A count, or that it is above 2^64 - 1.
-#[derive(Clone, Copy)]
-pub enum Tally {
-    Fits(u64),
-    Over,
-}
-
-// A total and a count that is no more, or that the total is above 2^64 - 1.
-#[derive(Clone, Copy)]
-pub enum Both {
-    Fit(u64, u64),
-    Over,
-}
-
-const MOST: u64 = 18446744073709551615;
 
 // The total of a and m, where it is needed; else 0.
 pub fn count_at(totals: &[[u64; 32]], a: usize, m: usize) -> u64
@@ -47,170 +32,124 @@ pub fn longest_at(totals: &[[u64; 32]], a: usize) -> u64
     totals[LONGEST][a]
 }
 
-// A product more, where a factor has 2^32 or more. A factor of 0 comes first, however large the other.
-fn add_large(sum: u64, x: u64, y: u64) -> Tally
-    ensures { TalliedAs (sum + x * y) result }
-{
-    if x == 0 {
-        return Tally::Fits(sum);
-    }
-    if y == 0 {
-        return Tally::Fits(sum);
-    }
-    if y <= (MOST - sum) / x {
-        return Tally::Fits(sum + x * y);
-    }
-    Tally::Over
+// What is counted beside a total: nothing, or the derivations, by the table of their counts.
+trait Counts: Copy {
+    // The counts; all 0 where nothing is counted.
+    ghost table: { Self → List (List ℕ) };
+
+    // What a word counts for.
+    ghost each: { ℕ → ℕ };
+
+    // A product of a pair rule's counts more, for the length m and the left length k.
+    fn add(self, count: u64, b: usize, c: usize, m: usize, k: usize) -> u64
+        requires { (17 ≤ length (table self)) × (b < 32) × (c < 32) × (m ≤ 16) × (k ≤ m) × (count + count_at (table self) b k * count_at (table self) c (m - k) ≤ most) }
+        ensures { result ≡ count + count_at (table self) b k * count_at (table self) c (m - k) };
+
+    // What the words of a count for together.
+    fn words(self, rules: &[[u8; 256]], a: usize) -> u64
+        requires { WordsBy rules.now any a }
+        ensures { result ≡ sum_over each (words_in rules.now a) };
 }
 
-// A product more. Where both factors are below 2^32 it fits, and there is no division.
-fn add_product(sum: u64, x: u64, y: u64) -> Tally
-    ensures { TalliedAs (sum + x * y) result }
-{
-    if 4294967295 < x {
-        return add_large(sum, x, y);
+#[derive(Clone, Copy)]
+struct NoCounts;
+
+impl Counts for NoCounts {
+    ghost table = { λ s. no_counts };
+
+    ghost each = { λ w. 0 };
+
+    fn add(self, count: u64, b: usize, c: usize, m: usize, k: usize) -> u64 {
+        count
     }
-    if 4294967295 < y {
-        return add_large(sum, x, y);
+
+    fn words(self, rules: &[[u8; 256]], a: usize) -> u64 {
+        0
     }
-    let product = x * y;
-    if product <= MOST - sum {
-        return Tally::Fits(sum + product);
-    }
-    Tally::Over
 }
 
-// How many of the lengths from 1 to `to` are above the longest with a derivation.
-fn above(longest: u64, to: usize) -> usize
-    ensures { result ≡ to - longest }
-{
-    let l = longest as usize;
-    if to <= l {
-        return 0;
+#[derive(Clone, Copy)]
+struct CountsIn<'a>(&'a [[u64; 32]]);
+
+impl<'a> Counts for CountsIn<'a> {
+    ghost table = { λ s. s.0.now };
+
+    ghost each = { λ w. 1 };
+
+    fn add(self, count: u64, b: usize, c: usize, m: usize, k: usize) -> u64 {
+        count + count_at(self.0, b, k) * count_at(self.0, c, m - k)
     }
-    to - l
+
+    fn words(self, rules: &[[u8; 256]], a: usize) -> u64 {
+        words(rules, ANY, a)
+    }
+}
+
+// The product of x and y, if it fits. Where both are below 2^32 it does, and there is no division.
+fn product(x: u64, y: u64) -> Option<u64>
+    ensures { TalliedAs (x * y) result }
+{
+    if x < 4294967296 && y < 4294967296 {
+        return Some(x * y);
+    }
+    x.checked_mul(y)
+}
+
+// A product more.
+fn add_product(sum: u64, x: u64, y: u64) -> Option<u64>
+    ensures { TalliedAs (sum + x * y) result }
+{
+    sum.checked_add(product(x, y)?)
 }
 
 // The sum of 001's formula 4a for the pair rule (b, c) and the length m, added to what was there before: product after product, the left length k
 // upward, T(b, k) for its g1(k) and T(c, m - k) for its g2(n - k), up to the left length `to`. Left out are products that are 0: 4a's k = 0 and k = n,
 // as no derivation is empty; the first left lengths, where the right half is longer than c's longest; the last, where the left half is longer than
-// b's. What that comes to by T: `InOrder` in specs/Inner.
-fn add_pair(totals: &[[u64; 32]], b: usize, c: usize, m: usize, to: usize, before: u64) -> Tally
-    requires { Halves totals.now b c m to }
-    ensures { TalliedAs (before + part_sum (count_at totals.now) b c m to) result }
-{
-    let last = to - above(longest_at(totals, b), to);
-    let mut k = above(longest_at(totals, c), m - 1);
-    let mut sum = before;
-    while k < last {
-        k += 1;
-        let s = add_product(sum, count_at(totals, b, k), count_at(totals, c, m - k));
-        match s {
-            Tally::Over => return Tally::Over,
-            Tally::Fits(v) => {
-                sum = v;
-            }
-        }
-    }
-    Tally::Fits(sum)
-}
-
-// The same sum up to the greatest left length, and beside it that of the counts, in a table of their own. No count is above its total: where the totals'
+// b's. What that comes to by T: `InOrder` in specs/Inner. Beside it stands the same sum of the counts. No count is above its total: where the totals'
 // sum fits, so does that of the counts, and where a total is 0, so is the count.
-fn add_pair_beside(
+fn add_pair<C: Counts>(
     totals: &[[u64; 32]],
-    counts: &[[u64; 32]],
+    counts: C,
     b: usize,
     c: usize,
     m: usize,
-    before: u64,
-    counted: u64,
-) -> Both
-    requires { HalvesBeside totals.now counts.now b c m before counted }
-    ensures { BothAs (before + part_sum (count_at totals.now) b c m (m - 1)) (counted + part_sum (count_at counts.now) b c m (m - 1)) result }
+    to: usize,
+    before: (u64, u64),
+) -> Option<(u64, u64)>
+    requires halves { Halves totals.now b c m to }
+    requires beside { HalvesBeside totals.now (C.table counts) b c m before.0 before.1 }
+    ensures { BothAs (before.0 + part_sum (count_at totals.now) b c m to) (before.1 + part_sum (count_at (C.table counts)) b c m to) result }
 {
-    let to = m - 1;
-    let end = to - above(longest_at(totals, b), to);
-    let mut k = above(longest_at(totals, c), to);
-    let mut total = before;
-    let mut count = counted;
-    while k < end {
-        k += 1;
-        let s = add_product(total, count_at(totals, b, k), count_at(totals, c, m - k));
-        match s {
-            Tally::Over => return Both::Over,
-            Tally::Fits(v) => {
-                total = v;
-                count += count_at(counts, b, k) * count_at(counts, c, m - k);
-            }
-        }
+    let passed = (m - 1).saturating_sub(longest_at(totals, c) as usize);
+    let last = to.min(longest_at(totals, b) as usize);
+    let (mut total, mut count) = before;
+    for j in passed..last {
+        let k = j + 1;
+        total = add_product(total, count_at(totals, b, k), count_at(totals, c, m - k))?;
+        count = counts.add(count, b, c, m, k);
     }
-    Both::Fit(total, count)
+    Some((total, count))
 }
 
-// The total of a and m for m of 2 or more, by the pair rules of a.
-fn derive(rules: &[[u8; 256]], totals: &[[u64; 32]], a: usize, m: usize) -> Tally
-    requires { ((u : ℕ → ℕ) × Deriving rules.now u totals.now m a) × (2 ≤ m) }
-    ensures { (u : ℕ → ℕ) → Deriving rules.now u totals.now m a → TalliedAs (total_by (ruled rules.now) u a m) result }
-{
-    let end = rules::pairs_from(rules, a + 1);
-    let mut i = rules::pairs_from(rules, a);
-    let mut sum = 0;
-    while i < end {
-        let s = add_pair(
-            totals,
-            rules::left_at(rules, i),
-            rules::right_at(rules, i),
-            m,
-            m - 1,
-            sum,
-        );
-        match s {
-            Tally::Over => return Tally::Over,
-            Tally::Fits(v) => {
-                sum = v;
-            }
-        }
-        i += 1;
-    }
-    Tally::Fits(sum)
-}
-
-// The same, with the count by the counts beside them.
-fn derive_beside(
+// The total of a and m for m of 2 or more, by the pair rules of a, and what is counted beside it.
+fn derive<C: Counts>(
     rules: &[[u8; 256]],
     totals: &[[u64; 32]],
-    counts: &[[u64; 32]],
+    counts: C,
     a: usize,
     m: usize,
-) -> Both
-    requires { ((u : ℕ → ℕ) × DerivingBeside rules.now u totals.now counts.now m a) × (2 ≤ m) }
-    ensures { (u : ℕ → ℕ) → DerivingBeside rules.now u totals.now counts.now m a → BothAs (total_by (ruled rules.now) u a m) (total_by (ruled rules.now) (λ w. 1) a m) result }
+) -> Option<(u64, u64)>
+    requires { ((u : ℕ → ℕ) × DerivingBeside rules.now u C.each totals.now (C.table counts) m a) × (2 ≤ m) }
+    ensures { (u : ℕ → ℕ) → DerivingBeside rules.now u C.each totals.now (C.table counts) m a → BothAs (total_by (ruled rules.now) u a m) (total_by (ruled rules.now) C.each a m) result }
 {
-    let end = rules::pairs_from(rules, a + 1);
-    let mut i = rules::pairs_from(rules, a);
     let mut total = 0;
     let mut count = 0;
-    while i < end {
-        let s = add_pair_beside(
-            totals,
-            counts,
-            rules::left_at(rules, i),
-            rules::right_at(rules, i),
-            m,
-            total,
-            count,
-        );
-        match s {
-            Both::Over => return Both::Over,
-            Both::Fit(v, c) => {
-                total = v;
-                count = c;
-            }
-        }
-        i += 1;
+    for i in rules::pairs_from(rules, a)..rules::pairs_from(rules, a + 1) {
+        let b = rules::left_at(rules, i);
+        let c = rules::right_at(rules, i);
+        (total, count) = add_pair(totals, counts, b, c, m, m - 1, (total, count))?;
     }
-    Both::Fit(total, count)
+    Some((total, count))
 }
 
 // What the words of a count for together: by ANY as many as they are.
@@ -218,54 +157,34 @@ fn words(rules: &[[u8; 256]], letter: u16, a: usize) -> u64
     requires { WordsBy rules.now letter a }
     ensures { result ≡ sum_over (by_letter rules.now letter) (words_in rules.now a) }
 {
-    let end = rules::words_from(rules, a + 1);
-    let mut i = rules::words_from(rules, a);
+    let from = rules::words_from(rules, a);
+    let to = rules::words_from(rules, a + 1);
     if letter == ANY {
-        return (end - i) as u64;
+        return (to - from) as u64;
     }
-    let mut sum: u64 = 0;
-    while i < end {
-        let w = rules::word_at(rules, i);
-        sum += letters::weight(rules, letter, w);
-        i += 1;
+    let mut sum = 0;
+    for i in from..to {
+        sum += letters::weight(rules, letter, rules::word_at(rules, i));
     }
     sum
 }
 
-// The total of a and m: by the word rules of a for the length 1, by its pair rules for a greater one.
-fn derivations(rules: &[[u8; 256]], letter: u16, totals: &[[u64; 32]], a: usize, m: usize) -> Tally
-    requires { Deriving rules.now (by_letter rules.now letter) totals.now m a × (letter ≡ weighed → 14 ≤ length rules.now) }
-    ensures { TalliedAs (total_by (ruled rules.now) (by_letter rules.now letter) a m) result }
-{
-    if m == 1 {
-        return Tally::Fits(words(rules, letter, a));
-    }
-    derive(rules, totals, a, m)
-}
-
-// The same, with the count by the counts beside them.
-fn derivations_beside(
+// The total of a and m, and what is counted beside it: by the word rules of a for the length 1, by its pair rules for a greater one.
+fn derivations<C: Counts>(
     rules: &[[u8; 256]],
     letter: u16,
     totals: &[[u64; 32]],
-    counts: &[[u64; 32]],
+    counts: C,
     a: usize,
     m: usize,
-) -> Both
-    requires { DerivingBeside rules.now (by_letter rules.now letter) totals.now counts.now m a × (letter ≡ weighed → 14 ≤ length rules.now) }
-    ensures { BothAs (total_by (ruled rules.now) (by_letter rules.now letter) a m) (total_by (ruled rules.now) (λ w. 1) a m) result }
+) -> Option<(u64, u64)>
+    requires { DerivingBeside rules.now (by_letter rules.now letter) C.each totals.now (C.table counts) m a × (letter ≡ weighed → 14 ≤ length rules.now) }
+    ensures { BothAs (total_by (ruled rules.now) (by_letter rules.now letter) a m) (total_by (ruled rules.now) C.each a m) result }
 {
     if m == 1 {
-        return Both::Fit(words(rules, letter, a), words(rules, ANY, a));
+        return Some((words(rules, letter, a), counts.words(rules, a)));
     }
-    derive_beside(rules, totals, counts, a, m)
-}
-
-// The longest length with a derivation, once the total v of the length m is found.
-fn longer_of(old: u64, m: usize, v: u64) -> u64
-    ensures { result ≡ longer old m v }
-{
-    if v == 0 { old } else { m as u64 }
+    derive(rules, totals, counts, a, m)
 }
 
 // The total of a and m is v.
@@ -273,7 +192,7 @@ fn put(totals: &mut [[u64; 32]], a: usize, m: usize, v: u64)
     requires { (17 ≤ length totals.old) × (a < 32) × (m ≤ 16) }
     ensures { totals.new ≡ stored totals.old a m v }
 {
-    let longest = longer_of(totals[LONGEST][a], m, v);
+    let longest = if v == 0 { totals[LONGEST][a] } else { m as u64 };
     totals[m][a] = v;
     totals[LONGEST][a] = longest;
 }
@@ -301,22 +220,17 @@ fn place(
     ensures { BesideAs rules.now letter at (λ u b t. PlacedAs rules.now u b t m a) totals.old totals.new result }
 {
     if at == 0 {
-        let s = derivations(rules, letter, totals, a, m);
-        match s {
-            Tally::Over => return false,
-            Tally::Fits(v) => {
-                put(totals, a, m, v);
-                return true;
-            }
-        }
+        let Some((v, _)) = derivations(rules, letter, totals, NoCounts, a, m) else {
+            return false;
+        };
+        put(totals, a, m, v);
+        return true;
     }
-    let s = derivations_beside(rules, letter, &totals[at..], &totals[0..at], a, m);
-    match s {
-        Both::Over => return false,
-        Both::Fit(v, c) => {
-            put_beside(totals, at, a, m, v, c);
-        }
-    }
+    let counts = CountsIn(&totals[0..at]);
+    let Some((v, c)) = derivations(rules, letter, &totals[at..], counts, a, m) else {
+        return false;
+    };
+    put_beside(totals, at, a, m, v, c);
     true
 }
 
@@ -332,13 +246,10 @@ fn row(
     requires { Beside rules.now letter at (λ u t. RowFilling rules.now u t m set) totals.old }
     ensures { BesideAs rules.now letter at (λ u b t. RowFilledAs rules.now u b t m set) totals.old totals.new result }
 {
-    let mut left = set;
-    while left != 0 {
-        let a = sets::lowest(left);
+    for a in sets::each(set) {
         if !place(rules, letter, at, totals, a, m) {
             return false;
         }
-        left = sets::after_lowest(left);
     }
     true
 }
@@ -352,12 +263,10 @@ pub fn fill(rules: &[[u8; 256]], letter: u16, n: usize, at: usize, totals: &mut 
 {
     let mut needs = [0u32; 17];
     needs::find(rules, n, &mut needs);
-    let mut m = 1;
-    while m <= n {
+    for m in 1..n + 1 {
         if !row(rules, letter, needs[m], m, at, totals) {
             return false;
         }
-        m += 1;
     }
     true
 }
@@ -367,9 +276,5 @@ pub fn copy(from: &[[u64; 32]], n: usize, to: &mut [[u64; 32]])
     requires { (n ≤ 16) × (17 ≤ length from.now) × (17 ≤ length to.old) }
     ensures { CopiedAs (n + 1) from.now to.old to.new }
 {
-    let mut r = 0;
-    while r <= n {
-        to[r] = from[r];
-        r += 1;
-    }
+    to[0..n + 1].copy_from_slice(&from[0..n + 1]);
 }

@@ -8,9 +8,9 @@ use Prim.Native.Nat.{ℕ, zero, suc, ◌≤◌, ◌<◌}
 use native.Mathlib.Omega.{arith}
 use lib.ListN.{length}
 use lib.Dec.{ltb, leb, eqb, lit<}
-use borrow.Author.Tests.{leb-false, ltb-true, ltb-false, eqb-true, eqb-false, lt-ltb, le-ltb, not-false}
+use borrow.Author.Tests.{leb-false, ltb-true, ltb-false, eqb-true, eqb-false, not-false}
 use Rattle.lists.specs.Searched.{within, some_below, some_to, times}
-use Rattle.lists.proofs.Tests.{within_facts, within_low, within_high, within_both, and_left, and_right, or_left, or_right, below_at, to_at}
+use Rattle.lists.proofs.Tests.{within_facts, and_left, and_right, or_left, or_right, below_at, to_at}
 use Rattle.answers.proofs.Refusals.{row_clear}
 use Rattle.grammar.specs.Layout.{nonterminals, words, rules, start, head_of, kind_of, a_of, b_of, next_of, size_of}
 use Rattle.grammar.specs.Chains.{met}
@@ -29,44 +29,6 @@ pub record Ranges (g : List ℕ) : Type 0 where
   pub start_inside : start g < nonterminals g
 
 module _ (g : List ℕ) where
-  pub range_low : nonterminals g < 1 → true ≡ out_of_range g
-  unfolding out_of_range
-  range_low h = rw (within_low 1 32 (nonterminals g) h)
-
-  pub range_high : 32 < nonterminals g → true ≡ out_of_range g
-  unfolding out_of_range
-  range_high h = rw (within_high 1 32 (nonterminals g) h)
-
-  pub range_words : 1 ≤ nonterminals g → nonterminals g ≤ 32 → words g < 1 → true ≡ out_of_range g
-  unfolding out_of_range
-  range_words h k w = rw (within_both 1 32 (nonterminals g) h k, within_low 1 255 (words g) w)
-
-  pub range_rules : 1 ≤ nonterminals g → nonterminals g ≤ 32 → 1 ≤ words g → words g ≤ 255 → rules g < 1 → true ≡ out_of_range g
-  unfolding out_of_range
-  range_rules h k w v r =
-      rw (within_both 1 32 (nonterminals g) h k, within_both 1 255 (words g) w v, within_low 1 255 (rules g) r)
-
-  pub range_start : 1 ≤ nonterminals g → nonterminals g ≤ 32 → 1 ≤ words g → words g ≤ 255 → 1 ≤ rules g → rules g ≤ 255
-      → nonterminals g ≤ start g → true ≡ out_of_range g
-  unfolding out_of_range
-  range_start h k w v r q s =
-      rw (
-        within_both 1 32 (nonterminals g) h k,
-        within_both 1 255 (words g) w v,
-        within_both 1 255 (rules g) r q,
-        le-ltb (start g) (nonterminals g) s,
-      )
-
-  pub range_right : Ranges g → false ≡ out_of_range g
-  unfolding out_of_range
-  range_right r =
-      rw (
-        within_both 1 32 (nonterminals g) r.some_nonterminal r.few_nonterminals,
-        within_both 1 255 (words g) r.some_word r.few_words,
-        within_both 1 255 (rules g) r.some_rule r.few_rules,
-        lt-ltb (start g) (nonterminals g) r.start_inside,
-      )
-
   pub range_facts : out_of_range g ≡ false → Ranges g
   unfolding out_of_range
   range_facts e =

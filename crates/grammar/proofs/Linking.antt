@@ -3,6 +3,7 @@
 -- for an earlier place. One law over the rows of a kind serves words and pairs.
 -- Assumes nothing.
 use mathlib.Core.Path.{◌≡◌, refl, sym, ap, ◌∙◌}
+use mathlib.Core.Bool.{Bool, true, false}
 use mathlib.Core.List.{List, []}
 use Prim.Native.Nat.{ℕ, zero, suc, ◌+◌, ◌*◌, ◌/◌, ◌%◌, ◌≤◌, ◌<◌}
 use native.Mathlib.Omega.{arith}
@@ -16,7 +17,8 @@ use Rattle.lists.specs.Inner.Tables.{entry, put, Wide}
 use Rattle.lists.proofs.Tables.{put_same, put_row, put_beside, put_other_row, wide_put}
 use Rattle.grammar.specs.Inner.Rules.{word_at, left_at, right_at, word_from, pair_from, count_in}
 use Rattle.grammar.specs.Inner.Links.{last, both_at, Keyed, Unlinked, LinkedAs}
-use Rattle.grammar.specs.Inner.Linking.{LinkedTo, Beside, LinksWords, LinksPairs, LinkedMoreAs}
+use Rattle.grammar.specs.Inner.Linking.{LinkedTo, Beside, LinksWords, LinksPairs, LinkedMoreAs, numbers, head_row, head_place, next_row, owner_row, Links, LinkedOf}
+use Rattle.grammar.specs.Inner.Checks.{begins_at, entry_at}
 use Rattle.grammar.proofs.Ruling.{one_holder, word_below, pair_below}
 use Rattle.grammar.proofs.Kept.{ruled_kept}
 
@@ -282,7 +284,7 @@ module _ {k : Kind} {first end : ℕ} (f : Fit k first end) {old t : List (List 
   loop_more : {s : List (List ℕ)} {done' : Type 0} → done' → Beside t s → Looping k old s a (i + 1) done'
   loop_more d b = record { inside = w.inside; lower = omega (arith, w.lower); upper = omega arith; linked = d; beside = beside_beside w.beside b }
 
-pub words_start : {t : List (List ℕ)} {a i : ℕ} → LinksWords t a → i ≡ word_from t a → WordLoop t t a i
+words_start : {t : List (List ℕ)} {a i : ℕ} → LinksWords t a → i ≡ word_from t a → WordLoop t t a i
 words_start {t} {a} s e = record {
   inside = s.inside;
   lower = omega arith;
@@ -292,17 +294,17 @@ words_start {t} {a} s e = record {
 }
 
 module _ {old t : List (List ℕ)} {a i end : ℕ} (w : WordLoop old t a i) (last : end ≡ word_from old (a + 1)) where
-  pub words_end : end ≤ i → LinkedMoreAs old t (word_from old (a + 1)) (pair_from old a)
+  words_end : end ≤ i → LinkedMoreAs old t (word_from old (a + 1)) (pair_from old a)
   words_end h = let e : i ≡ word_from old (a + 1) = omega (arith, w.upper) in record { linked = rw e at w.linked; beside = w.beside }
 
   module _ (h : i < end) where
     word_owned : Owned words t a i
     word_owned = owned words_fit w (omega arith)
 
-    pub word_room : i < 255
+    word_room : i < 255
     word_room = omega (arith, w.linked.table.word_low (a + 1) (omega (arith, word_owned.inside)), word_owned.upper)
 
-    pub word_more : {x : ℕ} → x ≡ word_at t i → WordLoop old (stored words t i a x) a (i + 1)
+    word_more : {x : ℕ} → x ≡ word_at t i → WordLoop old (stored words t i a x) a (i + 1)
     word_more {x} ex =
         let l = w.linked in
         let o = word_owned in
@@ -319,7 +321,7 @@ module _ {old t : List (List ℕ)} {a i end : ℕ} (w : WordLoop old t a i) (las
         }
         b
 
-pub pairs_start : {t : List (List ℕ)} {a i : ℕ} → LinksPairs t a → i ≡ pair_from t a → PairLoop t t a i
+pairs_start : {t : List (List ℕ)} {a i : ℕ} → LinksPairs t a → i ≡ pair_from t a → PairLoop t t a i
 pairs_start {t} {a} s e = record {
   inside = s.inside;
   lower = omega arith;
@@ -329,14 +331,14 @@ pairs_start {t} {a} s e = record {
 }
 
 module _ {old t : List (List ℕ)} {a i end : ℕ} (w : PairLoop old t a i) (last : end ≡ pair_from old (a + 1)) where
-  pub pairs_end : end ≤ i → LinkedMoreAs old t (word_from old (a + 1)) (pair_from old (a + 1))
+  pairs_end : end ≤ i → LinkedMoreAs old t (word_from old (a + 1)) (pair_from old (a + 1))
   pairs_end h = let e : i ≡ pair_from old (a + 1) = omega (arith, w.upper) in record { linked = rw e at w.linked; beside = w.beside }
 
   module _ (h : i < end) where
     pair_owned : Owned pairs t a i
     pair_owned = owned pairs_fit w (omega arith)
 
-    pub pair_room : i < 255
+    pair_room : i < 255
     pair_room = omega (arith, w.linked.table.pair_low (a + 1) (omega (arith, pair_owned.inside)), pair_owned.upper)
 
     module _ {b c : ℕ} (eb : b ≡ left_at t i) (ec : c ≡ right_at t i) where
@@ -346,11 +348,7 @@ module _ {old t : List (List ℕ)} {a i end : ℕ} (w : PairLoop old t a i) (las
           let k = pair_below r a i pair_owned.inside pair_owned.upper in
           omega (arith, r.lefts i k, r.rights i k, r.few)
 
-      -- the row of the key's head
-      pub pair_high : (32 * b + c) / 256 < 4
-      pair_high = omega (arith, key_low, div-add-mod' (32 * b + c) 256)
-
-      pub pair_more : PairLoop old (stored pairs t i a (32 * b + c)) a (i + 1)
+      pair_more : PairLoop old (stored pairs t i a (32 * b + c)) a (i + 1)
       pair_more =
           let l = w.linked in
           let x = 32 * b + c in
@@ -365,6 +363,55 @@ module _ {old t : List (List ℕ)} {a i end : ℕ} (w : PairLoop old t a i) (las
             by_pair = keyed_more pairs_fit t i a x l.long l.table.wide key_low pair_room l.table.pair_rises pair_owned (rw (eb, ec)) l.by_pair;
           }
           d
+
+-- ---- by kind
+
+-- before the place i of a's rules of a kind
+abbrev LoopIs : (pairs : Bool) (old t : List (List ℕ)) (a i : ℕ) → Type 0
+LoopIs false old t a i = WordLoop old t a i
+LoopIs true old t a i = PairLoop old t a i
+
+pub record Loop (pairs : Bool) (old t : List (List ℕ)) (a i : ℕ) : Type 0 where
+  pub is : LoopIs pairs old t a i
+
+-- what a step of the loop stores: the link i + 1 of the number x
+abbrev pub stored_by : (pairs : Bool) → List (List ℕ) → (i a x : ℕ) → List (List ℕ)
+stored_by k t i a x =
+    put (put (put t (next_row k) (i + 1) (entry t (head_row k x) (head_place k x))) (owner_row k) (i + 1) a) (head_row k x) (head_place k x) (i + 1)
+
+pub kind_start : (k : Bool) (t : List (List ℕ)) (a : ℕ) {i : ℕ} → Links k t a → i ≡ begins_at k t a → Loop k t t a i
+kind_start false t a s e = record { is = words_start s e }
+kind_start true t a s e = record { is = pairs_start s e }
+
+pub kind_end : (k : Bool) {old t : List (List ℕ)} {a i end : ℕ} → Loop k old t a i → end ≡ begins_at k old (a + 1) → end ≤ i → LinkedOf k old t a
+kind_end false w e h = words_end w.is e h
+kind_end true w e h = pairs_end w.is e h
+
+pub kind_long : (k : Bool) {old t : List (List ℕ)} {a i : ℕ} → Loop k old t a i → 13 ≤ length t
+kind_long false w = w.is.linked.long
+kind_long true w = w.is.linked.long
+
+pub kind_low : (k : Bool) {old t : List (List ℕ)} {a i end x : ℕ} → Loop k old t a i → end ≡ begins_at k old (a + 1) → i < end
+    → x ≡ entry_at k t i → x < numbers k
+kind_low false {t = t} {a = a} {i = i} w e h q =
+    let o = word_owned w.is e h in
+    let l = w.is.linked.table in
+    omega (arith, l.words_low i (word_below l a i o.inside o.upper), l.width)
+kind_low true w e h q = omega (arith, key_low w.is e h refl refl)
+
+kind_head : (k : Bool) (x : ℕ) → x < numbers k → (head_row k x < 13) × (head_place k x < 256)
+kind_head false x h = (omega arith, h)
+kind_head true x h = (omega (arith, div-add-mod' x 256), mod-lt x (lit< tt))
+
+-- the link to the last rule that is the rule at i lies inside
+pub head_inside : (k : Bool) {old t : List (List ℕ)} {a i end x : ℕ} → Loop k old t a i → end ≡ begins_at k old (a + 1) → i < end
+    → x ≡ entry_at k t i → (head_row k x < 13) × (head_place k x < 256)
+head_inside k {x = x} w e h q = kind_head k x (kind_low k w e h q)
+
+pub kind_more : (k : Bool) {old t : List (List ℕ)} {a i end x : ℕ} → Loop k old t a i → end ≡ begins_at k old (a + 1) → i < end
+    → x ≡ entry_at k t i → Loop k old (stored_by k t i a x) a (i + 1)
+kind_more false w e h q = record { is = word_more w.is e h q }
+kind_more true w e h q = rw q record { is = pair_more w.is e h refl refl }
 
 -- ---- all rules
 

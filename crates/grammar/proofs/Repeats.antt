@@ -10,6 +10,7 @@ use mathlib.Core.List.{List, [], ◌∷◌, map, map-map}
 use Prim.Native.Nat.{ℕ, ◌+◌, ◌*◌, ◌-◌, ◌≤◌, ◌<◌}
 use native.Mathlib.Omega.{arith}
 use native.Mathlib.Decide.{ℕ_discrete}
+use native.Mathlib.Numerals.{add-one}
 use borrow.Author.Tests.{eq-eqb, ne_eqb}
 use lib.Dec.{eqb}
 use lib.ListN.{length, get_or, set, replicate, length-set}
@@ -17,7 +18,7 @@ use Rattle.lists.specs.Joined.{◌∈◌, up_from}
 use Rattle.lists.specs.Searched.{some_of, some_below, times, repeats}
 use Rattle.lists.proofs.Members.{∈_up_from}
 use Rattle.lists.proofs.Places.{get_or_same, up_from_step, set_le}
-use Rattle.lists.proofs.Tests.{or_true, or_left, or_right, some_never, some_stamped, below_at, below_hit, below_miss, below_none}
+use Rattle.lists.proofs.Tests.{or_true, or_left, or_right, some_never, some_stamped, below_at, below_some, below_none}
 use Rattle.lists.proofs.Linked.{met_inside}
 use Rattle.grammar.specs.Layout.{nonterminals, rules, head_of, a_of, b_of, next_of}
 use Rattle.grammar.specs.Chains.{Rule, word, pair, rule_of, chain_numbers, rest, chain, words_of, pairs_of}
@@ -214,53 +215,41 @@ module _ {g : List ℕ} {t : List (List ℕ)} {a : ℕ} (ok : Readable g) (x : S
 
 -- ---- all chains
 
--- the chains below a are left, and no number has the stamp of the next
-pub record Rounds (g stamps : List ℕ) (stamp a : ℕ) : Type 0 where
-  pub turn : stamp + 2 * a ≡ 2 * nonterminals g + 1
+-- the chains below a have no two rules that are alike, and no number has a later stamp
+pub record Rounds (g stamps : List ℕ) (a : ℕ) : Type 0 where
   pub long : length stamps ≡ 1024
-  pub fresh : (q : ℕ) → get_or stamps q 0 < stamp
-  pub found : repeated g ≡ some_below (repeated_at g) a
+  pub used : (q : ℕ) → get_or stamps q 0 ≤ 2 * a
+  pub apart : some_below (repeated_at g) a ≡ false
 
-pub rounds_start : (g : List ℕ) {n : ℕ} → n ≡ nonterminals g → Rounds g (replicate 1024 0) 1 n
+pub rounds_start : (g : List ℕ) → Rounds g (replicate 1024 0) 0
+rounds_start g =
+    record { long = refl; used = λ q. omega (arith, get_or_same {X = ℕ} 1024 q 0); apart = below_none (repeated_at g) 0 (omega arith) }
+
+pub rounds_end : {g stamps : List ℕ} {a : ℕ} → Rounds g stamps a → a ≡ nonterminals g → false ≡ repeated g
 unfolding repeated
-rounds_start g e =
-    record {
-      turn = omega arith;
-      long = refl;
-      fresh = λ q. omega (arith, get_or_same {X = ℕ} 1024 q 0);
-      found = rw (← e);
-    }
+rounds_end w e = sym (rw e at w.apart)
 
-pub rounds_end : {g stamps : List ℕ} {stamp a : ℕ} → a ≤ 0 → Rounds g stamps stamp a → false ≡ repeated g
-rounds_end {g} {a = a} h w = sym (w.found ∙ below_none (repeated_at g) a h)
-
-module _ {g stamps : List ℕ} {t : List (List ℕ)} {stamp a : ℕ} (ok : Readable g) (x : Sorted g t) (w : Rounds g stamps stamp a) (some : 0 < a) where
-  inside : a - 1 < nonterminals g
-  inside = omega (arith, w.turn, w.fresh 0)
-
+module _ {g stamps : List ℕ} {t : List (List ℕ)} {a : ℕ} (ok : Readable g) (x : Sorted g t) (w : Rounds g stamps a) (inside : a < nonterminals g) where
   -- before the words, and before the pair rules
-  pub round_words : Stamping false t (a - 1) stamp stamps
-  round_words = chain_ready ok x inside false w.long w.fresh
+  pub round_words : Stamping false t a (2 * a + 1) stamps
+  round_words = chain_ready ok x inside false w.long (λ q. omega (arith, w.used q))
 
-  pub round_pairs : {mid : List ℕ} {found : Bool} → StampedAs false t (a - 1) stamp mid found → Stamping true t (a - 1) (stamp + 1) mid
+  pub round_pairs : {mid : List ℕ} {found : Bool} → StampedAs false t a (2 * a + 1) mid found → Stamping true t a (2 * a + 1 + 1) mid
   round_pairs s = chain_ready ok x inside true s.long (λ q. omega (arith, s.used q))
 
-  pub round_hit : {pairs : Bool} {now : ℕ} {after : List ℕ} {found : Bool} → StampedAs pairs t (a - 1) now after found → found ≡ true → true ≡ repeated g
+  pub round_hit : {pairs : Bool} {now : ℕ} {after : List ℕ} {found : Bool} → StampedAs pairs t a now after found → found ≡ true → true ≡ repeated g
+  unfolding repeated
   round_hit {pairs} s e =
-      let hit = kind_repeats pairs (chain g (a - 1)) (chain_stamped ok x inside s e) in
-      sym (w.found ∙ below_hit (repeated_at g) a some (chain_repeats ok x inside ∙ hit))
+      let hit = kind_repeats pairs (chain g a) (chain_stamped ok x inside s e) in
+      sym (below_some (repeated_at g) (nonterminals g) a inside (chain_repeats ok x inside ∙ hit))
 
-  pub round_next : {mid after : List ℕ} {found found' : Bool} → StampedAs false t (a - 1) stamp mid found → found ≡ false
-      → StampedAs true t (a - 1) (stamp + 1) after found' → found' ≡ false → Rounds g after (stamp + 2) (a - 1)
+  pub round_next : {mid after : List ℕ} {found found' : Bool} → StampedAs false t a (2 * a + 1) mid found → found ≡ false
+      → StampedAs true t a (2 * a + 1 + 1) after found' → found' ≡ false → Rounds g after (a + 1)
+  unfolding some_below
   round_next s e s' e' =
-      record {
-        turn = omega (arith, w.turn);
-        long = s'.long;
-        fresh = λ q. omega (arith, s'.used q);
-        found =
-            w.found
-            ∙ below_miss (repeated_at g) a some (chain_repeats ok x inside ∙ rw (chain_stamped ok x inside s e) (chain_stamped ok x inside s' e'));
-      }
+      let here : repeated_at g a ≡ false
+      = chain_repeats ok x inside ∙ rw (chain_stamped ok x inside s e) (chain_stamped ok x inside s' e') in
+      record { long = s'.long; used = λ q. omega (arith, s'.used q); apart = rw (add-one a, here, w.apart) }
 
 -- ---- past 8 no word is twice on one chain
 

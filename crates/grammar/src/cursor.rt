@@ -25,7 +25,7 @@ impl ChainCursor {
         ensures { result.at ≡ head_of g.now a }
     {
         ChainCursor {
-            at: g[4 + (a as usize)],
+            at: g[4 + usize::from(a)],
         }
     }
 
@@ -41,7 +41,7 @@ impl ChainCursor {
         if g[2] < at {
             return Step::End;
         }
-        let base = n + 4 * (at as usize);
+        let base = n + 4 * usize::from(at);
         let kind = g[base];
         let a = g[base + 1];
         let b = g[base + 2];

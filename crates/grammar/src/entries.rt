@@ -5,7 +5,7 @@ ghost use Rattle.grammar.specs.Inner.Checks.{Readable};
 ghost use Rattle.grammar.specs.Inner.Entering.{PreparedAs, Entering, EnteredAs, BuiltAs};
 
 use crate::cursor::{ChainCursor, Step};
-use crate::rules::{BEGINS, COUNT, LEFTS, PAIRS, RIGHTS, START, WIDTH, WORDS, wide};
+use crate::rules::{BEGINS, COUNT, LEFTS, PAIRS, RIGHTS, START, WIDTH, WORDS};
 use crate::{fields, rules};
 
 // No rule yet, and the grammar's own numbers.
@@ -25,13 +25,13 @@ fn enter(g: &[u8], a: u8, seen: &mut [u8; 256], rules: &mut [[u8; 256]]) -> bool
     requires { Entering g.now seen.old rules.old a }
     ensures { EnteredAs g.now seen.new rules.old rules.new a result }
 {
-    let n = wide(g[0]);
-    let i = wide(a);
+    let n = usize::from(g[0]);
+    let i = usize::from(a);
     let mut w = rules::words_from(rules, i);
     let mut p = rules::pairs_from(rules, i);
     let mut walk = ChainCursor::new(g, a);
     loop {
-        let at = wide(walk.at);
+        let at = usize::from(walk.at);
         if seen[at] != 0 {
             return true;
         }
@@ -66,13 +66,10 @@ pub fn build(g: &[u8], rules: &mut [[u8; 256]]) -> bool
 {
     prepare(g, rules);
     let mut seen = [0u8; 256];
-    let n = fields::nonterminals(g);
-    let mut a: u8 = 0;
-    while a < n {
+    for a in 0..fields::nonterminals(g) {
         if enter(g, a, &mut seen, rules) {
             return true;
         }
-        a += 1;
     }
     false
 }

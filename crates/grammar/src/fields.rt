@@ -6,7 +6,7 @@ ghost use Rattle.grammar.specs.Layout.{byte_at, nonterminals, words, start};
 fn byte(g: &[u8], i: usize) -> u8
     ensures { result ≡ byte_at g.now i }
 {
-    if i < g.len() { g[i] } else { 0 }
+    g.get(i).copied().unwrap_or(0)
 }
 
 pub fn nonterminals(g: &[u8]) -> u8

@@ -6,5 +6,6 @@ pub mod checks;
 pub mod cursor;
 pub mod entries;
 pub mod fields;
+mod kinds;
 pub mod links;
 pub mod rules;

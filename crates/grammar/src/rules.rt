@@ -40,12 +40,6 @@ pub const BEFORE_LOW: usize = 14;
 
 pub const BEFORE_HIGH: usize = 15;
 
-pub fn wide(x: u8) -> usize
-    ensures { (result ≡ x) × (result < 256) }
-{
-    x as usize
-}
-
 pub fn word_at(rules: &[[u8; 256]], i: usize) -> u8
     requires { (4 ≤ length rules.now) × (i < 256) }
     ensures { result ≡ word_at rules.now i }
@@ -57,28 +51,28 @@ pub fn left_at(rules: &[[u8; 256]], i: usize) -> usize
     requires { (4 ≤ length rules.now) × (i < 256) }
     ensures { (result ≡ left_at rules.now i) × (result < 256) }
 {
-    wide(rules[LEFTS][i])
+    usize::from(rules[LEFTS][i])
 }
 
 pub fn right_at(rules: &[[u8; 256]], i: usize) -> usize
     requires { (4 ≤ length rules.now) × (i < 256) }
     ensures { (result ≡ right_at rules.now i) × (result < 256) }
 {
-    wide(rules[RIGHTS][i])
+    usize::from(rules[RIGHTS][i])
 }
 
 pub fn words_from(rules: &[[u8; 256]], a: usize) -> usize
     requires { (4 ≤ length rules.now) × (a ≤ 32) }
     ensures { (result ≡ word_from rules.now a) × (result < 256) }
 {
-    wide(rules[BEGINS][a])
+    usize::from(rules[BEGINS][a])
 }
 
 pub fn pairs_from(rules: &[[u8; 256]], a: usize) -> usize
     requires { (4 ≤ length rules.now) × (a ≤ 32) }
     ensures { (result ≡ pair_from rules.now a) × (result < 256) }
 {
-    wide(rules[BEGINS][PAIRS + a])
+    usize::from(rules[BEGINS][PAIRS + a])
 }
 
 // The start symbol.
@@ -86,7 +80,7 @@ pub fn start(rules: &[[u8; 256]]) -> usize
     requires { 4 ≤ length rules.now }
     ensures { (result ≡ start_in rules.now) × (result < 256) }
 {
-    wide(rules[BEGINS][START])
+    usize::from(rules[BEGINS][START])
 }
 
 // How many nonterminals there are.
@@ -94,7 +88,7 @@ pub fn count(rules: &[[u8; 256]]) -> usize
     requires { 4 ≤ length rules.now }
     ensures { (result ≡ count_in rules.now) × (result < 256) }
 {
-    wide(rules[BEGINS][COUNT])
+    usize::from(rules[BEGINS][COUNT])
 }
 
 // How many words there are.
@@ -110,7 +104,7 @@ pub fn link_at(rules: &[[u8; 256]], row: usize, l: usize) -> usize
     requires { (row < length rules.now) × (l < 256) }
     ensures { (result ≡ entry rules.now row l) × (result < 256) }
 {
-    wide(rules[row][l])
+    usize::from(rules[row][l])
 }
 
 // The link to the last pair rule (b, c).
@@ -120,7 +114,7 @@ pub fn pair_head(rules: &[[u8; 256]], b: usize, c: usize) -> usize
 {
     let x = 32 * b + c;
     let row = WITH_PAIR + x / 256;
-    wide(rules[row][x % 256])
+    usize::from(rules[row][x % 256])
 }
 
 // The rules of a table into a larger one.
@@ -128,9 +122,5 @@ pub fn copy(from: &[[u8; 256]], to: &mut [[u8; 256]])
     requires { (4 ≤ length from.now) × (4 ≤ length to.old) }
     ensures { CopiedAs 4 from.now to.old to.new }
 {
-    let mut r = 0;
-    while r < 4 {
-        to[r] = from[r];
-        r += 1;
-    }
+    to[..4].copy_from_slice(&from[..4]);
 }

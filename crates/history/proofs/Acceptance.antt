@@ -1,16 +1,16 @@
 -- What each test of *Check diary* says of the bytes, and what an accepted history is known to have.
 -- Assumes nothing.
-use mathlib.Core.Path.{◌≡◌, sym, ◌∙◌}
-use mathlib.Core.Bool.{false, true, not, ◌||◌}
+use mathlib.Core.Path.{◌≡◌}
+use mathlib.Core.Bool.{false, not, ◌||◌}
 use mathlib.Core.List.{List}
-use Prim.Native.Nat.{ℕ, ◌+◌, ◌-◌, ◌*◌, ◌%◌, ◌≤◌, ◌<◌}
-use borrow.Author.Tests.{ltb-false, eqb-true, lt-ltb, le-ltb, lt-leb, le-leb, not-false}
+use Prim.Native.Nat.{ℕ, ◌+◌, ◌-◌, ◌*◌, ◌%◌, ◌≤◌}
+use borrow.Author.Tests.{ltb-false, eqb-true, le-ltb, not-false}
 use native.Mathlib.Omega.{arith}
 use lib.ListN.{length, get_or, drop, length-drop}
 use lib.Seq.{length-take-le}
 use lib.Dec.{ltb, leb, eqb, lit<}
 use Rattle.lists.specs.Searched.{some_to, times}
-use Rattle.lists.proofs.Tests.{within_facts, within_low, within_high, within_both, or_left, or_right, below_none, to_at}
+use Rattle.lists.proofs.Tests.{within_facts, or_left, or_right, to_at}
 use Rattle.answers.specs.Answer.{first_that_applies}
 use Rattle.answers.specs.Length.{bad_length}
 use Rattle.answers.proofs.Refusals.{row_clear}
@@ -22,14 +22,6 @@ use Rattle.history.specs.Inner.Checks.{Sized}
 -- ---- 11: the size
 
 module _ (h : List ℕ) where
-  pub size_short : length h < 4 → true ≡ bad_size h
-  unfolding bad_size
-  size_short l = rw (lt-ltb (length h) 4 l)
-
-  pub size_many : 4 ≤ length h → 1000 < records_of h → true ≡ bad_size h
-  unfolding bad_size
-  size_many l m = rw (le-ltb (length h) 4 l, lt-ltb 1000 (records_of h) m)
-
   -- the other parts passed, the room decides
   pub size_room : 4 ≤ length h → records_of h ≤ 1000 → ltb (length h) (4 + 20 * records_of h) ≡ bad_size h
   unfolding bad_size
@@ -56,29 +48,6 @@ few_words h at e =
     let n = get_or h (at + 2) 0 in
     let rest = leb n (get_or h (at + 3) 0 % 16) || some_nonzero h (at + 4 + n) (16 - n) in
     (within_facts 1 16 n (or_left (bad_length n) rest e)).1
-
-module _ (h : List ℕ) (at : ℕ) where
-  -- the test part by part, as the code makes it
-  pub misfit_low : get_or h (at + 2) 0 < 1 → true ≡ misfit h at
-  unfolding misfit bad_length
-  misfit_low l = rw (within_low 1 16 (get_or h (at + 2) 0) l)
-
-  pub misfit_high : 16 < get_or h (at + 2) 0 → true ≡ misfit h at
-  unfolding misfit bad_length
-  misfit_high l = rw (within_high 1 16 (get_or h (at + 2) 0) l)
-
-  pub misfit_played : 1 ≤ get_or h (at + 2) 0 → get_or h (at + 2) 0 ≤ 16 → get_or h (at + 2) 0 ≤ get_or h (at + 3) 0 % 16 → true ≡ misfit h at
-  unfolding misfit bad_length
-  misfit_played l m p = rw (within_both 1 16 (get_or h (at + 2) 0) l m, le-leb (get_or h (at + 2) 0) (get_or h (at + 3) 0 % 16) p)
-
-  pub misfit_beyond : 1 ≤ get_or h (at + 2) 0 → get_or h (at + 2) 0 ≤ 16 → get_or h (at + 3) 0 % 16 < get_or h (at + 2) 0
-      → some_nonzero h (at + 4 + get_or h (at + 2) 0) (16 - get_or h (at + 2) 0) ≡ misfit h at
-  unfolding misfit bad_length
-  misfit_beyond l m p = rw (within_both 1 16 (get_or h (at + 2) 0) l m, lt-leb (get_or h (at + 2) 0) (get_or h (at + 3) 0 % 16) p)
-
-  -- nothing lies beyond sixteen words
-  pub misfit_full : get_or h (at + 2) 0 ≡ 16 → false ≡ misfit h at
-  misfit_full n = sym (below_none _ _ (omega arith)) ∙ misfit_beyond (omega arith) (omega arith) (omega arith)
 
 -- ---- 13 and 14
 

@@ -71,38 +71,38 @@ module _ (h : List ℕ) where
         bad n true e = e
         bad n false e = absurd (n (length_once (each_once h e)))
 
--- ---- 14, as a loop that counts down from K meets it: the steps made, with what the walk still meets, come to the chain's length
+-- ---- 14, as a loop of K steps meets it: the steps made, with what the walk still meets, come to the chain's length
 
-pub record Walking (h : List ℕ) (k at steps : ℕ) : Type 0 where
+pub record Walking (h : List ℕ) (k at made : ℕ) : Type 0 where
   pub low : at ≤ records_of h
-  pub due : length (numbers h) + steps ≡ k + length (met_from (next_of h) (records_of h) (steps + 1) at)
+  pub due : length (numbers h) ≡ made + length (met_from (next_of h) (records_of h) (k - made + 1) at)
 
 module _ {h : List ℕ} {k : ℕ} (count : k ≡ records_of h) (links : bad_link h ≡ false) where
-  pub walk_start : {at : ℕ} → at ≡ head_of h → Walking h k at k
+  pub walk_start : {at : ℕ} → at ≡ head_of h → Walking h k at 0
   unfolding numbers_from
-  walk_start e = rw e (record { low = link_head h links; due = rw (← count) (omega arith) })
+  walk_start e = let f : k - 0 + 1 ≡ records_of h + 1 = omega arith in rw e (record { low = link_head h links; due = rw f (omega arith) })
 
-  pub walk_step : {at next steps : ℕ} → 0 < steps → (at ≡ 0 → ⊥) → next ≡ next_of h at → Walking h k at steps → Walking h k next (steps - 1)
-  walk_step {at} {next} {steps} l n e w =
-      let s = met_step (next_of h) (records_of h) (steps + 1) at (omega arith) (omega arith) w.low in
-      let f : steps + 1 - 1 ≡ steps - 1 + 1 = omega arith in
+  pub walk_step : {at next made : ℕ} → made < k → (at ≡ 0 → ⊥) → next ≡ next_of h at → Walking h k at made → Walking h k next (made + 1)
+  walk_step {at} {next} {made} l n e w =
+      let s = met_step (next_of h) (records_of h) (k - made + 1) at (omega arith) (omega arith) w.low in
+      let f : k - made + 1 - 1 ≡ k - (made + 1) + 1 = omega arith in
       rw e
       (record { low = link_next h links at (omega arith) w.low; due = omega (arith, w.due, ap length (rw f at s)) })
 
-  pub walk_short : {at steps : ℕ} → 0 < steps → at ≡ 0 → Walking h k at steps → true ≡ bad_chain h
-  walk_short {at} {steps} l e w =
-      let m = ap length (met_zero (next_of h) (records_of h) (steps + 1) at e) in
+  pub walk_short : {at made : ℕ} → made < k → at ≡ 0 → Walking h k at made → true ≡ bad_chain h
+  walk_short {at} {made} l e w =
+      let m = ap length (met_zero (next_of h) (records_of h) (k - made + 1) at e) in
       sym (chain_length h links ∙ ap not (ne_eqb (length (numbers h)) (records_of h) (λ f. omega (arith, w.due))))
 
-  pub walk_end : {at steps : ℕ} → steps ≤ 0 → Walking h k at steps → not (eqb at 0) ≡ bad_chain h
-  walk_end {at} {steps} l w = last (ℕ_discrete at 0) ∙ sym (chain_length h links)
+  pub walk_end : {at made : ℕ} → made ≡ k → Walking h k at made → not (eqb at 0) ≡ bad_chain h
+  walk_end {at} {made} l w = last (ℕ_discrete at 0) ∙ sym (chain_length h links)
     where
       last : Dec (at ≡ 0) → not (eqb at 0) ≡ not (eqb (length (numbers h)) (records_of h))
       last (yes e) =
-          let m = ap length (met_zero (next_of h) (records_of h) (steps + 1) at e) in
+          let m = ap length (met_zero (next_of h) (records_of h) (k - made + 1) at e) in
           rw (eq-eqb at 0 e, eq-eqb (length (numbers h)) (records_of h) (omega (arith, w.due)))
       last (no n) =
-          let s = ap length (met_step (next_of h) (records_of h) (steps + 1) at (omega arith) (omega arith) w.low) in
+          let s = ap length (met_step (next_of h) (records_of h) (k - made + 1) at (omega arith) (omega arith) w.low) in
           rw (ne_eqb at 0 n, ne_eqb (length (numbers h)) (records_of h) (λ f. omega (arith, w.due)))
 
 -- ---- an accepted history

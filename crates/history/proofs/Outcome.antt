@@ -13,17 +13,20 @@ use Rattle.answers.specs.Answer as answer
 use Rattle.answers.specs.Answer.{Answer, first_that_applies}
 use Rattle.answers.specs.Inner.Refusals.{refusal_number}
 use Rattle.answers.specs.declared.refusal.Refusal.{Refusal}
+use Rattle.answers.specs.declared.refusal.Refusal.TheVariants.{HistoryWrongSize, HistoryBadChain}
 use Rattle.answers.specs.Length.{bad_length}
 use Rattle.answers.specs.Voice.{bad_voice}
-use Rattle.answers.proofs.Refusals.{row_applies, row_passed, rows_stop, rows_pass, answer_number, answer_accepted, answer_refused}
-use Rattle.history.specs.declared.checks.HistoryAnswer.{HistoryAnswer}
-use Rattle.history.specs.declared.checks.HistoryAnswer.TheVariants.{Given, Refused}
+use Rattle.answers.proofs.Numbers.{number_some}
+use Rattle.answers.proofs.Refusals.{row_applies, row_passed, row_clear, rows_stop, rows_pass, answer_number, answer_accepted, answer_refused}
+use Rattle.std.specs.Prelude.{Ok, Err}
 use Rattle.history.specs.Layout.{records_of}
-use Rattle.history.specs.Refusals.{history_rows, history_refusal, Accepted}
+use Rattle.history.specs.Refusals.{bad_size, bad_link, bad_chain, history_rows, history_refusal, Accepted}
 use Rattle.history.specs.Playback.{Playback, bad_played}
 use Rattle.history.specs.Writing.{appended}
 use Rattle.history.specs.Answers.{check_history, no_room, append_rows, append_of}
+use Rattle.history.specs.Inner.Checks.{Sized, TestedAs, record_rows}
 use Rattle.history.specs.Inner.Says.{history_says}
+use Rattle.history.proofs.Acceptance.{size_facts, known}
 
 -- ---- *Check diary*
 
@@ -31,13 +34,39 @@ use Rattle.history.specs.Inner.Says.{history_says}
 abbrev pub Passed : List ℕ → ℕ → Type 0
 Passed h k = history_refusal h ≡ first_that_applies (drop k (history_rows h))
 
-pub refused : (h : List ℕ) (n : ℕ) → history_refusal h ≡ n → 0 < n → answer.refused n 1 [] ≡ check_history h
+refused : (h : List ℕ) (n : ℕ) → history_refusal h ≡ n → 0 < n → answer.refused n 1 [] ≡ check_history h
 unfolding check_history
 refused h n e l = rw e (sym (answer_refused n (records_of h ∷ []) [] [] l))
 
-pub accepted : (h : List ℕ) → Passed h 4 → answer.given (records_of h ∷ []) [] ≡ check_history h
+accepted : (h : List ℕ) → Passed h 4 → answer.given (records_of h ∷ []) [] ≡ check_history h
 unfolding check_history first_that_applies
 accepted h e = sym (answer_accepted (records_of h ∷ []) [] [] e)
+
+pub by_size : (h : List ℕ) → true ≡ bad_size h → history_says (Err HistoryWrongSize) ≡ check_history h
+by_size h e = refused h 11 (row_applies 11 _ (sym e)) (lit< tt)
+
+module _ (h : List ℕ) (size : false ≡ bad_size h) where
+  pub sized : {k : ℕ} → k ≡ records_of h → Sized h k
+  sized e = rw e (size_facts h (sym size))
+
+  pub by_records : {r : Refusal} → TestedAs h (Err r) → history_says (Err r) ≡ check_history h
+  by_records {r} t =
+      refused h (refusal_number r)
+      (row_passed 11 _ (sym size) ∙ rows_stop (record_rows h) _ (omega (arith, number_some r, t.first)) ∙ sym t.first)
+      (number_some r)
+
+  module _ (records : TestedAs h (Ok tt)) where
+    pub linked : bad_link h ≡ false
+    linked = (row_clear 13 [] _ (lit< tt) (row_clear 12 _ _ (lit< tt) (sym records.first)).1).0
+
+    past_records : Passed h 3
+    past_records = row_passed 11 _ (sym size) ∙ rows_pass (record_rows h) _ refl (sym records.first)
+
+    pub by_chain : true ≡ bad_chain h → history_says (Err HistoryBadChain) ≡ check_history h
+    by_chain e = refused h 14 (past_records ∙ row_applies 14 _ (sym e)) (lit< tt)
+
+    pub counted : false ≡ bad_chain h → {k : ℕ} → k ≡ records_of h → history_says (Ok k) ≡ check_history h
+    counted e f = rw f (accepted h (past_records ∙ row_passed 14 _ (sym e)))
 
 check_number : (h : List ℕ) {a : Answer} → a ≡ check_history h → a.refusal ≡ history_refusal h
 unfolding check_history
@@ -47,14 +76,20 @@ check_figures : (h : List ℕ) {a : Answer} → a ≡ check_history h → Accept
 unfolding check_history
 check_figures h e ok = ap (λ (x : Answer). x.figures) (e ∙ answer_accepted (records_of h ∷ []) [] [] ok)
 
--- what each case of the answer says
-pub check_accepted : (h : List ℕ) {a : HistoryAnswer} {k : ℕ} → history_says a ≡ check_history h → a ≡ Given k → Accepted h × (k ≡ records_of h)
-check_accepted h {k = k} e f =
-    let ok : Accepted h = sym (check_number h (rw f at e)) in
-    (ok, ap (λ (l : List ℕ). get_or l 0 0) (check_figures h (rw f at e) ok))
+-- the history is accepted, and K is k
+pub record Counted (h : List ℕ) (k : ℕ) : Type 0 where
+  pub accepted : Accepted h
+  pub count : k ≡ records_of h
+  pub sized : Sized h (records_of h)
 
-pub check_refused : (h : List ℕ) {a : HistoryAnswer} {r : Refusal} → history_says a ≡ check_history h → a ≡ Refused r → history_refusal h ≡ refusal_number r
-check_refused h e f = sym (check_number h (rw f at e))
+-- what each case of the answer says
+pub check_accepted : (h : List ℕ) {k : ℕ} → history_says (Ok k) ≡ check_history h → Counted h k
+check_accepted h {k} e =
+    let ok : Accepted h = sym (check_number h e) in
+    record { accepted = ok; count = ap (λ (l : List ℕ). get_or l 0 0) (check_figures h e ok); sized = (known h ok).sized }
+
+pub check_refused : (h : List ℕ) (r : Refusal) → history_says (Err r) ≡ check_history h → history_refusal h ≡ refusal_number r
+check_refused h r e = sym (check_number h e)
 
 -- ---- *Log*
 

@@ -2,10 +2,10 @@
 -- number after it.
 -- Assumes nothing.
 use mathlib.Core.Path.{◌≡◌, sym, ap, ◌∙◌}
-use mathlib.Core.Bool.{Bool, true, false, not, cond}
+use mathlib.Core.Bool.{Bool, true, not, cond}
 use mathlib.Core.List.{List, [], ◌∷◌}
-use Prim.Native.Nat.{ℕ, ◌≤◌, ◌<◌}
-use borrow.Author.Tests.{le-leb, lt-leb}
+use Prim.Native.Nat.{ℕ, ◌≤◌}
+use borrow.Author.Tests.{le-leb}
 use lib.Dec.{leb}
 use Rattle.lists.proofs.Tests.{within_facts}
 use Rattle.history.specs.Layout.{records_of, next_of, record_words}
@@ -18,9 +18,6 @@ use Rattle.history.proofs.Chain.{numbers_step}
 module _ (h : List ℕ) (at : ℕ) where
   -- ---- whether a number is a record's
 
-  pub not_low : at < 1 → false ≡ is_record h at
-  not_low l = rw (lt-leb 1 at l)
-
   pub by_high : 1 ≤ at → leb at (records_of h) ≡ is_record h at
   by_high l = rw (le-leb 1 at l)
 
@@ -32,14 +29,8 @@ module _ (h : List ℕ) (at : ℕ) where
   pub words_here : is_record h at ≡ true → record_words h at ≡ sentence_at h at
   words_here e = ap (λ (b : Bool). cond b (record_words h at) []) (sym e)
 
-  pub words_end : is_record h at ≡ false → [] ≡ sentence_at h at
-  words_end e = ap (λ (b : Bool). cond b (record_words h at) []) (sym e)
-
   pub next_here : is_record h at ≡ true → next_of h at ≡ next_at h at
   next_here e = ap (λ (b : Bool). cond b (next_of h at) 0) (sym e)
-
-  pub next_end : is_record h at ≡ false → 0 ≡ next_at h at
-  next_end e = ap (λ (b : Bool). cond b (next_of h at) 0) (sym e)
 
   -- ---- the chain of an accepted history, read from here on
 

@@ -4,9 +4,12 @@ use mathlib.Core.Path.{◌≡◌, refl, sym, ap, ◌∙◌}
 use mathlib.Core.List.{List, [], ◌∷◌, ◌++◌}
 use Prim.Native.Nat.{ℕ, zero, suc, ◌+◌, ◌-◌, ◌≤◌, ◌<◌}
 use native.Mathlib.Omega.{arith}
-use lib.ListN.{length, get_or, take, drop, replicate, length-append, length-replicate}
+use borrow.Rule.Slice.PartMut.{put_mid}
+use lib.ListN.{length, get_or, set, take, drop, replicate, length-append, length-replicate}
 use lib.Seq.{paste, take-length, length-take-le, length-paste, get_or-take, get_or-drop, get_or-append-add}
 use Rattle.lists.proofs.Places.{get_or_same, get_or_left, get_or_right}
+use Rattle.std.proofs.lemmas.List.{drop-replicate}
+use Rattle.std.proofs.lemmas.Slice.{put_mid-paste}
 use Rattle.history.specs.Layout.{records_of, head_of, record_at}
 use Rattle.history.specs.Playback.{Playback}
 use Rattle.history.specs.Writing.{overwritten, two_bytes, record_bytes, fourth_byte, appended}
@@ -31,6 +34,14 @@ record_length next fourth s h =
     let e : length (s ++ replicate (16 - length s) 0) ≡ 16 = simp (length-append, length-replicate) (omega arith) in
     omega arith
 
+-- the record written over twenty zeros: what lies past the sentence stays 0
+pub record_made : (next fourth : ℕ) (s : List ℕ) {a ys : List ℕ} → length s ≤ 16 → a ≡ overwritten (replicate 20 0) 0 (two_bytes next) → ys ≡ s
+    → put_mid 4 (4 + length s - 4) (set (set a 2 (length s)) 3 fourth) ys ≡ record_bytes next fourth s
+unfolding overwritten record_bytes
+record_made next fourth s l e f =
+    let k : 4 + length s - 4 ≡ length s = omega arith in
+    rw (e, f, k) (ap (λ (r : List ℕ). two_bytes next ++ (length s ∷ fourth ∷ (s ++ r))) (drop-replicate (length s) 16 0))
+
 -- ---- bytes overwritten in the place of others
 
 -- a whole copy is a overwritten
@@ -39,6 +50,10 @@ unfolding overwritten
 paste_put h at bs n e =
     ap (λ (k : ℕ). take at h ++ take k bs ++ drop (at + k) h) (sym e)
     ∙ ap (λ (r : List ℕ). take at h ++ r ++ drop (at + length bs) h) (take-length bs)
+
+-- a copy into the part from `at` on
+pub part_put : (h bs : List ℕ) (at n : ℕ) {ys : List ℕ} → ys ≡ bs → length bs ≡ n → put_mid at (at + n - at) h ys ≡ overwritten h at bs
+part_put h bs at n {ys} e f = put_mid-paste at (at + n - at) h ys bs n e (omega arith) (sym f) ∙ paste_put h at bs n f
 
 module _ (h : List ℕ) (at : ℕ) (bs : List ℕ) (fits : at + length bs ≤ length h) where
   pub put_length : length (overwritten h at bs) ≡ length h

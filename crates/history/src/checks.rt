@@ -8,13 +8,8 @@ ghost use Rattle.history.specs.Inner.Says.{history_says};
 use crate::records;
 use answers::refusal::Refusal;
 
-#[derive(Clone, Copy)]
-pub enum HistoryAnswer {
-    Given(u64),
-    Refused(Refusal),
-}
-
 // 11.
+#[tactic(auto, unfolding(crate::specs::Refusals::bad_size))]
 fn bad_size(h: &[u8]) -> bool
     ensures { result ≡ bad_size h.now }
 {
@@ -22,10 +17,7 @@ fn bad_size(h: &[u8]) -> bool
         return true;
     }
     let k = records::two_at(h, 0);
-    if 1000 < k {
-        return true;
-    }
-    h.len() < 4 + 20 * k
+    1000 < k || h.len() < 4 + 20 * k
 }
 
 // Whether, of the sixteen bytes at `at`, one from the place n on is not 0. All are looked at: a loop that no byte ends can be unrolled.
@@ -34,30 +26,26 @@ fn some_nonzero(h: &[u8], at: usize, n: usize) -> bool
     ensures { result ≡ some_nonzero h.now (at + n) (16 - n) }
 {
     let mut bits: u8 = 0;
-    let mut i: usize = 0;
-    while i < 16 {
+    for i in 0..16 {
         if n <= i {
-            bits = bits | h[at + i];
+            bits |= h[at + i];
         }
-        i += 1;
     }
     bits != 0
 }
 
 // Whether a record, which stands at `at`, breaks its layout.
+#[tactic(auto, using(lists::proofs::Tests::below_none), unfolding(crate::specs::Refusals::misfit, answers::specs::Length::bad_length))]
 fn misfit(h: &[u8], at: usize) -> bool
     requires { at + 20 ≤ length h.now }
     ensures { result ≡ misfit h.now at }
 {
-    let n = records::wide(h[at + 2]);
-    if n < 1 {
-        return true;
-    }
-    if 16 < n {
+    let n = usize::from(h[at + 2]);
+    if n < 1 || 16 < n {
         return true;
     }
     // the low four bits are the words played, fewer than all; the high four bits hold the voice, and may be any
-    if n <= records::wide(h[at + 3]) % 16 {
+    if n <= usize::from(h[at + 3]) % 16 {
         return true;
     }
     // nothing lies beyond sixteen words
@@ -67,31 +55,24 @@ fn misfit(h: &[u8], at: usize) -> bool
     some_nonzero(h, at + 4, n)
 }
 
-// What one pass over the records shows: whether a record is bad (12), and if none is, whether a link is far (13).
-#[derive(Clone, Copy)]
-struct RecordTests {
-    bad: bool,
-    far: bool,
-}
-
 // 12 and 13. A bad record ends the pass; a far link doesn't, since a bad record may follow.
-fn test_records(h: &[u8], k: usize) -> RecordTests
+fn test_records(h: &[u8], k: usize) -> Result<(), Refusal>
     requires { Sized h.now k }
-    ensures { TestedAs h.now result.bad result.far }
+    ensures { TestedAs h.now result }
 {
     let mut far = k < records::two_at(h, 2);
-    let mut r: usize = 0;
-    while r < k {
-        r += 1;
+    for r in 1..k + 1 {
         let at = records::record_at(r);
         if misfit(h, at) {
-            return RecordTests { bad: true, far };
+            return Err(Refusal::HistoryBadRecord);
         }
-        if k < records::two_at(h, at) {
-            far = true;
-        }
+        far |= k < records::two_at(h, at);
     }
-    RecordTests { bad: false, far }
+    if far {
+        Err(Refusal::HistoryBadLink)
+    } else {
+        Ok(())
+    }
 }
 
 // 14: a chain of links up to k that ends meets no record twice. So it meets each once exactly if it meets k of them and ends.
@@ -100,33 +81,25 @@ fn bad_chain(h: &[u8], k: usize) -> bool
     ensures { result ≡ bad_chain h.now }
 {
     let mut at = records::two_at(h, 2);
-    let mut steps = k;
-    while 0 < steps {
+    for _ in 0..k {
         if at == 0 {
             return true;
         }
         at = records::two_at(h, records::record_at(at));
-        steps -= 1;
     }
     at != 0
 }
 
-pub fn check(h: &[u8]) -> HistoryAnswer
+pub fn check(h: &[u8]) -> Result<u64, Refusal>
     ensures { history_says result ≡ check_history h.now }
 {
     if bad_size(h) {
-        return HistoryAnswer::Refused(Refusal::HistoryWrongSize);
+        return Err(Refusal::HistoryWrongSize);
     }
     let k = records::two_at(h, 0);
-    let t = test_records(h, k);
-    if t.bad {
-        return HistoryAnswer::Refused(Refusal::HistoryBadRecord);
-    }
-    if t.far {
-        return HistoryAnswer::Refused(Refusal::HistoryBadLink);
-    }
+    test_records(h, k)?;
     if bad_chain(h, k) {
-        return HistoryAnswer::Refused(Refusal::HistoryBadChain);
+        return Err(Refusal::HistoryBadChain);
     }
-    HistoryAnswer::Given(k as u64)
+    Ok(k as u64)
 }

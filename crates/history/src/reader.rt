@@ -1,6 +1,5 @@
-// The reader of a history: a struct that holds the history's bytes and the number of the record where it stands. The work is done by functions
-// on the bytes and the number. `open`, `standing` and `moved` are over the struct, and take it apart; `first`, `sentence` and `after` make one in
-// a local, so that every other module reads through it with a slice and a number in hand.
+// The reader of a history: a struct that holds the history's bytes and the number of the record where it stands. `first`, `sentence` and `after`
+// make one in a local, so that a caller reads through it with a slice and a number in hand.
 ghost use Rattle.std.specs.Prelude.{◌≡◌};
 ghost use Rattle.history.specs.Layout.{head_of};
 ghost use Rattle.history.specs.Refusals.{Accepted};
@@ -15,84 +14,63 @@ pub struct Reader<'a> {
     pub at: usize,
 }
 
-// The number of the first record, or the end.
-fn head(h: &[u8]) -> usize
-    requires { Accepted h.now }
-    ensures { result ≡ head_of h.now }
-{
-    records::two_at(h, 2)
-}
-
-// Whether `at` is the number of a record.
-fn is_record(h: &[u8], at: usize) -> bool
-    requires { Accepted h.now }
-    ensures { result ≡ is_record h.now at }
-{
-    if at < 1 {
-        return false;
+impl<'a> Reader<'a> {
+    // A reader at the first record.
+    pub fn open(h: &'a [u8]) -> Reader<'a>
+        requires { Accepted h.now }
+        ensures { (result.history ≡ h.entry) × (result.at ≡ head_of h.now) }
+    {
+        Reader {
+            history: h,
+            at: records::two_at(h, 2),
+        }
     }
-    at <= records::two_at(h, 0)
-}
 
-// The sentence of record `at`; at the end an empty one.
-fn words_at(h: &[u8], at: usize) -> &[u8]
-    requires { Accepted h.now }
-    ensures { result.now ≡ sentence_at h.now at }
-{
-    if is_record(h, at) {
-        return records::words(h, at);
+    // Whether it stands at a record.
+    fn is_record(self) -> bool
+        requires { Accepted self.history.now }
+        ensures { result ≡ is_record self.entry.history.now self.entry.at }
+    {
+        1 <= self.at && self.at <= records::two_at(self.history, 0)
     }
-    &h[0..0]
-}
 
-// The number of the record after `at`.
-fn next_at(h: &[u8], at: usize) -> usize
-    requires { Accepted h.now }
-    ensures { result ≡ next_at h.now at }
-{
-    if is_record(h, at) {
-        return records::two_at(h, records::record_at(at));
+    // The sentence where it stands; at the end an empty one.
+    pub fn standing(self) -> &'a [u8]
+        requires { Accepted self.history.now }
+        ensures { result.now ≡ sentence_at self.entry.history.now self.entry.at }
+    {
+        if self.is_record() {
+            records::words(self.history, self.at)
+        } else {
+            &self.history[0..0]
+        }
     }
-    0
-}
 
-// A reader at the first record.
-pub fn open<'a>(h: &'a [u8]) -> Reader<'a>
-    requires { Accepted h.now }
-    ensures { (result.history ≡ h.entry) × (result.at ≡ head_of h.now) }
-{
-    Reader {
-        history: h,
-        at: head(h),
+    // The reader moved on by one record.
+    #[tactic(auto, using(crate::proofs::Acceptance::known))]
+    pub fn moved(self) -> Reader<'a>
+        requires { Accepted self.history.now }
+        ensures { (result.history ≡ self.entry.history) × (result.at ≡ next_at self.entry.history.now self.entry.at) }
+    {
+        let next = if self.is_record() {
+            records::two_at(self.history, records::record_at(self.at))
+        } else {
+            0
+        };
+        Reader {
+            history: self.history,
+            at: next,
+        }
     }
 }
 
-// The sentence where it stands; at the end an empty one.
-pub fn standing<'a>(r: Reader<'a>) -> &'a [u8]
-    requires { Accepted r.history.now }
-    ensures { result.now ≡ sentence_at r.entry.history.now r.entry.at }
-{
-    words_at(r.history, r.at)
-}
-
-// The reader moved on by one record.
-pub fn moved<'a>(r: Reader<'a>) -> Reader<'a>
-    requires { Accepted r.history.now }
-    ensures { (result.history ≡ r.entry.history) × (result.at ≡ next_at r.entry.history.now r.entry.at) }
-{
-    let next = next_at(r.history, r.at);
-    Reader {
-        history: r.history,
-        at: next,
-    }
-}
-
+// Stays: `collect` in sampling/src/heard.rt reads by a slice and a number through these three, whose contracts may not change.
 // Where the reading begins.
 pub fn first(h: &[u8]) -> usize
     requires { Accepted h.now }
     ensures { result ≡ head_of h.now }
 {
-    open(h).at
+    Reader::open(h).at
 }
 
 // What a reader at `at` reads.
@@ -100,7 +78,7 @@ pub fn sentence(h: &[u8], at: usize) -> &[u8]
     requires { Accepted h.now }
     ensures { result.now ≡ sentence_at h.now at }
 {
-    standing(Reader { history: h, at })
+    Reader { history: h, at }.standing()
 }
 
 // Where a reader at `at` stands next.
@@ -108,5 +86,5 @@ pub fn after(h: &[u8], at: usize) -> usize
     requires { Accepted h.now }
     ensures { result ≡ next_at h.now at }
 {
-    moved(Reader { history: h, at }).at
+    Reader { history: h, at }.moved().at
 }

@@ -5,20 +5,13 @@ ghost use Rattle.history.specs.Heard.{makes_heard};
 ghost use Rattle.history.specs.Refusals.{Accepted};
 ghost use Rattle.history.specs.Inner.Checks.{Inside};
 
-pub fn wide(x: u8) -> usize
-    ensures { (result ≡ x) × (result ≤ 255) }
-{
-    x as usize
-}
-
 // The two-byte field at i.
+#[tactic(auto, unfolding(crate::specs::Layout::two_at))]
 pub fn two_at(h: &[u8], i: usize) -> usize
     requires { i + 1 < length h.now }
     ensures { (result ≡ two_at h.now i) × (result ≤ 65535) }
 {
-    let low = wide(h[i]);
-    let high = wide(h[i + 1]);
-    low + 256 * high
+    usize::from(u16::from_le_bytes([h[i], h[i + 1]]))
 }
 
 // Where record r stands.
@@ -30,11 +23,12 @@ pub fn record_at(r: usize) -> usize
 }
 
 // Byte i of record r.
-fn byte(h: &[u8], r: usize, i: usize) -> usize
+#[tactic(auto, using(crate::proofs::Acceptance::known))]
+fn byte(h: &[u8], r: usize, i: usize) -> u8
     requires { Accepted h.now × Inside h.now r × (i < 20) }
-    ensures { (result ≡ get_or h.now (record_at r + i) 0) × (result ≤ 255) }
+    ensures { result ≡ get_or h.now (record_at r + i) 0 }
 {
-    wide(h[record_at(r) + i])
+    h[record_at(r) + i]
 }
 
 // How many words the sentence of record r has.
@@ -42,10 +36,11 @@ fn length(h: &[u8], r: usize) -> usize
     requires { Accepted h.now × Inside h.now r }
     ensures { result ≡ length_of h.now r }
 {
-    byte(h, r, 2)
+    usize::from(byte(h, r, 2))
 }
 
 // The sentence of record r.
+#[tactic(auto, using(crate::proofs::Acceptance::known, crate::proofs::Acceptance::words_inside))]
 pub fn words(h: &[u8], r: usize) -> &[u8]
     requires { Accepted h.now × Inside h.now r }
     ensures { result.now ≡ record_words h.now r }
@@ -56,10 +51,11 @@ pub fn words(h: &[u8], r: usize) -> &[u8]
 }
 
 // Whether record r makes its sentence heard in a voice: it has that voice, and was played in full.
+#[tactic(auto, unfolding(crate::specs::Heard::makes_heard))]
 pub fn makes_heard(h: &[u8], r: usize, voice: u64) -> bool
     requires { Accepted h.now × Inside h.now r }
     ensures { result ≡ makes_heard h.now voice r }
 {
     let fourth = byte(h, r, 3);
-    (fourth / 16) as u64 == voice && fourth % 16 == 0
+    u64::from(fourth / 16) == voice && fourth % 16 == 0
 }

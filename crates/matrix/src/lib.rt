@@ -5,8 +5,9 @@ ghost use Rattle.std.specs.Prelude.{◌≡◌};
 ghost use Rattle.grammar.specs.Inner.Says.{grammar_says};
 ghost use Rattle.matrix.specs.Table.{table, accepted};
 
+use answers::refusal::Refusal;
 use grammar::checks;
-use grammar::checks::GrammarAnswer;
+use grammar::checks::Sizes;
 
 const MATRIX: [u8; 229] = [
     9, 50, 54, 0, 1, 2, 3, 4, 5, 15, 25, 35, 45, 1, 4, 1, 0, 1, 5, 2, 0, 1, 6, 3, 0, 1, 7, 8, 0, 0,
@@ -28,7 +29,7 @@ pub fn bytes() -> [u8; 229]
 }
 
 // The reader accepts it, with nine nonterminals and fifty words.
-pub fn check() -> GrammarAnswer
+pub fn check() -> Result<Sizes, Refusal>
     ensures { grammar_says result ≡ accepted }
 {
     checks::check(&MATRIX)

@@ -1,3 +1,4 @@
+pub mod Inner
 pub mod Calls
 pub mod Former
 pub mod OneMore

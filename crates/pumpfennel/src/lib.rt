@@ -12,25 +12,80 @@ ghost use Rattle.sampling.specs.Answers.{remaining_of, remaining_matching, draw_
 ghost use Rattle.sampling.specs.Inner.Says.{remaining_says, draw_says};
 ghost use Rattle.weighing.specs.Weighted.{draw_weighted};
 ghost use Rattle.pumpfennel.specs.Calls.{gives};
+ghost use Rattle.pumpfennel.specs.Inner.Says.{figure_says};
 
-use answers::refusal;
+use answers::refusal::Refusal;
 use counting::count;
-use counting::count::CountAnswer;
 use grammar::checks;
-use grammar::checks::GrammarAnswer;
 use history::append;
-use history::append::AppendAnswer;
-use history::checks::HistoryAnswer;
-use ranking::rank::RankAnswer;
-use ranking::unrank::{DerivationNumber, UnrankAnswer};
+use ranking::unrank::DerivationNumber;
 use ranking::{rank, unrank};
-use sampling::draw::DrawAnswer;
+use sampling::draw::Drawn;
 use sampling::question::Question;
-use sampling::remaining::RemainingAnswer;
+use sampling::remaining::Left;
 use sampling::skip::DrawNumber;
 use sampling::{draw, remaining};
 
 mod version;
+
+// The one figure of *Check diary*, *Count*, *Give* and *Log*, handed over, beside the buffer that the call left.
+fn hand_figure(a: Result<u64, Refusal>, figure: &mut u64) -> u8
+    ensures { (out : List ℕ) → gives result (figure.new ∷ []) out ≡ figure_says a out }
+{
+    match a {
+        Ok(x) => {
+            *figure = x;
+            0
+        }
+        Err(r) => {
+            *figure = 0;
+            u8::from(r)
+        }
+    }
+}
+
+// The figures of *Left*, handed over, with or without a pattern.
+fn hand_remaining(
+    a: Result<Left, Refusal>,
+    total: &mut u64,
+    heard: &mut u64,
+    remaining: &mut u64,
+) -> u8
+    ensures { gives result (total.new ∷ heard.new ∷ remaining.new ∷ []) [] ≡ remaining_says a }
+{
+    match a {
+        Ok(figures) => {
+            *total = figures.total;
+            *heard = figures.heard;
+            *remaining = figures.left;
+            0
+        }
+        Err(r) => {
+            *total = 0;
+            *heard = 0;
+            *remaining = 0;
+            u8::from(r)
+        }
+    }
+}
+
+// Those of *Draw*, beside the buffer that it left.
+fn hand_drawn(a: Result<Drawn, Refusal>, remaining: &mut u64, number: &mut u64) -> u8
+    ensures { (out : List ℕ) → gives result (remaining.new ∷ number.new ∷ []) out ≡ draw_says a out }
+{
+    match a {
+        Ok(drawn) => {
+            *remaining = drawn.left;
+            *number = drawn.number.0;
+            0
+        }
+        Err(r) => {
+            *remaining = 0;
+            *number = 0;
+            u8::from(r)
+        }
+    }
+}
 
 // *Check bank*.
 #[unsafe(no_mangle)]
@@ -41,20 +96,16 @@ pub extern "C" fn pumpfennel_check_grammar(
 ) -> u8
     ensures { gives result (nonterminals.new ∷ words.new ∷ []) [] ≡ check_grammar grammar.now }
 {
-    let a = checks::check(grammar);
-    match a {
-        GrammarAnswer::Given {
-            nonterminals: n,
-            words: w,
-        } => {
-            *nonterminals = n as u64;
-            *words = w as u64;
+    match checks::check(grammar) {
+        Ok(sizes) => {
+            *nonterminals = u64::from(sizes.nonterminals);
+            *words = u64::from(sizes.words);
             0
         }
-        GrammarAnswer::Refused(r) => {
+        Err(r) => {
             *nonterminals = 0;
             *words = 0;
-            refusal::number(r)
+            u8::from(r)
         }
     }
 }
@@ -64,17 +115,7 @@ pub extern "C" fn pumpfennel_check_grammar(
 pub extern "C" fn pumpfennel_check_history(history: &[u8], records: &mut u64) -> u8
     ensures { gives result (records.new ∷ []) [] ≡ check_history history.now }
 {
-    let a = history::checks::check(history);
-    match a {
-        HistoryAnswer::Given(k) => {
-            *records = k;
-            0
-        }
-        HistoryAnswer::Refused(r) => {
-            *records = 0;
-            refusal::number(r)
-        }
-    }
+    hand_figure(history::checks::check(history), records)
 }
 
 // *Count*.
@@ -82,17 +123,7 @@ pub extern "C" fn pumpfennel_check_history(history: &[u8], records: &mut u64) ->
 pub extern "C" fn pumpfennel_count(grammar: &[u8], length: u64, total: &mut u64) -> u8
     ensures { gives result (total.new ∷ []) [] ≡ count_of grammar.now length }
 {
-    let a = count::count(grammar, length);
-    match a {
-        CountAnswer::Given(t) => {
-            *total = t;
-            0
-        }
-        CountAnswer::Refused(r) => {
-            *total = 0;
-            refusal::number(r)
-        }
-    }
+    hand_figure(count::count(grammar, length), total)
 }
 
 // *Give*.
@@ -107,16 +138,7 @@ pub extern "C" fn pumpfennel_unrank(
     ensures { gives result (total.new ∷ []) sentence.new ≡ unrank_of grammar.now length number sentence.old }
 {
     let a = unrank::unrank(grammar, length, DerivationNumber(number), sentence);
-    match a {
-        UnrankAnswer::Given(t) => {
-            *total = t;
-            0
-        }
-        UnrankAnswer::Refused(r) => {
-            *total = 0;
-            refusal::number(r)
-        }
-    }
+    hand_figure(a, total)
 }
 
 // *Number*.
@@ -130,61 +152,18 @@ pub extern "C" fn pumpfennel_rank(
 ) -> u8
     ensures { gives result (number.new ∷ total.new ∷ derivations.new ∷ []) [] ≡ rank_of grammar.now sentence.now }
 {
-    let a = rank::rank(grammar, sentence);
-    match a {
-        RankAnswer::Given {
-            lowest: d,
-            total: t,
-            derivations: k,
-        } => {
-            *number = d.0;
-            *total = t;
-            *derivations = k;
+    match rank::rank(grammar, sentence) {
+        Ok(ranked) => {
+            *number = ranked.lowest.0;
+            *total = ranked.total;
+            *derivations = ranked.derivations;
             0
         }
-        RankAnswer::Refused(r) => {
+        Err(r) => {
             *number = 0;
             *total = 0;
             *derivations = 0;
-            refusal::number(r)
-        }
-    }
-}
-
-// The figures of *Left*, handed over, with or without a pattern.
-fn hand_remaining(a: RemainingAnswer, total: &mut u64, heard: &mut u64, remaining: &mut u64) -> u8
-    ensures { gives result (total.new ∷ heard.new ∷ remaining.new ∷ []) [] ≡ remaining_says a }
-{
-    match a {
-        RemainingAnswer::Given(t, k, l) => {
-            *total = t;
-            *heard = k;
-            *remaining = l;
-            0
-        }
-        RemainingAnswer::Refused(r) => {
-            *total = 0;
-            *heard = 0;
-            *remaining = 0;
-            refusal::number(r)
-        }
-    }
-}
-
-// Those of *Draw*, beside the buffer that it left.
-fn hand_drawn(a: DrawAnswer, remaining: &mut u64, number: &mut u64) -> u8
-    ensures { (out : List ℕ) → gives result (remaining.new ∷ number.new ∷ []) out ≡ draw_says a out }
-{
-    match a {
-        DrawAnswer::Given(l, d) => {
-            *remaining = l;
-            *number = d.0;
-            0
-        }
-        DrawAnswer::Refused(r) => {
-            *remaining = 0;
-            *number = 0;
-            refusal::number(r)
+            u8::from(r)
         }
     }
 }
@@ -302,15 +281,5 @@ pub extern "C" fn pumpfennel_append(
 ) -> u8
     ensures { gives result (records.new ∷ []) history.new ≡ append_of history.old (playback sentence.now voice played) }
 {
-    let a = append::append(history, sentence, voice, played);
-    match a {
-        AppendAnswer::Given(k) => {
-            *records = k;
-            0
-        }
-        AppendAnswer::Refused(r) => {
-            *records = 0;
-            refusal::number(r)
-        }
-    }
+    hand_figure(append::append(history, sentence, voice, played), records)
 }

@@ -7,18 +7,18 @@ use Prim.Native.Nat.{ℕ, ◌≤◌, ◌<◌}
 use native.Mathlib.Omega.{arith}
 use native.Mathlib.Decide.{dec_lt}
 use lib.ListN.{length, drop}
+use Rattle.std.specs.Prelude.{Result, Ok, Err, ⊤}
 use lib.Dec.{ltb, leb, eqb, lit<}
 use borrow.Author.Tests.{le-leb, lt-leb, lt-ltb, le-ltb, eq-eqb, ne_eqb}
 use Rattle.answers.specs.Answer.{Row, first_that_applies, given, refused}
 use Rattle.answers.specs.Inner.Refusals.{refusal_number}
+use Rattle.answers.specs.Inner.Results.{result_number}
 use Rattle.answers.specs.declared.refusal.Refusal.{Refusal}
 use Rattle.answers.proofs.Numbers.{number_some}
 use Rattle.answers.proofs.Refusals.{row_applies, row_passed, rows_stop, rows_pass, answer_accepted, answer_refused}
 use Rattle.grammar.specs.Inner.Rules.{Holds}
 use Rattle.counting.specs.Refusals.{prepared_rows}
-use Rattle.counting.specs.Inner.Preparing.{prepared_number, PreparedAs}
-use Rattle.counting.specs.declared.prepare.Prepared.{Prepared}
-use Rattle.counting.specs.declared.prepare.Prepared.TheVariants.{Ready, Refused}
+use Rattle.counting.specs.Inner.Preparing.{PreparedAs}
 use Rattle.ranking.specs.Answers.{total_of, entry_of, unrank_of, readings_of, number_of, rank_of}
 use Rattle.ranking.specs.Inner.Inside.{total_in, entry_in, readings_in, number_in, unrank_in, rank_in}
 use Rattle.ranking.proofs.Inside.{total_is, entry_is, readings_are, number_is}
@@ -64,12 +64,12 @@ module _ (rules : List (List ℕ)) (s : List ℕ) where
 -- ---- for the grammar
 
 -- what preparing answers, by its case
-module _ {g : List ℕ} {n : ℕ} {rules₀ rules totals₀ totals : List (List ℕ)} {p : Prepared} (q : PreparedAs g n rules₀ rules totals₀ totals p) where
-  pub prepared_none : p ≡ Ready → first_that_applies (prepared_rows g n) ≡ 0
-  prepared_none e = sym q.refusal ∙ ap prepared_number e
+module _ {g : List ℕ} {n : ℕ} {rules₀ rules totals₀ totals : List (List ℕ)} {p : Result ⊤ Refusal} (q : PreparedAs g n rules₀ rules totals₀ totals p) where
+  pub prepared_none : p ≡ Ok tt → first_that_applies (prepared_rows g n) ≡ 0
+  prepared_none e = sym q.refusal ∙ ap result_number e
 
-  pub prepared_refused : (r : Refusal) → p ≡ Refused r → refusal_number r ≡ first_that_applies (prepared_rows g n)
-  prepared_refused r e = sym (ap prepared_number e) ∙ q.refusal
+  pub prepared_refused : (r : Refusal) → p ≡ Err r → refusal_number r ≡ first_that_applies (prepared_rows g n)
+  prepared_refused r e = sym (ap result_number e) ∙ q.refusal
 
 -- none of 1 to 10 applies: what is left of a call's refusals
 pub left_of_lem : (g : List ℕ) (n : ℕ) (rows : List Row) → first_that_applies (prepared_rows g n) ≡ 0 → first_that_applies (prepared_rows g n ++ rows) ≡ first_that_applies rows

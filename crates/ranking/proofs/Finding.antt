@@ -9,6 +9,8 @@ use native.Mathlib.Omega.{arith}
 use native.Mathlib.Nat.{sub-zero}
 use lib.ListN.{length, get_or, drop, replicate, length-replicate}
 use borrow.Rule.Slice.PartMut.{post_of}
+use Rattle.answers.specs.declared.refusal.Refusal.{Refusal}
+use Rattle.std.specs.Prelude.{Result, Ok, ⊤}
 use Rattle.lists.specs.Inner.Tables.{entry}
 use Rattle.lists.specs.Searched.{same}
 use Rattle.lists.proofs.Searches.{first_ext, first_one}
@@ -22,8 +24,6 @@ use Rattle.counting.specs.Inner.Owned.{OwnedAs}
 use Rattle.counting.specs.Inner.Counted.{count_at, Asked, Counted}
 use Rattle.grammar.proofs.Kept.{ruled_same}
 use Rattle.counting.specs.Inner.Preparing.{PreparedAs}
-use Rattle.counting.specs.declared.prepare.Prepared.{Prepared}
-use Rattle.counting.specs.declared.prepare.Prepared.TheVariants.{Ready as Passed}
 use Rattle.counting.proofs.Asking.{asked_whole}
 use Rattle.counting.proofs.Counts.{T_sentences}
 use Rattle.charts.proofs.Placing.{room_short, room_low}
@@ -37,7 +37,7 @@ use Rattle.charts.proofs.Mapping.{everywhere_mapped, all_closed, planned_closed,
 use Rattle.walk.specs.Inner.Sought.{WalkTables, Sought}
 use Rattle.walk.specs.Inner.Steps.{Placed}
 use Rattle.ranking.specs.Inner.Inside.{full_in, total_in, entry_in, number_in, rank_in, weighs, weigh_in, tickets_at, place_in, Chooses, WriteSought, WrittenAs}
-use Rattle.ranking.specs.Inner.Ranking.{FindSought, FoundAs, PlaceSought, PlacedAs, Roomy, NumberSought}
+use Rattle.ranking.specs.Inner.Ranking.{FindSought, FoundAs, PlaceSought, PlacedAs, RoomFor, Roomy, NumberSought}
 use Rattle.ranking.proofs.Weighing.{whole_weigh, counts_weight, counts_weigh, counts_tickets, chosen, readings_weigh, placed, placed_words}
 
 -- ---- the start symbol over all positions
@@ -300,7 +300,7 @@ module _ (rules : List (List ℕ)) {counts : List (List ℕ)} (e : Everywhere co
 
 -- zeros where the links go, and above the counts, stay what they are
 pub prepared_sought : {g : List ℕ} {s : List ℕ} {rules₀ rules totals₀ totals : List (List ℕ)} → ((r i : ℕ) → entry rules₀ r i ≡ 0) → 13 ≤ length rules₀ → Roomy (length s) totals₀
-    → {r : Prepared} → PreparedAs g (length s) rules₀ rules totals₀ totals r → r ≡ Passed → NumberSought rules s totals
+    → {r : Result ⊤ Refusal} → PreparedAs g (length s) rules₀ rules totals₀ totals r → r ≡ Ok tt → NumberSought rules s totals
 prepared_sought {s = s} {rules₀} {rules} {totals₀} {totals} zeros long t p e =
     let c = (p.ready e).counted in
     let row : (r i : ℕ) → 4 ≤ r → entry rules r i ≡ 0 = λ r i h. ap (λ (l : List ℕ). get_or l i 0) (p.rules_kept.rest r h) ∙ zeros r i in
@@ -327,19 +327,17 @@ rank_kept rules after s same =
     let start_is : start_in after ≡ start_in rules = ap (λ (l : List ℕ). get_or l 128 0) (same 3 (omega arith)) in
     rw (ruled_same rules after same, start_is)
 
--- room for the chart of five positions, and of sixteen
-pub roomy_short : (n : ℕ) → n ≤ 5 → Roomy n (replicate 33 (replicate 32 0))
-roomy_short n h = record {
-  wide = wide_made 33 32 0;
-  zeros = made_entry 33 32;
-  long = λ l. omega (arith, room_short n h, length-replicate 33 (replicate 32 zero));
-  counts = omega (arith, length-replicate 33 (replicate 32 zero));
+-- a table of zeros with rows enough has room for a chart; 33 are enough for five positions, and 154 for sixteen
+pub roomy_made : {n rows : ℕ} → RoomFor n rows → Roomy n (replicate rows (replicate 32 0))
+roomy_made {n} {rows} r = record {
+  wide = wide_made rows 32 0;
+  zeros = made_entry rows 32;
+  long = λ l. omega (arith, r.long l, length-replicate rows (replicate 32 zero));
+  counts = omega (arith, r.counts, length-replicate rows (replicate 32 zero));
 }
 
-pub roomy_long : (n : ℕ) → Roomy n (replicate 154 (replicate 32 0))
-roomy_long n = record {
-  wide = wide_made 154 32 0;
-  zeros = made_entry 154 32;
-  long = λ l. omega (arith, room_low n l, length-replicate 154 (replicate 32 zero));
-  counts = omega (arith, length-replicate 154 (replicate 32 zero));
-}
+pub room_for_short : (n : ℕ) → n ≤ 5 → RoomFor n 33
+room_for_short n h = record { long = λ l. omega (arith, room_short n h); counts = omega arith; few = omega arith }
+
+pub room_for_long : (n : ℕ) → RoomFor n 154
+room_for_long n = record { long = λ l. omega (arith, room_low n l); counts = omega arith; few = omega arith }

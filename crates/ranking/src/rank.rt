@@ -3,7 +3,7 @@ ghost use Rattle.std.specs.Prelude.{◌≡◌, List, ℕ, length};
 ghost use Rattle.ranking.specs.Answers.{rank_of};
 ghost use Rattle.ranking.specs.Inner.Says.{rank_says};
 ghost use Rattle.ranking.specs.Inner.Inside.{rank_in};
-ghost use Rattle.ranking.specs.Inner.Ranking.{FindSought, FoundAs, PlaceSought, PlacedAs, NumberSought, Roomy};
+ghost use Rattle.ranking.specs.Inner.Ranking.{FindSought, FoundAs, PlaceSought, PlacedAs, NumberSought, RoomFor};
 
 use crate::unrank;
 use crate::unrank::DerivationNumber;
@@ -11,9 +11,8 @@ use answers::refusal::Refusal;
 use charts::{chart, maps, ready};
 use counting::letters::ANY;
 use counting::prepare;
-use counting::prepare::Prepared;
 use grammar::rules;
-use walk::nodes;
+use walk::Tables;
 use walk::nodes::Node;
 
 // The tickets that a derivation owns: the first of them, and how many they are.
@@ -23,14 +22,12 @@ pub struct Span {
     pub weight: u64,
 }
 
+// What a sentence that has derivations is answered: the lowest of their numbers, T, and how many they are.
 #[derive(Clone, Copy)]
-pub enum RankAnswer {
-    Given {
-        lowest: DerivationNumber,
-        total: u64,
-        derivations: u64,
-    },
-    Refused(Refusal),
+pub struct Ranked {
+    pub lowest: DerivationNumber,
+    pub total: u64,
+    pub derivations: u64,
 }
 
 // How many derivations a sentence of the plan's length has: what the whole weighs by its letters.
@@ -52,7 +49,7 @@ pub fn derivations(
         p: 0,
         m: sentence.len(),
     };
-    nodes::total(totals, map, node)
+    node.total(totals, map)
 }
 
 // The tickets of a sentence's first derivation by a measure. The sentence's letters choose, so that their ticket 0 is the first's.
@@ -72,7 +69,13 @@ pub fn place(
         m: n,
     };
     let mut words = [0u8; 16];
-    let f = walk::choose(rules, totals, letters, measure, node, 0, &mut words[0..n]);
+    let tables = Tables {
+        rules,
+        totals,
+        choice: letters,
+        measure,
+    };
+    let f = tables.choose(node, 0, &mut words[0..n]);
     Span {
         first: f.place,
         weight: f.measured,
@@ -80,7 +83,11 @@ pub fn place(
 }
 
 // With the tables at hand.
-fn number_by(rules: &mut [[u8; 256]], sentence: &[u8], totals: &mut [[u64; 32]]) -> RankAnswer
+fn number_by(
+    rules: &mut [[u8; 256]],
+    sentence: &[u8],
+    totals: &mut [[u64; 32]],
+) -> Result<Ranked, Refusal>
     requires { NumberSought rules.old sentence.now totals.old }
     ensures { rank_says result ≡ rank_in rules.old sentence.now }
 {
@@ -93,40 +100,35 @@ fn number_by(rules: &mut [[u8; 256]], sentence: &[u8], totals: &mut [[u64; 32]])
     let mut sets = [0u32; 154];
     let k = derivations(rules, &plan, &mut map, sentence, &mut sets, totals);
     if k == 0 {
-        return RankAnswer::Refused(Refusal::SentenceUnderivable);
+        return Err(Refusal::SentenceUnderivable);
     }
     let counts = maps::EVERYWHERE;
     let d = place(rules, totals, &map, &counts, n);
-    RankAnswer::Given {
+    Ok(Ranked {
         lowest: DerivationNumber(d.first),
         total: unrank::count(rules, totals, n),
         derivations: k,
-    }
+    })
 }
 
 // With room for the chart of the sentence.
-fn number(g: &[u8], sentence: &[u8], totals: &mut [[u64; 32]]) -> RankAnswer
-    requires { Roomy (length sentence.now) totals.old }
+fn number<const ROWS: usize>(g: &[u8], sentence: &[u8]) -> Result<Ranked, Refusal>
+    requires { RoomFor (length sentence.now) ROWS }
     ensures { rank_says result ≡ rank_of g.now sentence.now }
 {
-    let row = [0u8; 256];
-    let mut rules = [row; 13];
-    let p = prepare::prepare(g, sentence.len() as u64, &mut rules, totals);
-    match p {
-        Prepared::Refused(r) => RankAnswer::Refused(r),
-        Prepared::Ready => number_by(&mut rules, sentence, totals),
-    }
+    let mut rules = [[0u8; 256]; 13];
+    let mut totals = [[0u64; 32]; ROWS];
+    prepare::prepare(g, sentence.len() as u64, &mut rules, &mut totals)?;
+    number_by(&mut rules, sentence, &mut totals)
 }
 
 // A chart of up to five words takes 33 rows, of sixteen 154: clearing them is much of the time that a short sentence takes.
-pub fn rank(g: &[u8], sentence: &[u8]) -> RankAnswer
+pub fn rank(g: &[u8], sentence: &[u8]) -> Result<Ranked, Refusal>
     ensures { rank_says result ≡ rank_of g.now sentence.now }
 {
-    let row = [0u64; 32];
     if sentence.len() <= 5 {
-        let mut totals = [row; 33];
-        return number(g, sentence, &mut totals);
+        number::<33>(g, sentence)
+    } else {
+        number::<154>(g, sentence)
     }
-    let mut totals = [row; 154];
-    number(g, sentence, &mut totals)
 }

@@ -7,21 +7,14 @@ ghost use Rattle.ranking.specs.Inner.Inside.{total_in, weigh_in, Chooses, WriteS
 
 use answers::refusal::Refusal;
 use charts::maps;
-use counting::prepare::Prepared;
 use counting::{prepare, tallies};
 use grammar::rules;
-use walk::nodes;
+use walk::Tables;
 use walk::nodes::Node;
 
 // How many derivations stand before one (document 01: derivation number). No draw number is one.
 #[derive(Clone, Copy)]
 pub struct DerivationNumber(pub u64);
-
-#[derive(Clone, Copy)]
-pub enum UnrankAnswer {
-    Given(u64),
-    Refused(Refusal),
-}
 
 // T(S, n), from the table.
 pub fn count(rules: &[[u8; 256]], totals: &[[u64; 32]], n: usize) -> u64
@@ -41,37 +34,26 @@ pub fn total(rules: &[[u8; 256]], totals: &[[u64; 32]], choice: &[[u16; 16]; 17]
         p: 0,
         m: n,
     };
-    nodes::total(totals, choice, node)
+    node.total(totals, choice)
 }
 
 // Of the tickets the one with so many of them before it: its owner's sentence into the first bytes of `out`, and its owner's number among all, which the
 // counts measure. Where the counts choose too, each derivation has one ticket, and the number is the one given.
 pub fn write(
-    rules: &[[u8; 256]],
-    totals: &[[u64; 32]],
-    choice: &[[u16; 16]; 17],
-    counts: &[[u16; 16]; 17],
+    tables: Tables<'_>,
     n: usize,
     number: DerivationNumber,
     out: &mut [u8],
 ) -> DerivationNumber
-    requires { WriteSought rules.now totals.now choice.now counts.now n number.0 out.old }
-    ensures { WrittenAs rules.now choice.now n number.0 out.old out.new result.0 }
+    requires { WriteSought tables.rules.now tables.totals.now tables.choice.now tables.measure.now n number.0 out.old }
+    ensures { WrittenAs tables.entry.rules.now tables.entry.choice.now n number.0 out.old out.new result.0 }
 {
     let node = Node {
-        a: rules::start(rules),
+        a: rules::start(tables.rules),
         p: 0,
         m: n,
     };
-    let f = walk::choose(
-        rules,
-        totals,
-        choice,
-        counts,
-        node,
-        number.0,
-        &mut out[0..n],
-    );
+    let f = tables.choose(node, number.0, &mut out[0..n]);
     DerivationNumber(f.place)
 }
 
@@ -82,32 +64,35 @@ fn give(
     n: usize,
     number: DerivationNumber,
     out: &mut [u8],
-) -> UnrankAnswer
+) -> Result<u64, Refusal>
     requires { Counted rules.now totals.now n }
     ensures { unrank_says result out.new ≡ unrank_in rules.now n number.0 out.old }
 {
     let t = count(rules, totals, n);
     if t <= number.0 {
-        return UnrankAnswer::Refused(Refusal::NumberBeyond);
+        return Err(Refusal::NumberBeyond);
     }
     if out.len() < n {
-        return UnrankAnswer::Refused(Refusal::BufferTooShort);
+        return Err(Refusal::BufferTooShort);
     }
     let counts = maps::EVERYWHERE;
-    write(rules, totals, &counts, &counts, n, number, out);
-    UnrankAnswer::Given(t)
+    let tables = Tables {
+        rules,
+        totals,
+        choice: &counts,
+        measure: &counts,
+    };
+    write(tables, n, number, out);
+    Ok(t)
 }
 
-pub fn unrank(g: &[u8], n: u64, number: DerivationNumber, out: &mut [u8]) -> UnrankAnswer
+pub fn unrank(g: &[u8], n: u64, number: DerivationNumber, out: &mut [u8]) -> Result<u64, Refusal>
     ensures { unrank_says result out.new ≡ unrank_of g.now n number.0 out.old }
 {
     let byte_row = [0u8; 256];
     let mut rules = [byte_row; 4];
     let row = [0u64; 32];
     let mut totals = [row; 17];
-    let p = prepare::prepare(g, n, &mut rules, &mut totals);
-    match p {
-        Prepared::Refused(r) => UnrankAnswer::Refused(r),
-        Prepared::Ready => give(&rules, &totals, n as usize, number, out),
-    }
+    prepare::prepare(g, n, &mut rules, &mut totals)?;
+    give(&rules, &totals, n as usize, number, out)
 }

@@ -10,6 +10,7 @@ use borrow.Author.Tests.{le-leb, lt-leb, lt-ltb, le-ltb}
 use lib.ListN.{length, get_or, take, drop, replicate, length-replicate, length-take}
 use lib.Seq.{length-take-le, take-append-le}
 use lib.Dec.{ltb, leb, eqb, lit<}
+use Rattle.std.specs.Prelude.{Result, Ok, Err}
 use Rattle.lists.specs.Joined.{sum_over, concat_map}
 use Rattle.lists.specs.Ordered.{Pairwise}
 use Rattle.lists.specs.Searched.{bit, keep}
@@ -31,7 +32,6 @@ use Rattle.grammar.specs.Trees.{Tree, sentence}
 use Rattle.grammar.specs.Inner.Rules as grammar
 use Rattle.counting.specs.Refusals.{most}
 use Rattle.counting.specs.Inner.Preparing.{Tabled}
-use Rattle.charts.specs.Inner.Plan.{spans_of}
 use Rattle.charts.specs.Inner.Maps.{counts_map, Everywhere}
 use Rattle.charts.proofs.Mapping.{counts_map_lem}
 use Rattle.ranking.specs.Answers.{full_list, readings_of}
@@ -48,19 +48,16 @@ use Rattle.sorting.specs.Inner.Sorted.{SortedAs}
 use Rattle.sampling.specs.Question.{Question, plainly}
 use Rattle.sampling.specs.Unheard.{suits, of_length, unheard, total_for, heard_of, left_of, ambiguous}
 use Rattle.sampling.specs.Inner.Collect.{fitting_at, barred, spans_by, fitting, beginning, numbers_in, ambiguous_in, all_numbers_in, CollectedIs}
-use Rattle.sampling.specs.Inner.Patterns.{behind_of, Choice}
+use Rattle.sampling.specs.Inner.Patterns.{RowsFor, Choice}
 use Rattle.sampling.specs.Answers.{remaining_rows, remaining_to, drawn, draw_to}
 use Rattle.sampling.specs.Inner.Skipping.{heard_spans, passed_by, Skips}
-use Rattle.sampling.specs.Inner.Preparing.{Room, Lent, Tables, LentMatching, OrderedAs, Heard, Held, Hold, NumbersAs, HeardBy, RecordsSought, MatchingSought, RecordedBy, RecordedAs, Drawable, SampledIs, SampledBy}
-use Rattle.sampling.specs.declared.heard.Collected.TheVariants.{Numbers}
-use Rattle.sampling.specs.declared.prepare.Sampled.{Sampled}
-use Rattle.sampling.specs.declared.prepare.Sampled.TheVariants.{Ready, Refused as NotReady}
+use Rattle.sampling.specs.Inner.Preparing.{Room, PlacesFor, Lent, LentMatching, OrderedAs, Heard, Held, Hold, NumbersAs, HeardBy, RecordsSought, MatchingSought, RecordedBy, RecordedAs, Drawable, SampledIs, SampledBy}
 use Rattle.sampling.specs.Inner.Drawing.{spans_in, DrawSought, draw_skipping}
 use Rattle.sampling.proofs.Barred.{listed_length, free, few_readings, ∈_heard, ∈_length, heard_length, unheard_all, left_length}
 use Rattle.sampling.proofs.Spans.{numbers_by, collected}
 use Rattle.sampling.proofs.Listed.{draw_from, spans_told, drawn_listed, list_plain}
 use Rattle.sampling.proofs.Skipping.{spans_plain, passed_plain, told_plain, gone_all}
-use Rattle.sampling.proofs.Readying.{counts_agree, full_same}
+use Rattle.sampling.proofs.Readying.{counts_agree, full_same, behind_room, behind_five}
 
 -- ---- the tables that a call makes
 
@@ -76,26 +73,47 @@ lent_made h numbers room = record {
   room = room;
 }
 
+-- a place for each record
+pub room_made : {h : List ℕ} {places : ℕ} → PlacesFor h places → Room h (replicate places 0)
+room_made {places = places} p d = omega (arith, p.room d, length-replicate places zero)
+
+pub plainly_made : {h : List ℕ} {places : ℕ} → PlacesFor h places → Lent h (replicate 4 (replicate 256 0)) (replicate 17 (replicate 32 0)) (replicate places 0)
+plainly_made p = lent_made _ _ (room_made p)
+
 -- with one: room for the pattern's chart and a sentence's
-pub tables_matching : (a : Question) (rows : ℕ) → 17 ≤ rows → length a.pattern ≡ a.length → (a.length ≤ 16 → behind_of a.length + spans_of a.length ≤ rows)
-    → Tables a (replicate 13 (replicate 256 0)) (replicate rows (replicate 32 0))
-tables_matching a rows many long room =
+pub matching_made : {h : List ℕ} {a : Question} {rows places : ℕ} → RowsFor a rows × PlacesFor h places
+    → LentMatching h a (replicate 13 (replicate 256 0)) (replicate rows (replicate 32 0)) (replicate 17 (replicate 16 0)) (replicate places 0)
+matching_made {rows = rows} w =
     let size = length-replicate rows (replicate 32 zero) in
     record {
-      tables = record {
-        rules_room = record { long = omega arith; wide = wide_made 13 256 0 };
-        long = omega arith;
-        wide = wide_made rows 32 0;
-        zeros = λ r A l. made_entry rows 32 r A;
+      called = record {
+        lent = record {
+          tables = record {
+            rules_room = record { long = omega arith; wide = wide_made 13 256 0 };
+            long = omega (arith, w.0.counts);
+            wide = wide_made rows 32 0;
+            zeros = λ r A l. made_entry rows 32 r A;
+          };
+          patterned = record {
+            long = w.0.long;
+            links = omega arith;
+            unlinked = λ r i k. made_entry 13 256 r i;
+            zeros = λ r A k. made_entry rows 32 r A;
+            room = λ k. omega (arith, w.0.room k);
+          };
+        };
+        room = room_made w.1;
       };
-      patterned = record {
-        long = long;
-        links = omega arith;
-        unlinked = λ r i k. made_entry 13 256 r i;
-        zeros = λ r A k. made_entry rows 32 r A;
-        room = λ k. omega (arith, room k);
-      };
+      choice_long = refl;
+      choice_wide = wide_made 17 16 0;
     }
+
+-- 48 rows are enough for five words, 290 for sixteen
+pub rows_short : (a : Question) → length a.pattern ≡ a.length → a.length ≤ 5 → RowsFor a 48
+rows_short a long l = record { long = long; counts = omega arith; room = λ k. behind_five a.length l; few = omega arith }
+
+pub rows_all : (a : Question) → length a.pattern ≡ a.length → RowsFor a 290
+rows_all a long = record { long = long; counts = omega arith; room = λ l. (behind_room a.length l).2; few = omega arith }
 
 -- 1,000 places serve every history, 100 those of at most 2,004 bytes, and one those of fewer than 24, which have no record
 pub room_all : (h : List ℕ) → Room h (replicate 1000 0)
@@ -107,10 +125,16 @@ room_short h l d = omega (arith, (known h d).sized.size)
 pub record_none : (h : List ℕ) → length h < 24 → history.Accepted h → records_of h < 1
 record_none h l d = omega (arith, (known h d).sized.size)
 
-pub room_none : (h : List ℕ) → length h < 24 → Room h (replicate 1 0)
-room_none h l d = omega (arith, record_none h l d)
+pub places_all : (h : List ℕ) → PlacesFor h 1000
+places_all h = record { room = room_all h; few = omega arith }
 
-pub refused_unready : {r : Refusal} {k : ℕ} → NotReady r ≡ Ready k → ⊥
+pub places_short : (h : List ℕ) → length h ≤ 2004 → PlacesFor h 100
+places_short h l = record { room = room_short h l; few = omega arith }
+
+pub places_none : (h : List ℕ) → length h < 24 → PlacesFor h 1
+places_none h l = record { room = λ d. omega (arith, record_none h l d); few = omega arith }
+
+pub refused_unready : {r : Refusal} {k : ℕ} → ◌≡◌ {A = Result ℕ Refusal} (Err r) (Ok k) → ⊥
 refused_unready e = let q : ◌≡◌ {A = ℕ} 0 1 = cc in omega arith
 
 -- ---- the heard places, sorted
@@ -129,7 +153,7 @@ sorted_first before part rest k m s =
 
 -- what is told along the chain, ordered
 pub heard_ordered : (rules : List (List ℕ)) (u : List ℕ → ℕ) (tell : ℕ × ℕ → ℕ) (h : List ℕ) (n v : ℕ) (before after : List ℕ) (k m : ℕ)
-    → CollectedIs rules u tell h n v before (Numbers k) → records_of h ≤ length before → OrderedAs k before after m → Held rules u tell h n v after m
+    → CollectedIs rules u tell h n v before (Ok k) → records_of h ≤ length before → OrderedAs k before after m → Held rules u tell h n v after m
 heard_ordered rules u tell h n v before after k m c room s =
     let l : k ≤ length before = omega (arith, c.1) in
     (omega (arith, s.few l, c.1), record { clear = c.0; rising = s.rising l; just = λ d. rw (← c.2) (s.same l d) })
@@ -145,19 +169,19 @@ none_heard rules u tell h n v numbers diary none =
 -- ---- 11 to 15, by the tables
 
 module _ (rules₀ : List (List ℕ)) (h : List ℕ) (a : Question) {u : List ℕ → ℕ} {rules totals choice : List (List ℕ)} {numbers : List ℕ} where
-  pub unaccepted : (r : Refusal) → history.history_refusal h ≡ refusal_number r → RecordedBy rules₀ h a u rules totals choice numbers (NotReady r)
+  pub unaccepted : (r : Refusal) → history.history_refusal h ≡ refusal_number r → RecordedBy rules₀ h a u rules totals choice numbers (Err r)
   unaccepted r e =
       record { recorded = sym (rows_stop (history.history_rows h) ((ambiguous_in rules₀ h a.length a.voice, 15) ∷ []) (omega (arith, number_some r)) ∙ e) }
 
-  heard_recorded : {s : Sampled} → history.Accepted h → Hold rules₀ u h a.length a.voice numbers s → Choice rules₀ a u rules totals choice
+  heard_recorded : {s : Result ℕ Refusal} → history.Accepted h → Hold rules₀ u h a.length a.voice numbers s → Choice rules₀ a u rules totals choice
       → RecordedBy rules₀ h a u rules totals choice numbers s
-  heard_recorded {s = Ready k} ok q c = record { recorded = (ok, q.0, q.1, c) }
-  heard_recorded {s = NotReady r} ok q c = record {
+  heard_recorded {s = Ok k} ok q c = record { recorded = (ok, q.0, q.1, c) }
+  heard_recorded {s = Err r} ok q c = record {
     recorded = q.1
         ∙ sym (rows_pass (history.history_rows h) ((ambiguous_in rules₀ h a.length a.voice, 15) ∷ []) refl ok ∙ row_applies 15 [] q.0);
   }
 
-  pub fitted_recorded : {s : Sampled} → history.Accepted h → HeardBy rules₀ h a u rules totals choice numbers s → RecordedBy rules₀ h a u rules totals choice numbers s
+  pub fitted_recorded : {s : Result ℕ Refusal} → history.Accepted h → HeardBy rules₀ h a u rules totals choice numbers s → RecordedBy rules₀ h a u rules totals choice numbers s
   fitted_recorded ok q = heard_recorded ok q.hold q.chosen
 
 -- without a pattern the counts choose, and the rules are as they were
@@ -165,11 +189,11 @@ module _ {rules totals : List (List ℕ)} {h : List ℕ} {n : ℕ} {numbers₀ :
   chosen_plain : Choice rules (plainly n v) (fitting (plainly n v)) rules totals counts_map
   chosen_plain = record { kept = λ r l. refl; chooses = counts_choose w.counted counts_map_lem; weigh = λ s e. counts_agree rules n v w.counted.short s e }
 
-  pub plain_recorded : {numbers : List ℕ} {s : Sampled} → history.Accepted h → NumbersAs rules h (plainly n v) numbers s
+  pub plain_recorded : {numbers : List ℕ} {s : Result ℕ Refusal} → history.Accepted h → NumbersAs rules h (plainly n v) numbers s
       → RecordedAs rules h (plainly n v) rules totals counts_map numbers s
   plain_recorded ok q = heard_recorded rules h (plainly n v) ok q.hold chosen_plain
 
-  pub plain_none : {numbers : List ℕ} → history.Accepted h → records_of h ≡ 0 → RecordedAs rules h (plainly n v) rules totals counts_map numbers (Ready 0)
+  pub plain_none : {numbers : List ℕ} → history.Accepted h → records_of h ≡ 0 → RecordedAs rules h (plainly n v) rules totals counts_map numbers (Ok 0)
   plain_none {numbers} ok none = heard_recorded rules h (plainly n v) ok (none_heard rules (fitting (plainly n v)) beginning h n v numbers ok none) chosen_plain
 
 -- ---- the tickets of the grammar
@@ -222,17 +246,17 @@ module _ (g h : List ℕ) (a : Question) (u : List ℕ → ℕ) (asked : List Ro
   later = history.history_rows h ++ ((ambiguous g h a, 15) ∷ [])
 
   pub unprepared : {rules totals choice : List (List ℕ)} (r : Refusal) → refusal_number r ≡ first_that_applies asked → {numbers : List ℕ} → Room h numbers
-      → SampledBy g h a u asked rules totals choice numbers (NotReady r)
+      → SampledBy g h a u asked rules totals choice numbers (Err r)
   unprepared r e room = record { prepared = sym (rows_stop asked later (omega (arith, number_some r)) ∙ sym e); room = room }
 
   module _ (above : numbered-rows asked ≡ true) (none : first_that_applies asked ≡ 0) {rules₀ : List (List ℕ)} (t : grammar.Holds g rules₀) where
     past_grammar : first_that_applies (asked ++ later) ≡ first_that_applies (history.history_rows h ++ ((ambiguous_in rules₀ h a.length a.voice, 15) ∷ []))
     past_grammar = rw (ambiguous_is t h a) (rows_pass asked later above none)
 
-    pub recorded_prepared : {rules totals choice : List (List ℕ)} {numbers : List ℕ} {s : Sampled} → Room h numbers → RecordedBy rules₀ h a u rules totals choice numbers s
+    pub recorded_prepared : {rules totals choice : List (List ℕ)} {numbers : List ℕ} {s : Result ℕ Refusal} → Room h numbers → RecordedBy rules₀ h a u rules totals choice numbers s
         → SampledBy g h a u asked rules totals choice numbers s
     unfolding first_that_applies
-    recorded_prepared {rules} {numbers = numbers} {s = Ready k} room q =
+    recorded_prepared {rules} {numbers = numbers} {s = Ok k} room q =
         let x = q.recorded in
         record {
           prepared = record {
@@ -247,9 +271,9 @@ module _ (g h : List ℕ) (a : Question) (u : List ℕ → ℕ) (asked : List Ro
           };
           room = room;
         }
-    recorded_prepared {s = NotReady r} room q = record { prepared = q.recorded ∙ sym past_grammar; room = room }
+    recorded_prepared {s = Err r} room q = record { prepared = q.recorded ∙ sym past_grammar; room = room }
 
-pub prepared_case : {g h : List ℕ} {a : Question} {u : List ℕ → ℕ} {asked : List Row} {rules totals choice : List (List ℕ)} {numbers : List ℕ} {s s' : Sampled}
+pub prepared_case : {g h : List ℕ} {a : Question} {u : List ℕ → ℕ} {asked : List Row} {rules totals choice : List (List ℕ)} {numbers : List ℕ} {s s' : Result ℕ Refusal}
     → SampledBy g h a u asked rules totals choice numbers s → s ≡ s' → SampledIs g h a u asked rules totals choice numbers s'
 prepared_case q e = (rw e at q).prepared
 
@@ -340,6 +364,10 @@ module _ {rules totals choice : List (List ℕ)} {heard sums : List ℕ} {n : �
 
   abbrev rest : ℕ
   rest = weigh_in rules choice n - sum_over (λ (e : ℕ × ℕ). e.1) (heard_spans heard sums)
+
+  -- the total less what the sums say is left
+  pub left_struck : {t x : ℕ} → t ≡ weigh_in rules choice n → x ≡ passed_by sums (length heard) → t - x ≡ rest
+  left_struck e f = omega (arith, e, (struck_sum f).1)
 
   pub skips : {q : ℕ} → q < rest → Skips q heard sums
   skips l = record {

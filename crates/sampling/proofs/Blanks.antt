@@ -1,15 +1,15 @@
--- Patterns: the test of their bytes one after another; that n blanks ask for nothing, so that a call with them is the plain call; and that a pattern
+-- Patterns: the test whether some byte is bad; that n blanks ask for nothing, so that a call with them is the plain call; and that a pattern
 -- without a blank asks for one sentence.
 -- Assumes nothing.
 use mathlib.Core.Path.{◌≡◌, refl, sym, ap, ◌∙◌}
 use mathlib.Core.Bool.{Bool, true, false, not, ◌&&◌, ◌||◌}
 use mathlib.Core.List.{List, [], ◌∷◌, ◌++◌}
-use Prim.Native.Nat.{ℕ, zero, suc, ◌≤◌, ◌<◌}
+use Prim.Native.Nat.{ℕ, zero, suc}
 use native.Mathlib.Omega.{arith}
 use borrow.Author.Tests.{eqb-true, eq-eqb}
 use lib.Dec.{ltb, leb, eqb}
-use lib.ListN.{length, get_or, drop, length-replicate, drop_of_length-le}
-use lib.Seq.{drop-cons}
+use lib.ListN.{length, get_or, drop, length-replicate}
+use Rattle.std.specs.List.{list_any}
 use Rattle.lists.specs.Joined.{◌∈◌}
 use Rattle.lists.specs.Searched.{bit, some_of, same, keep}
 use Rattle.lists.proofs.Sums.{sum_ext, sum_one}
@@ -34,20 +34,11 @@ use Rattle.sampling.proofs.Barred.{distinct_∈, listed_length, entry, no_entry,
 use Rattle.sampling.proofs.Premises.{premises}
 use Rattle.sampling.proofs.Demand3.{entries_∈, demand_3}
 
--- ---- byte after byte, by a test that each of a run of bytes has to fail
+-- ---- what the code's `any` tests is what the specification's `some_of` says
 
-module _ (P : ℕ → Bool) (p : ℕ) (bytes : List ℕ) where
-  step : p < length bytes → some_of P (drop p bytes) ≡ (P (get_or bytes p 0) || some_of P (drop (suc p) bytes))
-  step h = ap (some_of P) (drop-cons bytes p 0 h)
-
-  pub bad_here : p < length bytes → P (get_or bytes p 0) ≡ true → some_of P (drop p bytes) ≡ true
-  bad_here h e = step h ∙ rw e
-
-  pub bad_later : p < length bytes → P (get_or bytes p 0) ≡ false → some_of P (drop (suc p) bytes) ≡ some_of P (drop p bytes)
-  bad_later h e = sym (step h ∙ rw e)
-
-  pub bad_none : length bytes ≤ p → some_of P (drop p bytes) ≡ false
-  bad_none h = ap (some_of P) (drop_of_length-le bytes h)
+pub any_some : (P : ℕ → Bool) (l : List ℕ) → list_any P l ≡ some_of P l
+any_some P [] = refl
+any_some P (x ∷ l) = ap (λ b. P x || b) (any_some P l)
 
 -- ---- two patterns that the same sentences of a length fit
 

@@ -12,6 +12,10 @@ use borrow.Author.Tests.{eq-eqb, ne_eqb, le-leb, lt-leb}
 use lib.ListN.{length, get_or, set, take, length-set}
 use lib.Seq.{take-suc-set}
 use lib.Dec.{ltb, leb, eqb}
+use Rattle.answers.specs.declared.refusal.Refusal.{Refusal}
+use Rattle.answers.specs.declared.refusal.Refusal.TheVariants.{HeardAmbiguous}
+use Rattle.ranking.specs.declared.rank.Span.{Span as Tickets}
+use Rattle.std.specs.Prelude.{Option, None, Some, Result, Ok, Err}
 use Rattle.lists.specs.Joined.{◌∈◌, concat_map}
 use Rattle.lists.specs.Searched.{some_of, first_place, same, keep}
 use Rattle.lists.specs.Inner.Tickets.{first_ticket}
@@ -36,29 +40,25 @@ use Rattle.history.proofs.Acceptance.{known}
 use Rattle.history.proofs.Chain.{chained, numbers_zero}
 use Rattle.history.proofs.Reading.{read_words, read_next, read_step}
 use Rattle.sampling.specs.Inner.Collect.{numbers_in, many_in, ambiguous_in, all_numbers_in, Measures, Serves, Adds, HeardFoundAs, Collects, CollectedIs, Still, CollectedAs}
-use Rattle.sampling.specs.declared.heard.Added.{Added}
-use Rattle.sampling.specs.declared.heard.Added.TheVariants.{Nothing, Place, Many}
-use Rattle.sampling.specs.declared.heard.Collected.{Collected}
-use Rattle.sampling.specs.declared.heard.Collected.TheVariants.{Numbers, Ambiguous}
 
 -- ---- what a sentence adds
 
 module _ (rules : List (List ℕ)) (u : List ℕ → ℕ) (n : ℕ) (s : List ℕ) where
-  other_none : (length s ≡ n → ⊥) → Adds rules u n s Nothing
+  other_none : (length s ≡ n → ⊥) → Adds rules u n s (Ok None)
   other_none h = let e = ne_eqb (length s) n h in (rw e, λ tell. rw e)
 
   module _ (e : length s ≡ n) where
     l : eqb (length s) n ≡ true
     l = eq-eqb (length s) n e
 
-    read_none : readings_in rules s ≡ 0 → Adds rules u n s Nothing
+    read_none : readings_in rules s ≡ 0 → Adds rules u n s (Ok None)
     read_none z =
         let m = lt-leb 2 (readings_in rules s) (omega arith) in
         let o = ne_eqb (readings_in rules s) 1 (λ f. omega arith) in
         (rw (l, m), λ tell. rw (l, o))
 
-    read_many : 2 ≤ readings_in rules s → Adds rules u n s Many
-    read_many h = rw (l, le-leb 2 (readings_in rules s) h)
+    read_many : 2 ≤ readings_in rules s → Adds rules u n s (Err HeardAmbiguous)
+    read_many h = (rw (l, le-leb 2 (readings_in rules s) h), refl)
 
     module _ (z : readings_in rules s ≡ 1) where
       m : leb 2 (readings_in rules s) ≡ false
@@ -68,10 +68,10 @@ module _ (rules : List (List ℕ)) (u : List ℕ → ℕ) (n : ℕ) (s : List �
       o = eq-eqb (readings_in rules s) 1 z
 
       read_one : ltb 0 (u s) ≡ true → first_ticket u (λ t. same t s) (full_in rules n) + u s ≤ most
-          → Adds rules u n s (Place (first_ticket u (λ t. same t s) (full_in rules n)) (u s))
+          → Adds rules u n s (Ok (Some (record { first = first_ticket u (λ t. same t s) (full_in rules n); weight = u s })))
       read_one p fits = (rw (l, m), (λ tell. rw (l, o, p)), fits)
 
-      read_unfit : ltb 0 (u s) ≡ false → Adds rules u n s Nothing
+      read_unfit : ltb 0 (u s) ≡ false → Adds rules u n s (Ok None)
       read_unfit p = (rw (l, m), λ tell. rw (l, o, p))
 
 -- ---- one sentence
@@ -85,7 +85,7 @@ listed_read rules s h =
     Memᴰ.cast (sym e) (get_or_∈ f (first_place (λ t. same t s) f) [] i)
 
 module _ {rules plan map measure : List (List ℕ)} {sets : List ℕ} {totals : List (List ℕ)} (w : Serves rules plan map measure sets totals) {s : List ℕ} where
-  pub heard_other : (length s ≡ length_in plan → ⊥) → HeardFoundAs rules plan map measure s sets totals Nothing
+  pub heard_other : (length s ≡ length_in plan → ⊥) → HeardFoundAs rules plan map measure s sets totals (Ok None)
   heard_other f = record { adds = other_none rules (weighs rules measure) (length_in plan) s f; serves = w }
 
   module _ (e : length s ≡ length_in plan) where
@@ -111,13 +111,13 @@ module _ {rules plan map measure : List (List ℕ)} {sets : List ℕ} {totals : 
       serves : Serves rules plan map' measure sets' totals'
       serves = record { first = w.first; ready = rw e at q.ready; clean = rw e at q.clean; measures = measures }
 
-      found : {f : Added} → Adds rules (weighs rules measure) (length_in plan) s f → HeardFoundAs rules plan map' measure s sets' totals' f
+      found : {f : Result (Option Tickets) Refusal} → Adds rules (weighs rules measure) (length_in plan) s f → HeardFoundAs rules plan map' measure s sets' totals' f
       found adds = record { adds = adds; serves = serves }
 
-      pub heard_many : 2 ≤ k → HeardFoundAs rules plan map' measure s sets' totals' Many
+      pub heard_many : 2 ≤ k → HeardFoundAs rules plan map' measure s sets' totals' (Err HeardAmbiguous)
       heard_many h = found (read_many rules (weighs rules measure) (length_in plan) s e (omega (arith, q.derivations)))
 
-      pub heard_none : k ≡ 0 → HeardFoundAs rules plan map' measure s sets' totals' Nothing
+      pub heard_none : k ≡ 0 → HeardFoundAs rules plan map' measure s sets' totals' (Ok None)
       heard_none h = found (read_none rules (weighs rules measure) (length_in plan) s e (sym q.derivations ∙ h))
 
       module _ (few : k < 2) (some : k ≡ 0 → ⊥) where
@@ -128,19 +128,20 @@ module _ {rules plan map measure : List (List ℕ)} {sets : List ℕ} {totals : 
         weigh : stands measure 0 s ≡ ltb 0 (weighs rules measure s)
         weigh = w.measures.stand s (rw e at (listed_read rules s (omega (arith, one))))
 
-        pub heard_unfit : stands measure 0 s ≡ false → HeardFoundAs rules plan map' measure s sets' totals' Nothing
+        pub heard_unfit : stands measure 0 s ≡ false → HeardFoundAs rules plan map' measure s sets' totals' (Ok None)
         heard_unfit p = found (read_unfit rules (weighs rules measure) (length_in plan) s e one (sym weigh ∙ p))
 
         pub heard_asks : PlaceSought rules totals' map' measure (length s) s
         heard_asks = place_asks q (omega arith) (rw e measures.mapped) (rw e measures.weights)
 
-        pub heard_place : stands measure 0 s ≡ true → {d x : ℕ} → PlacedAs rules measure s d x → HeardFoundAs rules plan map' measure s sets' totals' (Place d x)
-        heard_place p {d} {x} h =
+        pub heard_place : stands measure 0 s ≡ true → {d : Tickets} → PlacedAs rules measure s d.first d.weight → HeardFoundAs rules plan map' measure s sets' totals' (Ok (Some d))
+        heard_place p {d} h =
             let z : place_in rules measure s ≡ first_ticket (weighs rules measure) (λ t. same t s) (full_in rules (length_in plan))
             = ap (λ (n : ℕ). first_ticket (weighs rules measure) (λ t. same t s) (full_in rules n)) e in
             let fits : first_ticket (weighs rules measure) (λ t. same t s) (full_in rules (length_in plan)) + weighs rules measure s ≤ most
             = omega (arith, h.first_is, z, h.weight_is, h.fits) in
-            rw (h.first_is ∙ z, h.weight_is) (found (read_one rules (weighs rules measure) (length_in plan) s e one (sym weigh ∙ p) fits))
+            let q = read_one rules (weighs rules measure) (length_in plan) s e one (sym weigh ∙ p) fits in
+            found (q.0, (λ tell. rw (h.first_is ∙ z, h.weight_is) (q.1 tell)), rw (h.first_is ∙ z, h.weight_is) q.2)
 
 -- ---- the whole chain
 
@@ -191,7 +192,7 @@ collect_start rules u tell h n v numbers diary long e =
 module _ {rules : List (List ℕ)} {u : List ℕ → ℕ} {tell : ℕ × ℕ → ℕ} {h : List ℕ} {n v : ℕ} {numbers : List ℕ} {at count : ℕ}
     (w : Collecting rules u tell h n v numbers at count) (diary : Accepted h) where
   -- at the end
-  pub collect_end : at ≡ 0 → CollectedIs rules u tell h n v numbers (Numbers count)
+  pub collect_end : at ≡ 0 → CollectedIs rules u tell h n v numbers (Ok count)
   collect_end z =
       let e : to_come h v at ≡ [] = ap (λ (l : List ℕ). map (record_words h) (keep (makes_heard h v) l)) (numbers_zero h diary at z) in (
         sym w.many ∙ ap (some_of (many_in rules n)) e,
@@ -266,8 +267,8 @@ module _ {rules : List (List ℕ)} {u : List ℕ → ℕ} {tell : ℕ × ℕ →
           first (sym passes ∙ makes)
           ∙ ap (λ (x : List ℕ). x ∷ to_come h v (next_at h at)) (sym (read ∙ read_words h at diary collect_inside.low w.low))
 
-      pub collect_many : Adds rules u n s Many → (numbers' : List ℕ) → CollectedIs rules u tell h n v numbers' Ambiguous
-      collect_many adds numbers' = sym w.many ∙ rw (comes, adds)
+      pub collect_many : (r : Refusal) → Adds rules u n s (Err r) → (numbers' : List ℕ) → CollectedIs rules u tell h n v numbers' (Err r)
+      collect_many r adds numbers' = (sym w.many ∙ rw (comes, adds.0), adds.1)
 
       -- the sentence adds these
       added : (k : List ℕ) → many_in rules n s ≡ false → numbers_in rules u tell n s ≡ k → length k ≤ 1
@@ -280,13 +281,13 @@ module _ {rules : List (List ℕ)} {u : List ℕ → ℕ} {tell : ℕ × ℕ →
           (ap (concat_map (numbers_in rules u tell n)) comes ∙ ap (λ (l : List ℕ). l ++ numbers_due rules u tell h n v (next_at h at)) numbers_are)
           few
 
-      pub collect_none : Adds rules u n s Nothing → {next : ℕ} → next ≡ next_at h at → Collecting rules u tell h n v numbers next count
+      pub collect_none : Adds rules u n s (Ok None) → {next : ℕ} → next ≡ next_at h at → Collecting rules u tell h n v numbers next count
       collect_none q e = added [] q.0 (q.1 tell) (omega arith) e (omega arith) (sym (append-nil (take count numbers))) refl
 
-      pub collect_one : {d x : ℕ} → Adds rules u n s (Place d x) → {next : ℕ} → next ≡ next_at h at
-          → Collecting rules u tell h n v (set numbers count (tell (d, x))) next (count + 1)
-      collect_one {d} {x} q e =
-          let t = tell (d, x) in
+      pub collect_one : {d : Tickets} → Adds rules u n s (Ok (Some d)) → {next : ℕ} → next ≡ next_at h at
+          → Collecting rules u tell h n v (set numbers count (tell (d.first, d.weight))) next (count + 1)
+      collect_one {d} q e =
+          let t = tell (d.first, d.weight) in
           added (t ∷ []) q.0 (q.1 tell) (omega arith) e refl (rw (add-one, take-suc-set numbers count t (omega (arith, collect_room, w.long))) refl) (length-set numbers count t)
 
 -- the tables serve the first sentence
@@ -298,11 +299,11 @@ serves_start {n = n} {totals = totals} w sets long =
     record { first = w.first; ready = rw e w.ready; clean = rw e clean; measures = rw e w.measures }
 
 -- what a sentence adds, and what is collected, once its case is known
-pub added_case : {rules plan map measure : List (List ℕ)} {s sets : List ℕ} {totals : List (List ℕ)} {f d : Added} {n : ℕ} → length_in plan ≡ n
+pub added_case : {rules plan map measure : List (List ℕ)} {s sets : List ℕ} {totals : List (List ℕ)} {f d : Result (Option Tickets) Refusal} {n : ℕ} → length_in plan ≡ n
     → HeardFoundAs rules plan map measure s sets totals f → f ≡ d → Adds rules (weighs rules measure) n s d
 added_case long q e = rw (long, e) at q.adds
 
-pub collect_case : {rules plan measure : List (List ℕ)} {h : List ℕ} {n v : ℕ} {totals : List (List ℕ)} {numbers ends : List ℕ} {c d : Collected}
+pub collect_case : {rules plan measure : List (List ℕ)} {h : List ℕ} {n v : ℕ} {totals : List (List ℕ)} {numbers ends : List ℕ} {c d : Result ℕ Refusal}
     → CollectedAs rules plan measure h n v totals numbers ends c → c ≡ d → CollectedAs rules plan measure h n v totals numbers ends d
 collect_case q e = rw e at q
 

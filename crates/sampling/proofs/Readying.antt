@@ -11,6 +11,8 @@ use native.Mathlib.Decide.{ℕ_discrete, dec_le}
 use borrow.Author.Tests.{eqb-true, eq-eqb, ne_eqb, le-leb, lt-leb}
 use lib.ListN.{length, get_or, replicate, length-replicate}
 use lib.Dec.{ltb, leb, eqb}
+use Rattle.answers.specs.declared.refusal.Refusal.{Refusal}
+use Rattle.std.specs.Prelude.{Result, Ok, Err}
 use Rattle.lists.specs.Joined.{◌∈◌}
 use Rattle.lists.specs.Searched.{bit, same}
 use Rattle.lists.specs.Inner.Tickets.{first_ticket}
@@ -43,8 +45,6 @@ use Rattle.sampling.specs.Unheard.{of_length}
 use Rattle.sampling.specs.Inner.Collect.{fitting, beginning, numbers_in, ambiguous_in, all_numbers_in, Collects, Still}
 use Rattle.sampling.specs.Inner.Patterns.{behind_of, ChartSought, PatternChartedAs, Choice}
 use Rattle.sampling.specs.Inner.Preparing.{Held, Hold, NumbersBy, NumbersSought, NumbersAs, FittingSought, FittedAs}
-use Rattle.sampling.specs.declared.prepare.Sampled.{Sampled}
-use Rattle.sampling.specs.declared.prepare.Sampled.TheVariants.{Ready, Refused}
 
 -- ---- the same rules, and weights that agree
 
@@ -92,9 +92,9 @@ module _ (rules after : List (List ℕ)) (same_rows : (q : ℕ) → q < 4 → ge
         record { clear = sym ambiguity_same ∙ q.1.clear; rising = q.1.rising; just = λ d. rw (← numbers_same tell) (q.1.just d) },
       )
 
-      pub hold_same : (numbers : List ℕ) (s : Sampled) → Hold after u h n v numbers s → Hold rules w h n v numbers s
-      hold_same numbers (Ready k) q = held_same beginning numbers k q
-      hold_same numbers (Refused r) q = (sym ambiguity_same ∙ q.0, q.1)
+      pub hold_same : (numbers : List ℕ) (s : Result ℕ Refusal) → Hold after u h n v numbers s → Hold rules w h n v numbers s
+      hold_same numbers (Ok k) q = held_same beginning numbers k q
+      hold_same numbers (Err r) q = (sym ambiguity_same ∙ q.0, q.1)
 
 -- ---- without a pattern
 
@@ -186,7 +186,7 @@ module _ {rules totals : List (List ℕ)} {h : List ℕ} {n : ℕ} {numbers : Li
       same_rules : (q : ℕ) → q < 4 → get_or after q [] ≡ get_or rules q []
       same_rules q l = r.kept q l ∙ k.rows q l
 
-      pub plainly_heard : {v : ℕ} {totals' : List (List ℕ)} {numbers' ends : List ℕ} {s : Sampled} → NumbersBy after plan counts_map h n v totals' numbers' ends s
+      pub plainly_heard : {v : ℕ} {totals' : List (List ℕ)} {numbers' ends : List ℕ} {s : Result ℕ Refusal} → NumbersBy after plan counts_map h n v totals' numbers' ends s
           → NumbersAs rules h (plainly n v) numbers' s
       plainly_heard {v} {numbers' = numbers'} {s = s} q = record { hold = hold_same rules after same_rules (counts_agree after n v w.counted.short) h v numbers' s q.hold }
 
@@ -382,6 +382,6 @@ module _ {rules totals : List (List ℕ)} {h : List ℕ} {a : Question} {records
           row i m s true t = let r = ready.planned.rows.some i m s t in (omega (arith, r.0), omega (arith, r.1, (behind_room n n_low).0))
           row i m s false t = let r = ready.planned.rows.none i m s t in (omega (arith, r), omega (arith, r, (behind_room n n_low).0))
 
-      pub fitted : {totals'' : List (List ℕ)} {numbers' ends : List ℕ} {s : Sampled} → NumbersBy rules' plan choice' h n a.voice totals'' numbers' ends s
+      pub fitted : {totals'' : List (List ℕ)} {numbers' ends : List ℕ} {s : Result ℕ Refusal} → NumbersBy rules' plan choice' h n a.voice totals'' numbers' ends s
           → FittedAs rules h a rules' totals'' choice' numbers' s
       fitted {numbers' = numbers'} {s = s} q = record { hold = hold_same rules rules' c.kept agrees h a.voice numbers' s q.hold; chosen = chooses_fitting q.still }

@@ -4,7 +4,7 @@
 -- Assumes nothing.
 use mathlib.Core.Path.{◌≡◌, refl, sym, ap, ◌∙◌}
 use mathlib.Core.List.{List, [], ◌∷◌, map}
-use Prim.Native.Nat.{ℕ, zero, suc, ◌+◌, ◌≤◌, ◌<◌}
+use Prim.Native.Nat.{ℕ, zero, suc, ◌+◌, ◌-◌, ◌/◌, ◌≤◌, ◌<◌}
 use native.Mathlib.Omega.{arith}
 use borrow.Author.Tests.{ne_eqb}
 use lib.ListN.{length, get_or, take, length-map}
@@ -13,7 +13,8 @@ use Rattle.lists.specs.Joined.{sum_over}
 use Rattle.lists.specs.Ordered.{Pairwise}
 use Rattle.lists.specs.Inner.Tickets.{Apart, gone, skip_over}
 use Rattle.lists.proofs.Struck.{apart_gap, skip_over_at}
-use Rattle.sampling.specs.Inner.Skipping.{spans_from, heard_spans, passed_by, Told}
+use Rattle.counting.specs.Refusals.{most}
+use Rattle.sampling.specs.Inner.Skipping.{spans_from, heard_spans, passed_by, Told, Skips}
 
 -- ---- the first tickets and the weights
 
@@ -64,6 +65,14 @@ gone_within heard sums i h = first_le (λ (e : ℕ × ℕ). e.1) (heard_spans he
     first_le f [] (suc i) (suc j) h = omega arith
     first_le f (x ∷ l) (suc i) (suc j) h = omega (arith, first_le f l i j (omega arith))
 
+-- the sums say of the first i what they weigh, and no skip past them passes 64 bits
+module _ {q : ℕ} {heard sums : List ℕ} (p : Skips q heard sums) (i : ℕ) (h : i ≤ length heard) {x : ℕ} (is : x ≡ passed_by sums i) where
+  pub passed_gone : x ≡ gone i (heard_spans heard sums)
+  passed_gone = is ∙ p.told.passed_are i h
+
+  pub passed_fits : q + x ≤ most
+  passed_fits = omega (arith, passed_gone, gone_within heard sums i h, p.fits)
+
 -- the first tickets, each less what those before it weigh, rise
 gap : (heard sums : List ℕ) → Pairwise Apart (heard_spans heard sums) → (i j : ℕ) → i ≤ j → j < length heard
     → get_or heard i 0 + gone j (heard_spans heard sums) ≤ get_or heard j 0 + gone i (heard_spans heard sums)
@@ -81,6 +90,11 @@ pub record Searching (heard sums : List ℕ) (q low high : ℕ) : Type 0 where
 module _ {heard sums : List ℕ} {q : ℕ} where
   pub search_start : Searching heard sums q 0 (length heard)
   search_start = record { ordered = omega arith; inside = omega arith; passed = λ i l. absurd (omega arith); left = λ i l m. absurd (omega arith) }
+
+  -- between the bounds there is a middle
+  module _ {low high : ℕ} (s : Searching heard sums q low high) (some : low < high) where
+    pub mid_inside : low + (high - low) / 2 < length heard
+    mid_inside = omega (arith, s.inside)
 
   module _ (apart : Pairwise Apart (heard_spans heard sums)) {low high mid : ℕ} (s : Searching heard sums q low high) (above : low ≤ mid) (below : mid < high) where
     pub search_right : get_or heard mid 0 ≤ q + gone mid (heard_spans heard sums) → Searching heard sums q (mid + 1) high

@@ -5,48 +5,48 @@ ghost use Rattle.sampling.specs.Answers.{draw_to};
 ghost use Rattle.sampling.specs.Question.{plainly, matching, asked};
 ghost use Rattle.sampling.specs.Inner.Says.{draw_says};
 ghost use Rattle.sampling.specs.Inner.Drawing.{DrawSought, draw_skipping};
-ghost use Rattle.sampling.specs.Inner.Preparing.{Room, Tables, Called};
+ghost use Rattle.sampling.specs.Inner.Patterns.{RowsFor};
+ghost use Rattle.sampling.specs.Inner.Preparing.{PlacesFor};
 
-use crate::prepare::Sampled;
+use crate::prepare;
 use crate::question::Question;
-use crate::skip::DrawNumber;
-use crate::{prepare, skip};
+use crate::skip::{DrawNumber, Heard};
 use answers::refusal::Refusal;
 use charts::maps;
 use ranking::unrank;
 use ranking::unrank::DerivationNumber;
+use walk::Tables;
 
+// How many are left to draw from, and the number of the derivation drawn.
 #[derive(Clone, Copy)]
-pub enum DrawAnswer {
-    Given(u64, DerivationNumber),
-    Refused(Refusal),
+pub struct Drawn {
+    pub left: u64,
+    pub number: DerivationNumber,
 }
 
-// With the tables, the choice and the heard ones' tickets at hand.
+// With the tables, the choice and the heard ones' tickets at hand. Inlined: handed to a call, the two structs would be copied.
+#[inline(always)]
 pub fn draw_from(
-    rules: &[[u8; 256]],
-    totals: &[[u64; 32]],
-    choice: &[[u16; 16]; 17],
-    counts: &[[u16; 16]; 17],
+    tables: Tables<'_>,
     n: usize,
-    heard: &[u64],
-    sums: &[u64],
+    heard: Heard<'_>,
     q: DrawNumber,
     out: &mut [u8],
-) -> DrawAnswer
-    requires { DrawSought rules.now totals.now choice.now n heard.now sums.now × Everywhere counts.now }
-    ensures { draw_says result out.new ≡ draw_skipping rules.now choice.now n heard.now sums.now q.0 out.old }
+) -> Result<Drawn, Refusal>
+    requires { DrawSought tables.rules.now tables.totals.now tables.choice.now n heard.firsts.now heard.sums.now × Everywhere tables.measure.now }
+    ensures { draw_says result out.new ≡ draw_skipping tables.entry.rules.now tables.entry.choice.now n heard.entry.firsts.now heard.entry.sums.now q.0 out.old }
 {
-    let left = unrank::total(rules, totals, choice, n) - skip::passed(sums, heard.len());
+    let total = unrank::total(tables.rules, tables.totals, tables.choice, n);
+    let left = total - heard.passed(heard.firsts.len());
     if left <= q.0 {
-        return DrawAnswer::Refused(Refusal::NumberBeyond);
+        return Err(Refusal::NumberBeyond);
     }
     if out.len() < n {
-        return DrawAnswer::Refused(Refusal::BufferTooShort);
+        return Err(Refusal::BufferTooShort);
     }
-    let d = skip::skip(q, heard, sums);
-    let number = unrank::write(rules, totals, choice, counts, n, d, out);
-    DrawAnswer::Given(left, number)
+    let d = heard.skip(q);
+    let number = unrank::write(tables, n, d, out);
+    Ok(Drawn { left, number })
 }
 
 // Without a pattern each derivation has one ticket: many draws share one preparation.
@@ -57,130 +57,124 @@ pub fn draw_prepared(
     heard: &[u64],
     q: DrawNumber,
     out: &mut [u8],
-) -> DrawAnswer
+) -> Result<Drawn, Refusal>
     requires { DrawSought rules.now totals.now counts_map n heard.now [] }
     ensures { draw_says result out.new ≡ draw_skipping rules.now counts_map n heard.now [] q.0 out.old }
 {
     let counts = maps::EVERYWHERE;
-    draw_from(
+    let tables = Tables {
         rules,
         totals,
-        &counts,
-        &counts,
-        n,
-        heard,
-        &heard[0..0],
-        q,
-        out,
-    )
+        choice: &counts,
+        measure: &counts,
+    };
+    let heard = Heard {
+        firsts: heard,
+        sums: &heard[0..0],
+    };
+    draw_from(tables, n, heard, q, out)
 }
 
 // With room for the heard numbers.
-fn draw_in(
+fn draw_in<const N: usize>(
     g: &[u8],
     h: &[u8],
     question: Question,
     q: DrawNumber,
-    numbers: &mut [u64],
     out: &mut [u8],
-) -> DrawAnswer
-    requires { Room h.now numbers.old }
+) -> Result<Drawn, Refusal>
+    requires { PlacesFor h.now N }
     ensures { draw_says result out.new ≡ draw_to g.now h.now (plainly question.length question.voice) q.0 out.old }
 {
-    let byte_row = [0u8; 256];
-    let mut rules = [byte_row; 4];
-    let row = [0u64; 32];
-    let mut totals = [row; 17];
-    let p = prepare::prepare(g, h, question, &mut rules, &mut totals, numbers);
-    match p {
-        Sampled::Refused(r) => DrawAnswer::Refused(r),
-        Sampled::Ready(k) => draw_prepared(
-            &rules,
-            &totals,
-            question.length as usize,
-            &numbers[0..k],
-            q,
-            out,
-        ),
-    }
+    let mut rules = [[0u8; 256]; 4];
+    let mut totals = [[0u64; 32]; 17];
+    let mut numbers = [0u64; N];
+    let k = prepare::prepare(g, h, question, &mut rules, &mut totals, &mut numbers)?;
+    let n = question.length as usize;
+    let places = &numbers[..];
+    draw_prepared(&rules, &totals, n, &places[0..k], q, out)
 }
 
 // The room as for *Left*.
-pub fn draw(g: &[u8], h: &[u8], question: Question, q: DrawNumber, out: &mut [u8]) -> DrawAnswer
+pub fn draw(
+    g: &[u8],
+    h: &[u8],
+    question: Question,
+    q: DrawNumber,
+    out: &mut [u8],
+) -> Result<Drawn, Refusal>
     ensures { draw_says result out.new ≡ draw_to g.now h.now (plainly question.length question.voice) q.0 out.old }
 {
     if h.len() < 24 {
-        let mut numbers = [0u64; 1];
-        return draw_in(g, h, question, q, &mut numbers, out);
+        draw_in::<1>(g, h, question, q, out)
+    } else if h.len() <= 2004 {
+        draw_in::<100>(g, h, question, q, out)
+    } else {
+        draw_in::<1000>(g, h, question, q, out)
     }
-    if h.len() <= 2004 {
-        let mut numbers = [0u64; 100];
-        return draw_in(g, h, question, q, &mut numbers, out);
-    }
-    let mut numbers = [0u64; 1000];
-    draw_in(g, h, question, q, &mut numbers, out)
 }
 
 // With room for the tables and the heard places.
-fn draw_matching_in(
+// Stays: one way for the calls with and without a pattern was tried, and made the plain ones slower (docs/changes/U1.md).
+fn draw_matching_in<const ROWS: usize, const N: usize>(
     g: &[u8],
     h: &[u8],
     question: Question,
     pattern: &[u8],
     q: DrawNumber,
-    rules: &mut [[u8; 256]],
-    totals: &mut [[u64; 32]],
-    numbers: &mut [u64],
     out: &mut [u8],
-) -> DrawAnswer
-    requires { Called h.now (asked question pattern.now) rules.old totals.old numbers.old }
+) -> Result<Drawn, Refusal>
+    requires { RowsFor (asked question pattern.now) ROWS × PlacesFor h.now N }
     ensures { draw_says result out.new ≡ draw_to g.now h.now (asked question pattern.now) q.0 out.old }
 {
-    let map_row = [0u16; 16];
-    let mut choice = [map_row; 17];
-    let p = prepare::prepare_matching(g, h, question, pattern, rules, totals, &mut choice, numbers);
-    match p {
-        Sampled::Refused(r) => DrawAnswer::Refused(r),
-        Sampled::Ready(k) => {
-            let counts = maps::EVERYWHERE;
-            draw_from(
-                rules,
-                totals,
-                &choice,
-                &counts,
-                question.length as usize,
-                &numbers[0..k],
-                &numbers[0..0],
-                q,
-                out,
-            )
-        }
-    }
+    let mut rules = [[0u8; 256]; 13];
+    let mut totals = [[0u64; 32]; ROWS];
+    let mut choice = [[0u16; 16]; 17];
+    let mut numbers = [0u64; N];
+    let k = prepare::prepare_matching(
+        g,
+        h,
+        question,
+        pattern,
+        &mut rules,
+        &mut totals,
+        &mut choice,
+        &mut numbers,
+    )?;
+    let counts = maps::EVERYWHERE;
+    let tables = Tables {
+        rules: &rules,
+        totals: &totals,
+        choice: &choice,
+        measure: &counts,
+    };
+    let places = &numbers[..];
+    let heard = Heard {
+        firsts: &places[0..k],
+        sums: &places[0..0],
+    };
+    draw_from(tables, question.length as usize, heard, q, out)
 }
 
-fn draw_matching_by(
+// The room for the places as without a pattern.
+fn draw_matching_by<const ROWS: usize>(
     g: &[u8],
     h: &[u8],
     question: Question,
     pattern: &[u8],
     q: DrawNumber,
-    rules: &mut [[u8; 256]],
-    totals: &mut [[u64; 32]],
     out: &mut [u8],
-) -> DrawAnswer
-    requires { Tables (asked question pattern.now) rules.old totals.old }
+) -> Result<Drawn, Refusal>
+    requires { RowsFor (asked question pattern.now) ROWS }
     ensures { draw_says result out.new ≡ draw_to g.now h.now (asked question pattern.now) q.0 out.old }
 {
     if h.len() < 24 {
-        let mut numbers = [0u64; 1];
-        return draw_matching_in(g, h, question, pattern, q, rules, totals, &mut numbers, out);
+        draw_matching_in::<ROWS, 1>(g, h, question, pattern, q, out)
+    } else if h.len() <= 2004 {
+        draw_matching_in::<ROWS, 100>(g, h, question, pattern, q, out)
+    } else {
+        draw_matching_in::<ROWS, 1000>(g, h, question, pattern, q, out)
     }
-    if h.len() <= 2004 {
-        let mut numbers = [0u64; 100];
-        return draw_matching_in(g, h, question, pattern, q, rules, totals, &mut numbers, out);
-    }
-    let mut numbers = [0u64; 1000];
-    draw_matching_in(g, h, question, pattern, q, rules, totals, &mut numbers, out)
 }
 
 // The tables as for *Left*.
@@ -191,20 +185,16 @@ pub fn draw_matching(
     voice: u64,
     q: DrawNumber,
     out: &mut [u8],
-) -> DrawAnswer
+) -> Result<Drawn, Refusal>
     ensures { draw_says result out.new ≡ draw_to g.now h.now (matching pattern.now voice) q.0 out.old }
 {
     let question = Question {
         length: pattern.len() as u64,
         voice,
     };
-    let byte_row = [0u8; 256];
-    let mut rules = [byte_row; 13];
-    let row = [0u64; 32];
     if pattern.len() <= 5 {
-        let mut totals = [row; 48];
-        return draw_matching_by(g, h, question, pattern, q, &mut rules, &mut totals, out);
+        draw_matching_by::<48>(g, h, question, pattern, q, out)
+    } else {
+        draw_matching_by::<290>(g, h, question, pattern, q, out)
     }
-    let mut totals = [row; 290];
-    draw_matching_by(g, h, question, pattern, q, &mut rules, &mut totals, out)
 }

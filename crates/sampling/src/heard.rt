@@ -5,26 +5,14 @@ ghost use Rattle.counting.specs.Refusals.{most};
 ghost use Rattle.sampling.specs.Inner.Collect.{Serves, HeardFoundAs, Collects, CollectedAs};
 
 use crate::question::Question;
+use answers::refusal::Refusal;
 use charts::{maps, plan};
 use history::{reader, records};
 use ranking::rank;
+use ranking::rank::Span;
 
-// What a heard sentence adds: nothing, the place of its one derivation and what that weighs, or that it has two or more.
-#[derive(Clone, Copy)]
-pub enum Added {
-    Nothing,
-    Place(u64, u64),
-    Many,
-}
-
-// How many places there are, or that a sentence has two or more derivations.
-#[derive(Clone, Copy)]
-pub enum Collected {
-    Numbers(usize),
-    Ambiguous,
-}
-
-// A sentence of another length than the plan's adds nothing; one with two derivations is told of, whether it stands or not.
+// What a heard sentence adds: the tickets of its one derivation, or nothing. A sentence of another length than the plan's adds nothing; one with two
+// derivations is refused, whether it stands or not.
 fn find_heard(
     rules: &[[u8; 256]],
     plan: &[[u32; 32]; 4],
@@ -33,25 +21,25 @@ fn find_heard(
     s: &[u8],
     sets: &mut [u32],
     totals: &mut [[u64; 32]],
-) -> Added
+) -> Result<Option<Span>, Refusal>
     requires { Serves rules.now plan.now map.old measure.now sets.old totals.old }
     ensures { HeardFoundAs rules.now plan.now map.new measure.now s.now sets.new totals.new result }
 {
     if s.len() != plan::length(plan) {
-        return Added::Nothing;
+        return Ok(None);
     }
     let k = rank::derivations(rules, plan, map, s, sets, totals);
     if 2 <= k {
-        return Added::Many;
+        return Err(Refusal::HeardAmbiguous);
     }
     if k == 0 {
-        return Added::Nothing;
+        return Ok(None);
     }
     if maps::fits(measure, s) {
         let d = rank::place(rules, totals, map, measure, s.len());
-        return Added::Place(d.first, d.weight);
+        return Ok(Some(d));
     }
-    Added::Nothing
+    Ok(None)
 }
 
 // Where a place ends, if there is room for it.
@@ -59,6 +47,7 @@ fn note(ends: &mut [u64], i: usize, first: u64, weight: u64)
     requires { first + weight ≤ most }
     ensures { ends.new ≡ set ends.old i (first + weight) }
 {
+    // Stays: tried with `ends.get_mut(i)`, and the proof did not close: no clause of a slice's get_mut says what a write through it leaves.
     if i < ends.len() {
         ends[i] = first + weight;
     }
@@ -76,7 +65,7 @@ pub fn collect(
     totals: &mut [[u64; 32]],
     numbers: &mut [u64],
     ends: &mut [u64],
-) -> Collected
+) -> Result<usize, Refusal>
     requires { Collects rules.now plan.now map.old measure.now h.now question.length totals.old numbers.old }
     ensures { CollectedAs rules.now plan.now measure.now h.now question.length question.voice totals.new numbers.new ends.new result }
 {
@@ -88,17 +77,13 @@ pub fn collect(
         at = reader::after(h, r);
         if records::makes_heard(h, r, question.voice) {
             let s = reader::sentence(h, r);
-            let f = find_heard(rules, plan, map, measure, s, &mut sets, totals);
-            match f {
-                Added::Nothing => {}
-                Added::Many => return Collected::Ambiguous,
-                Added::Place(d, w) => {
-                    numbers[count] = d;
-                    note(ends, count, d, w);
-                    count += 1;
-                }
+            let found = find_heard(rules, plan, map, measure, s, &mut sets, totals)?;
+            if let Some(d) = found {
+                numbers[count] = d.first;
+                note(ends, count, d.first, d.weight);
+                count += 1;
             }
         }
     }
-    Collected::Numbers(count)
+    Ok(count)
 }

@@ -12,24 +12,14 @@ const BLANK: u16 = 255;
 fn outside(x: u8, words: u8) -> bool
     ensures { result ≡ neither words x }
 {
-    if x as u16 == BLANK {
-        return false;
-    }
-    words <= x
+    u16::from(x) != BLANK && words <= x
 }
 
 // 21: some byte is neither a blank nor below the number of words.
 pub fn bad(pattern: &[u8], words: u8) -> bool
     ensures { result ≡ bad_pattern words pattern.now }
 {
-    let mut p = 0;
-    while p < pattern.len() {
-        if outside(pattern[p], words) {
-            return true;
-        }
-        p += 1;
-    }
-    false
+    pattern.iter().any(|x| outside(*x, words))
 }
 
 // The links of the rules, the plan of the pattern's length, and the pattern's chart with the map that chooses by it.

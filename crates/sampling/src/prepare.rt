@@ -4,31 +4,22 @@ ghost use Rattle.sorting.specs.Inner.Sorted.{SortedAs};
 ghost use Rattle.sampling.specs.Question.{plainly, asked};
 ghost use Rattle.counting.specs.Inner.Preparing as tables;
 ghost use Rattle.charts.specs.Inner.Maps.{counts_map};
-ghost use Rattle.ranking.specs.Inner.Ranking.{Roomy};
+ghost use Rattle.ranking.specs.Inner.Ranking.{RoomFor};
 ghost use Rattle.sampling.specs.Inner.Collect.{Collects};
 ghost use Rattle.sampling.specs.Inner.Patterns.{behind_of};
 ghost use Rattle.sampling.specs.Inner.Preparing.{AskedAs, OrderedAs, NumbersBy, NumbersSought, NumbersAs, FittingSought, FittedAs, RecordsSought, MatchingSought, RecordedAs, Lent, LentMatching, SampledAs};
 
-use crate::heard::Collected;
 use crate::question::Question;
 use crate::{heard, pattern};
 use answers::refusal::Refusal;
 use charts::{maps, plan, ready};
 use counting::letters::ANY;
-use counting::prepare::Prepared;
 use counting::{prepare, tallies};
 use grammar::{fields, rules};
 use history::checks;
-use history::checks::HistoryAnswer;
-
-// How many heard numbers there are, or why not.
-#[derive(Clone, Copy)]
-pub enum Sampled {
-    Ready(usize),
-    Refused(Refusal),
-}
 
 // Numbers of up to 1,000 records into rising order, each once; how many they are. A short history is spared the clearing of much room.
+// Stays: the spare room is a line in each branch; with its size as a const parameter there would be one function more.
 fn order(numbers: &mut [u64]) -> usize
     requires { length numbers.old ≤ 1000 }
     ensures { SortedAs numbers.old numbers.new result }
@@ -63,49 +54,41 @@ pub fn numbers_by(
     totals: &mut [[u64; 32]],
     numbers: &mut [u64],
     ends: &mut [u64],
-) -> Sampled
+) -> Result<usize, Refusal>
     requires { Collects rules.now plan.now map.old measure.now h.now question.length totals.old numbers.old }
     ensures { NumbersBy rules.now plan.now measure.now h.now question.length question.voice totals.new numbers.new ends.new result }
 {
-    let c = heard::collect(
+    let k = heard::collect(
         rules, plan, map, measure, h, question, totals, numbers, ends,
-    );
-    match c {
-        Collected::Ambiguous => Sampled::Refused(Refusal::HeardAmbiguous),
-        Collected::Numbers(k) => {
-            let m = order_first(numbers, k);
-            order_first(ends, k);
-            Sampled::Ready(m)
-        }
-    }
+    )?;
+    let m = order_first(numbers, k);
+    order_first(ends, k);
+    Ok(m)
 }
 
 // The heard numbers of a history, with room for the charts of its sentences: without a pattern the counts measure.
-fn heard_numbers_in(
+fn heard_numbers_in<const ROWS: usize>(
     rules: &[[u8; 256]],
     totals: &[[u64; 32]],
     h: &[u8],
     question: Question,
     numbers: &mut [u64],
-    chart: &mut [[u64; 32]],
-) -> Sampled
-    requires { NumbersSought rules.now totals.now h.now question.length numbers.old × Roomy question.length chart.old }
+) -> Result<usize, Refusal>
+    requires { NumbersSought rules.now totals.now h.now question.length numbers.old × RoomFor question.length ROWS }
     ensures { NumbersAs rules.now h.now (plainly question.length question.voice) numbers.new result }
 {
     let n = question.length as usize;
-    tallies::copy(totals, n, chart);
-    let row = [0u8; 256];
-    let mut linked = [row; 13];
+    let mut chart = [[0u64; 32]; ROWS];
+    tallies::copy(totals, n, &mut chart);
+    let mut linked = [[0u8; 256]; 13];
     rules::copy(rules, &mut linked);
-    let set_row = [0u32; 32];
-    let mut plan = [set_row; 4];
-    let map_row = [0u16; 16];
-    let mut map = [map_row; 17];
-    ready::ready(&mut linked, chart, n, &mut plan, &mut map);
+    let mut plan = [[0u32; 32]; 4];
+    let mut map = [[0u16; 16]; 17];
+    ready::ready(&mut linked, &chart, n, &mut plan, &mut map);
     let counts = maps::EVERYWHERE;
     let mut ends = [0u64; 0];
     numbers_by(
-        &linked, &plan, &mut map, &counts, h, question, chart, numbers, &mut ends,
+        &linked, &plan, &mut map, &counts, h, question, &mut chart, numbers, &mut ends,
     )
 }
 
@@ -116,17 +99,15 @@ fn heard_numbers(
     h: &[u8],
     question: Question,
     numbers: &mut [u64],
-) -> Sampled
+) -> Result<usize, Refusal>
     requires { NumbersSought rules.now totals.now h.now question.length numbers.old }
     ensures { NumbersAs rules.now h.now (plainly question.length question.voice) numbers.new result }
 {
-    let row = [0u64; 32];
     if question.length <= 5 {
-        let mut chart = [row; 33];
-        return heard_numbers_in(rules, totals, h, question, numbers, &mut chart);
+        heard_numbers_in::<33>(rules, totals, h, question, numbers)
+    } else {
+        heard_numbers_in::<154>(rules, totals, h, question, numbers)
     }
-    let mut chart = [row; 154];
-    heard_numbers_in(rules, totals, h, question, numbers, &mut chart)
 }
 
 // The first row behind a pattern's chart: one of up to five words ends at 33, of sixteen at 154.
@@ -147,18 +128,16 @@ fn fitting_numbers(
     records: u64,
     choice: &mut [[u16; 16]; 17],
     numbers: &mut [u64],
-) -> Sampled
+) -> Result<usize, Refusal>
     requires { FittingSought rules.old totals.old h.now (asked question pattern.now) records choice.old numbers.old }
     ensures { FittedAs rules.old h.now (asked question pattern.now) rules.new totals.new choice.new numbers.new result }
 {
-    let set_row = [0u32; 32];
-    let mut plan = [set_row; 4];
+    let mut plan = [[0u32; 32]; 4];
     pattern::fill(rules, pattern, &mut plan, choice, totals);
     if records == 0 {
-        return Sampled::Ready(0);
+        return Ok(0);
     }
-    let map_row = [0u16; 16];
-    let mut map = [map_row; 17];
+    let mut map = [[0u16; 16]; 17];
     plan::rows(&plan, behind(question.length), &mut map);
     let mut ends = [0u64; 0];
     numbers_by(
@@ -173,23 +152,19 @@ fn records(
     h: &[u8],
     question: Question,
     numbers: &mut [u64],
-) -> Sampled
+) -> Result<usize, Refusal>
     requires { RecordsSought rules.now totals.now h.now question.length numbers.old }
     ensures { RecordedAs rules.now h.now (plainly question.length question.voice) rules.now totals.now counts_map numbers.new result }
 {
-    let a = checks::check(h);
-    match a {
-        HistoryAnswer::Refused(r) => Sampled::Refused(r),
-        HistoryAnswer::Given(k) => {
-            if k == 0 {
-                return Sampled::Ready(0);
-            }
-            heard_numbers(rules, totals, h, question, numbers)
-        }
+    let k = checks::check(h)?;
+    if k == 0 {
+        return Ok(0);
     }
+    heard_numbers(rules, totals, h, question, numbers)
 }
 
 // With a pattern its chart is needed in any case.
+// Stays: one way for the calls with and without a pattern was tried, and made the plain ones slower (docs/changes/U1.md).
 fn records_matching(
     rules: &mut [[u8; 256]],
     totals: &mut [[u64; 32]],
@@ -198,17 +173,12 @@ fn records_matching(
     pattern: &[u8],
     choice: &mut [[u16; 16]; 17],
     numbers: &mut [u64],
-) -> Sampled
+) -> Result<usize, Refusal>
     requires { MatchingSought rules.old totals.old h.now (asked question pattern.now) choice.old numbers.old }
     ensures { RecordedAs rules.old h.now (asked question pattern.now) rules.new totals.new choice.new numbers.new result }
 {
-    let a = checks::check(h);
-    match a {
-        HistoryAnswer::Refused(r) => Sampled::Refused(r),
-        HistoryAnswer::Given(k) => fitting_numbers(
-            rules, totals, h, question, pattern, k, choice, numbers,
-        ),
-    }
+    let k = checks::check(h)?;
+    fitting_numbers(rules, totals, h, question, pattern, k, choice, numbers)
 }
 
 // 1 to 9, 22, 10 and 21.
@@ -218,25 +188,21 @@ pub fn ask(
     pattern: &[u8],
     rules: &mut [[u8; 256]],
     totals: &mut [[u64; 32]],
-) -> Prepared
+) -> Result<(), Refusal>
     requires { tables.Lent rules.old totals.old }
     ensures { AskedAs g.now (asked question pattern.now) rules.old rules.new totals.old totals.new result }
 {
-    let opened = prepare::open(g, question.length, rules);
-    match opened {
-        Prepared::Refused(r) => return Prepared::Refused(r),
-        Prepared::Ready => {}
-    }
+    prepare::open(g, question.length, rules)?;
     if 15 < question.voice {
-        return Prepared::Refused(Refusal::BadVoice);
+        return Err(Refusal::BadVoice);
     }
     if !tallies::fill(rules, ANY, question.length as usize, 0, totals) {
-        return Prepared::Refused(Refusal::TooManyDerivations);
+        return Err(Refusal::TooManyDerivations);
     }
     if pattern::bad(pattern, fields::words(g)) {
-        return Prepared::Refused(Refusal::BadPattern);
+        return Err(Refusal::BadPattern);
     }
-    Prepared::Ready
+    Ok(())
 }
 
 // 1 to 9, 22 and 10, then 11 to 15.
@@ -247,18 +213,16 @@ pub fn prepare(
     rules: &mut [[u8; 256]],
     totals: &mut [[u64; 32]],
     numbers: &mut [u64],
-) -> Sampled
+) -> Result<usize, Refusal>
     requires { Lent h.now rules.old totals.old numbers.old }
     ensures { SampledAs g.now h.now (plainly question.length question.voice) rules.new totals.new counts_map numbers.new result }
 {
-    let p = ask(g, question, &g[0..0], rules, totals);
-    match p {
-        Prepared::Refused(r) => Sampled::Refused(r),
-        Prepared::Ready => records(rules, totals, h, question, numbers),
-    }
+    ask(g, question, &g[0..0], rules, totals)?;
+    records(rules, totals, h, question, numbers)
 }
 
 // 1 to 9, 22, 10 and 21, then 11 to 15. The map chooses by the pattern's chart.
+// Stays: one way for the calls with and without a pattern was tried, and made the plain ones slower (docs/changes/U1.md).
 pub fn prepare_matching(
     g: &[u8],
     h: &[u8],
@@ -268,13 +232,10 @@ pub fn prepare_matching(
     totals: &mut [[u64; 32]],
     choice: &mut [[u16; 16]; 17],
     numbers: &mut [u64],
-) -> Sampled
+) -> Result<usize, Refusal>
     requires { LentMatching h.now (asked question pattern.now) rules.old totals.old choice.old numbers.old }
     ensures { SampledAs g.now h.now (asked question pattern.now) rules.new totals.new choice.new numbers.new result }
 {
-    let p = ask(g, question, pattern, rules, totals);
-    match p {
-        Prepared::Refused(r) => Sampled::Refused(r),
-        Prepared::Ready => records_matching(rules, totals, h, question, pattern, choice, numbers),
-    }
+    ask(g, question, pattern, rules, totals)?;
+    records_matching(rules, totals, h, question, pattern, choice, numbers)
 }

@@ -1,13 +1,17 @@
--- Each operation on bits, by what it does to membership: digit by digit, with the laws of lib.Bits and lib.Pow.
+-- Each operation on bits, by what it does to membership: digit by digit, with std's laws of single digits and those of lib.Bits and lib.Pow.
 -- Assumes nothing.
 use mathlib.Core.Path.{◌≡◌, refl, sym, ap, ◌∙◌}
 use mathlib.Core.Bool.{Bool, true, false, not, ◌&&◌, ◌||◌}
-use Prim.Native.Nat.{ℕ, zero, suc, ◌+◌, ◌-◌, ◌*◌, ◌/◌, ◌%◌, ◌^◌, ◌<◌}
-use native.Mathlib.Nat.{zero-lt-suc, mod-lt, pow-suc, pow-succ', div-div-eq-div-mul, div-one, mul-div_cancel, mul-mod_left, mul-one, one-mul, sub-zero}
+use Prim.Native.Nat.{ℕ, zero, suc, ◌+◌, ◌-◌, ◌*◌, ◌/◌, ◌%◌, ◌^◌, ◌<◌, min, max}
+use native.Mathlib.Nat.{mul-one, one-mul, sub-zero}
 use native.Mathlib.Omega.{arith}
-use lib.Dec.{eqb, leb, eqb-zero-suc, eqb-suc-zero, eqb-suc-suc, leb-zero, leb-suc-zero, leb-suc-suc}
+use native.Mathlib.Decide.{ℕ_discrete}
+use borrow.Author.Tests.{eq-eqb, ne_eqb}
+use lib.Dec.{eqb, leb, leb-zero, leb-suc-zero, leb-suc-suc}
 use lib.Pow.{shl_exact, field, mod-mod-pow}
-use lib.Bits.{bit_and, bit_or, bit_xor, and_shr, or_shr, xor_shr, and_mod, or_mod, xor_mod, and_mask, shifted_half, shifted_even}
+use lib.Bits.{bit_and, bit_or, bit_xor, and_mask, shifted_half, shifted_even}
+use Rattle.std.specs.Int.{bit_at}
+use Rattle.std.proofs.lemmas.Nat.Bits.{bit_at-lt, bit_at_and, bit_at_or, bit_at_xor, bit_at_lowest, bit_at-suc, bit_at-zero, bit_at-pow_same, bit_at-pow_other}
 use Rattle.sets.specs.Inner.Sets.{member}
 
 -- ---- two sets, digit by digit
@@ -23,67 +27,53 @@ digit_by f g a b c d (suc (suc x)) y h k = absurd (omega arith)
 digit_by f g a b c d zero (suc (suc y)) h k = absurd (omega arith)
 digit_by f g a b c d (suc zero) (suc (suc y)) h k = absurd (omega arith)
 
-digit_and : (x y : ℕ) → x < 2 → y < 2 → eqb (bit_and x y) 1 ≡ (eqb x 1 && eqb y 1)
-digit_and = digit_by bit_and ◌&&◌ refl refl refl refl
+digit_and : (x y : ℕ) → x < 2 → y < 2 → eqb (min x y) 1 ≡ (eqb x 1 && eqb y 1)
+digit_and = digit_by min ◌&&◌ refl refl refl refl
 
-digit_or : (x y : ℕ) → x < 2 → y < 2 → eqb (bit_or x y) 1 ≡ (eqb x 1 || eqb y 1)
-digit_or = digit_by bit_or ◌||◌ refl refl refl refl
+digit_or : (x y : ℕ) → x < 2 → y < 2 → eqb (max x y) 1 ≡ (eqb x 1 || eqb y 1)
+digit_or = digit_by max ◌||◌ refl refl refl refl
 
 -- `x ^ (x & y)``
-digit_less : (x y : ℕ) → x < 2 → y < 2 → eqb (bit_xor x (bit_and x y)) 1 ≡ (eqb x 1 && not (eqb y 1))
-digit_less = digit_by (λ x y. bit_xor x (bit_and x y)) (λ a b. a && not b) refl refl refl refl
-
-digit_lt : (n : ℕ) → n % 2 < 2
-digit_lt n = mod-lt n (zero-lt-suc 1)
+digit_less : (x y : ℕ) → x < 2 → y < 2 → eqb ((x + min x y) % 2) 1 ≡ (eqb x 1 && not (eqb y 1))
+digit_less = digit_by (λ x y. (x + min x y) % 2) (λ a b. a && not b) refl refl refl refl
 
 pub member_and : (s t a : ℕ) → member (bit_and s t) a ≡ (member s a && member t a)
 unfolding member
-member_and s t a =
-    ap (λ (x : ℕ). eqb (x % 2) 1) (and_shr s t a)
-    ∙ ap (λ (x : ℕ). eqb x 1) (and_mod (s / 2 ^ a) (t / 2 ^ a) 1)
-    ∙ digit_and (s / 2 ^ a % 2) (t / 2 ^ a % 2) (digit_lt (s / 2 ^ a)) (digit_lt (t / 2 ^ a))
+member_and s t a = ap (λ (x : ℕ). eqb x 1) (bit_at_and s t a) ∙ digit_and _ _ (bit_at-lt s a) (bit_at-lt t a)
 
 pub member_or : (s t a : ℕ) → member (bit_or s t) a ≡ (member s a || member t a)
 unfolding member
-member_or s t a =
-    ap (λ (x : ℕ). eqb (x % 2) 1) (or_shr s t a)
-    ∙ ap (λ (x : ℕ). eqb x 1) (or_mod (s / 2 ^ a) (t / 2 ^ a) 1)
-    ∙ digit_or (s / 2 ^ a % 2) (t / 2 ^ a % 2) (digit_lt (s / 2 ^ a)) (digit_lt (t / 2 ^ a))
+member_or s t a = ap (λ (x : ℕ). eqb x 1) (bit_at_or s t a) ∙ digit_or _ _ (bit_at-lt s a) (bit_at-lt t a)
 
 pub member_without : (s t a : ℕ) → member (bit_xor s (bit_and s t)) a ≡ (member s a && not (member t a))
 unfolding member
 member_without s t a =
-    ap (λ (x : ℕ). eqb (x % 2) 1) (xor_shr s (bit_and s t) a ∙ ap (bit_xor (s / 2 ^ a)) (and_shr s t a))
-    ∙ ap (λ (x : ℕ). eqb x 1) (xor_mod (s / 2 ^ a) (bit_and (s / 2 ^ a) (t / 2 ^ a)) 1 ∙ ap (bit_xor (s / 2 ^ a % 2)) (and_mod (s / 2 ^ a) (t / 2 ^ a) 1))
-    ∙ digit_less (s / 2 ^ a % 2) (t / 2 ^ a % 2) (digit_lt (s / 2 ^ a)) (digit_lt (t / 2 ^ a))
+    ap (λ (x : ℕ). eqb x 1) (bit_at_xor s (bit_and s t) a ∙ ap (λ (x : ℕ). (bit_at s a + x) % 2) (bit_at_and s t a))
+    ∙ digit_less _ _ (bit_at-lt s a) (bit_at-lt t a)
 
 -- ---- one set: its lowest digit, and the others
 
 pub member_zero : (s : ℕ) → member s 0 ≡ eqb (s % 2) 1
 unfolding member
-member_zero s = rw (div-one s)
+member_zero s = ap (λ (x : ℕ). eqb x 1) (bit_at_lowest s)
 
 pub member_suc : (s a : ℕ) → member s (suc a) ≡ member (s / 2) a
 unfolding member
-member_suc s a = ap (λ (x : ℕ). eqb (s / x % 2) 1) (pow-succ' 2 a) ∙ ap (λ (x : ℕ). eqb (x % 2) 1) (sym (div-div-eq-div-mul s 2 (2 ^ a)))
+member_suc s a = ap (λ (x : ℕ). eqb x 1) (bit_at-suc s a)
 
 -- the empty set has no member
 pub member_none : (a : ℕ) → member 0 a ≡ false
 unfolding member
-member_none zero = refl
-member_none (suc a) = member_suc 0 a ∙ member_none a
+member_none a = ap (λ (x : ℕ). eqb x 1) (bit_at-zero a)
 
 -- a power has one member
 member_power : (a b : ℕ) → member (2 ^ a) b ≡ eqb a b
 unfolding member
-member_power zero zero = refl
-member_power zero (suc b) = member_suc 1 b ∙ member_none b ∙ sym (eqb-zero-suc b)
-member_power (suc a) zero =
-    member_zero (2 ^ suc a) ∙ ap (λ (x : ℕ). eqb (x % 2) 1) (pow-suc 2 a) ∙ ap (λ (x : ℕ). eqb x 1) (mul-mod_left (2 ^ a) 2) ∙ sym (eqb-suc-zero a)
-member_power (suc a) (suc b) =
-    member_suc (2 ^ suc a) b
-    ∙ ap (λ (x : ℕ). member x b) (ap (λ (x : ℕ). x / 2) (pow-suc 2 a) ∙ mul-div_cancel (2 ^ a) (zero-lt-suc 1))
-    ∙ member_power a b ∙ sym (eqb-suc-suc a b)
+member_power a b =
+    elim (ℕ_discrete b a) [
+      | yes e ↦ rw (e, bit_at-pow_same a, eq-eqb a a refl)
+      | no n ↦ rw (bit_at-pow_other a b n, ne_eqb a b (λ e. n (sym e)))
+    ]
 
 -- `s | (1 << a)``
 pub member_with : (s a b : ℕ) → a < 32 → member (bit_or s (1 * 2 ^ a % 2 ^ 32)) b ≡ (member s b || eqb a b)

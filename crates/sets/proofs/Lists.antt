@@ -78,7 +78,7 @@ members_none = refl
 begins : (l m : List ℕ) (a : ℕ) → l ≡ a ∷ m → m ≡ drop 1 l
 begins l m a e = sym (ap (drop 1) e)
 
--- `u32::trailing_zeros(s)``
+-- `s.trailing_zeros()``
 pub members_lowest : (s : ℕ) → 0 < s → s < 2 ^ 32 → members s ≡ count_trailing_zeros 32 s ∷ drop 1 (members s)
 unfolding members
 members_lowest s p h = let e = first_below 32 s p h in e ∙ ap (λ (l : List ℕ). count_trailing_zeros 32 s ∷ l) (begins _ _ _ e)

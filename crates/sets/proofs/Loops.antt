@@ -1,5 +1,6 @@
--- A loop over a set, `while left != 0 { let a = lowest(left); ..; left = after_lowest(left); }``: what one turn does to the members that are
--- left. And what the contracts of the operations say of single members: one more, two sets together, a set moved; none, and some.
+-- A loop over a set, `for a in sets::each(s)`: what one turn does to the members that are left, where `next` gives a, the first of them, and
+-- leaves the others. The same by hand, `while left != 0 { let a = lowest(left); ..; left = after_lowest(left); }``. And what the contracts of
+-- the operations say of single members: one more, two sets together, a set moved; none, and some.
 -- Assumes nothing.
 use mathlib.Core.Path.{◌≡◌, refl, sym, ap, ◌∙◌}
 use mathlib.Core.Bool.{true, false, ◌||◌, ◌&&◌, false≢true}
@@ -20,10 +21,10 @@ use Rattle.sets.proofs.Digits.{member_none}
 
 -- ---- a turn: a is the lowest of `left`, which becomes `next`
 
-module _ (left a : ℕ) (first : members left ≡ a ∷ drop 1 (members left)) where
-  pub lowest_low : a < 32
-  lowest_low = (members_∈ left a (rw first (Memᴰ.head refl))).0
+pub lowest_low : (left a : ℕ) {l : List ℕ} → members left ≡ a ∷ l → a < 32
+lowest_low left a first = (members_∈ left a (rw first (Memᴰ.head refl))).0
 
+module _ (left a : ℕ) (first : members left ≡ a ∷ drop 1 (members left)) where
   module _ (next : ℕ) (rest : members next ≡ drop 1 (members left)) where
     pub turn : members left ≡ a ∷ members next
     turn = first ∙ ap (λ (l : List ℕ). a ∷ l) (sym rest)
@@ -105,6 +106,9 @@ module _ (s k r : ℕ) (e : (b : ℕ) → b < 32 → member r b ≡ (leb k b && 
 -- s is empty
 pub none_member : (s a : ℕ) → members s ≡ [] → a < 32 → member s a ≡ true → ⊥
 none_member s a e h t = Memᴰ.not-nil (rw e at (∈_members s a h t))
+
+pub none_out : (s a : ℕ) → members s ≡ [] → a < 32 → member s a ≡ false
+none_out s a e h = both_ways (member s a) false (λ t. absurd (none_member s a e h t)) (λ z. absurd (false≢true z))
 
 -- a set with a member isn't 0
 pub some_member : (s a : ℕ) → member s a ≡ true → s ≡ 0 → ⊥

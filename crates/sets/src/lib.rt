@@ -1,8 +1,12 @@
-// Sets of numbers below 32, each the bits of one u32, and what a loop over a set needs: its first member, and the set without it.
+// Sets of numbers below 32, each the bits of one u32; a loop over the members of a set; its first member, and the set without it.
+// Stays: a set is the u32 itself, not a struct with methods: pub contracts above, as `Finding` of `needs::find`, speak of the numbers in rows `[u32; 17]`.
 #![tactic(auto)]
 
 ghost use Rattle.std.specs.Prelude.{◌≡◌, ◌&&◌, ◌||◌, not, [], ◌∷◌, ℕ, ◌-◌, ◌<◌, eqb, leb, drop};
+ghost use Rattle.std.specs.Iterator.{YieldsFirst, item_count};
 ghost use Rattle.sets.specs.Inner.Sets.{member, members};
+
+use std::marker::Model;
 
 // The empty set.
 pub fn none() -> u32
@@ -56,12 +60,48 @@ pub fn has(s: u32, a: usize) -> bool
     (s >> a) & 1 == 1
 }
 
+// A loop over a set, whose members come rising. Clauses see it as the set that is left.
+#[derive(Drop)]
+pub struct Members {
+    left: u32,
+}
+
+impl Model for Members {
+    ghost Value = { ℕ };
+
+    ghost view = { λ m. m.left };
+}
+
+// The members of s, for a loop.
+pub fn each(s: u32) -> Members
+    ensures { result ≡ s }
+{
+    Members { left: s }
+}
+
+impl Iterator for Members {
+    type Item = usize;
+
+    ghost next_gives = { YieldsFirst members };
+
+    ghost remaining = { item_count members };
+
+    fn next(&mut self) -> Option<usize> {
+        let left = self.left;
+        if left == 0 {
+            return None;
+        }
+        self.left = after_lowest(left);
+        Some(lowest(left))
+    }
+}
+
 // The smallest member.
 pub fn lowest(s: u32) -> usize
     requires { 0 < s }
     ensures { members s ≡ result ∷ drop 1 (members s) }
 {
-    u32::trailing_zeros(s) as usize
+    s.trailing_zeros() as usize
 }
 
 // s without its smallest member.

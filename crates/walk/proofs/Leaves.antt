@@ -111,8 +111,8 @@ module _ {rules : List (List ℕ)} {by to a t : ℕ} (s : WordSought rules by to
           }
 
       -- where each counts once that is how many they are, and by weight it stands in the table
-      pub word_picked : to ≡ any → PickedAs rules by to a t by j 1 1 0
-      word_picked f = picked_at (sym (ones to f (take j words) ∙ length-take-le j words (omega (arith, inside)))) (sym (by_any rules to by f))
+      pub word_picked : to ≡ any → {from : ℕ} → from ≡ word_from rules a → PickedAs rules by to a t by (i - from) 1 1 0
+      word_picked f e = rw e (picked_at (sym (ones to f (take j words) ∙ length-take-le j words (omega (arith, inside)))) (sym (by_any rules to by f)))
 
       pub word_weighed : to ≡ weighed → {place measured : ℕ} → place ≡ before_at rules i → measured ≡ by_letter rules to by
           → PickedAs rules by to a t by place measured 1 0

@@ -193,36 +193,38 @@ module _ {rules totals choice measure : List (List ℕ)} {a p m t : ℕ} (s : So
       pub low : k < m
       low = omega (arith, w.high)
 
-      pub cut_by : Cut totals choice b p k c (p + k) (m - k)
-      cut_by = cut s (w.rule l) w.some low s.tables.by
+      -- its halves
+      module _ {lb lp lm rc rp rm : ℕ} (el : (lb ≡ b) × (lp ≡ p) × (lm ≡ k)) (er : (rc ≡ c) × (rp ≡ p + k) × (rm ≡ m - k)) where
+        pub cut_by : Cut totals choice lb lp lm rc rp rm
+        cut_by = rw (el.0, el.1, el.2, er.0, er.1, er.2) (cut s (w.rule l) w.some low s.tables.by)
 
-      pub cut_to : Cut totals measure b p k c (p + k) (m - k)
-      cut_to = cut s (w.rule l) w.some low s.tables.to
+        pub cut_to : Cut totals measure lb lp lm rc rp rm
+        cut_to = rw (el.0, el.1, el.2, er.0, er.1, er.2) (cut s (w.rule l) w.some low s.tables.to)
 
-      module _ {x : ℕ} (ex : x ≡ total_at totals choice p b k * total_at totals choice (p + k) c (m - k)) where
-        x_is : x ≡ halves_total (ruled rules) (weight_by rules choice) b c p m k
-        x_is = ex ∙ table_halves s (w.rule l) w.some low s.tables.by
+        module _ {x : ℕ} (ex : x ≡ total_at totals choice lp lb lm * total_at totals choice rp rc rm) where
+          x_is : x ≡ halves_total (ruled rules) (weight_by rules choice) b c p m k
+          x_is = (rw (el.0, el.1, el.2, er.0, er.1, er.2) at ex) ∙ table_halves s (w.rule l) w.some low s.tables.by
 
-        pub going_found : rest < x → ChosenAs (ruled rules) (weight_by rules choice) (weight_by rules measure) a p m t b c k before rest
-        going_found n = loops.choosing_found w.choosing low w.some (in_ruled s (w.rule l) w.some low) (omega (arith, x_is))
+          pub going_found : rest < x → ChosenAs (ruled rules) (weight_by rules choice) (weight_by rules measure) a p m t b c k before rest
+          going_found n = loops.choosing_found w.choosing low w.some (in_ruled s (w.rule l) w.some low) (omega (arith, x_is))
 
-        module _ {y : ℕ} (ey : y ≡ total_at totals measure p b k * total_at totals measure (p + k) c (m - k)) where
-          y_is : y ≡ halves_total (ruled rules) (weight_by rules measure) b c p m k
-          y_is = ey ∙ table_halves s (w.rule l) w.some low s.tables.to
+          module _ {y : ℕ} (ey : y ≡ total_at totals measure lp lb lm * total_at totals measure rp rc rm) where
+            y_is : y ≡ halves_total (ruled rules) (weight_by rules measure) b c p m k
+            y_is = (rw (el.0, el.1, el.2, er.0, er.1, er.2) at ey) ∙ table_halves s (w.rule l) w.some low s.tables.to
 
-          pub going_room : before + y ≤ most
-          going_room = omega (arith, y_is, loops.choosing_room w.choosing low, s.tables.to.fits p a m s.asked s.span)
+            pub going_room : before + y ≤ most
+            going_room = omega (arith, y_is, loops.choosing_room w.choosing low, s.tables.to.fits p a m s.asked s.span)
 
-          pub going_next : x ≤ rest → Going rules choice measure a p m t i b c (k + 1) end (before + y) (rest - x)
-          going_next n =
-              record {
-                from = w.from;
-                some = omega arith;
-                rule = λ u. w.rule l;
-                high = w.high;
-                none = w.none;
-                choosing = rw (x_is, y_is) (loops.choosing_next w.choosing low (omega (arith, x_is)));
-              }
+            pub going_next : x ≤ rest → Going rules choice measure a p m t i b c (k + 1) end (before + y) (rest - x)
+            going_next n =
+                record {
+                  from = w.from;
+                  some = omega arith;
+                  rule = λ u. w.rule l;
+                  high = w.high;
+                  none = w.none;
+                  choosing = rw (x_is, y_is) (loops.choosing_next w.choosing low (omega (arith, x_is)));
+                }
 
 -- ---- a single word
 
@@ -304,78 +306,82 @@ module _ {rules totals choice measure : List (List ℕ)} {a p m b c k before res
       let z = pos_both (total (ruled rules) by p b k) (total (ruled rules) by (p + k) c (m - k)) (omega (arith, inside.inside)) in
       q.tables.closed.halves a b c p m k q.asked rule_in q.span k_some k_short q.known (live rules totals choice p b k z.0) (live rules totals choice (p + k) c (m - k) z.1)
 
-  pub placed_by : Placed totals choice c (p + k) (m - k)
-  placed_by = right_placed s.sought rule_in k_some k_short s.sought.tables.by
+  -- its halves, as they are made
+  module _ {lb lp lm rc rp rm : ℕ} (el : (lb ≡ b) × (lp ≡ p) × (lm ≡ k)) (er : (rc ≡ c) × (rp ≡ p + k) × (rm ≡ m - k)) where
+    pub placed_by : Placed totals choice rc rp rm
+    placed_by = rw (er.0, er.1, er.2) (right_placed s.sought rule_in k_some k_short s.sought.tables.by)
 
-  pub placed_to : Placed totals measure c (p + k) (m - k)
-  placed_to = right_placed s.sought rule_in k_some k_short s.sought.tables.to
+    pub placed_to : Placed totals measure rc rp rm
+    placed_to = rw (er.0, er.1, er.2) (right_placed s.sought rule_in k_some k_short s.sought.tables.to)
 
-  to_is : {z : ℕ} → z ≡ total_at totals measure (p + k) c (m - k) → z ≡ total (ruled rules) to (p + k) c (m - k)
-  to_is e =
-      let q = s.sought in
-      e ∙ q.tables.to.right (p + k) c (m - k) (right_asked q rule_in k_some k_short) (right_span q rule_in k_some k_short) both_known.1
-
-  module _ {y : ℕ} (e : y ≡ total_at totals choice (p + k) c (m - k)) where
-    by_is : y ≡ total (ruled rules) by (p + k) c (m - k)
-    by_is =
+    to_is : {z : ℕ} → z ≡ total_at totals measure rp rc rm → z ≡ total (ruled rules) to (p + k) c (m - k)
+    to_is e =
         let q = s.sought in
-        e ∙ q.tables.by.right (p + k) c (m - k) (right_asked q rule_in k_some k_short) (right_span q rule_in k_some k_short) both_known.1
+        (rw (er.0, er.1, er.2) at e) ∙ q.tables.to.right (p + k) c (m - k) (right_asked q rule_in k_some k_short) (right_span q rule_in k_some k_short) both_known.1
 
-    pub some_right : 0 < y
-    some_right = rw by_is (walks.right_some inside)
-
-    pub left_sought : {d : ℕ} → d ≡ rest / y → Sought rules totals choice measure b p k d
-    left_sought f =
-        let q = s.sought in
-        record {
-          n = q.n;
-          tables = q.tables;
-          asked = left_asked q rule_in k_some k_short;
-          span = left_span q rule_in k_some k_short;
-          known = both_known.0;
-          inside = rw (f, by_is) (walks.left_ticket inside);
-        }
-
-    module _ {d : ℕ} (f : d ≡ rest / y) {words : List ℕ} {n measured w o : ℕ} (l : OwnedAs (ruled rules) by to b p k d words n measured w o) where
-      left_owned : OwnedAs (ruled rules) by to b p k (rest / total (ruled rules) by (p + k) c (m - k)) words n measured w o
-      left_owned = rw (f, by_is) at l
-
-      pub some_left : 0 < w
-      some_left = omega (arith, walks.owned_some l)
-
-      pub rest_fits : o * y + rest % y ≤ most
-      rest_fits =
+    module _ {y : ℕ} (e : y ≡ total_at totals choice rp rc rm) where
+      by_is : y ≡ total (ruled rules) by (p + k) c (m - k)
+      by_is =
           let q = s.sought in
-          rw by_is (omega (arith, walks.rest_room inside left_owned, walks.chosen_tickets s.chosen, q.tables.by.fits p a m q.asked q.span))
+          (rw (er.0, er.1, er.2) at e) ∙ q.tables.by.right (p + k) c (m - k) (right_asked q rule_in k_some k_short) (right_span q rule_in k_some k_short) both_known.1
 
-      module _ {x : ℕ} (g : x ≡ o * y + rest % y) where
-        rest_is : x ≡ walks.right_rest inside left_owned
-        rest_is = rw by_is at g
+      pub some_right : 0 < y
+      some_right = rw by_is (walks.right_some inside)
 
-        pub right_sought : {d' : ℕ} → d' ≡ x / w → Sought rules totals choice measure c (p + k) (m - k) d'
-        right_sought f' =
+      pub left_sought : {d : ℕ} → d ≡ rest / y → Sought rules totals choice measure lb lp lm d
+      left_sought f =
+          let q = s.sought in
+          rw (el.0, el.1, el.2)
+          (record {
+            n = q.n;
+            tables = q.tables;
+            asked = left_asked q rule_in k_some k_short;
+            span = left_span q rule_in k_some k_short;
+            known = both_known.0;
+            inside = rw (f, by_is) (walks.left_ticket inside);
+          })
+
+      module _ {d : ℕ} (f : d ≡ rest / y) {words : List ℕ} {n measured w o : ℕ} (l : OwnedAs (ruled rules) by to lb lp lm d words n measured w o) where
+        left_owned : OwnedAs (ruled rules) by to b p k (rest / total (ruled rules) by (p + k) c (m - k)) words n measured w o
+        left_owned = rw (el.0, el.1, el.2, f, by_is) at l
+
+        pub some_left : 0 < w
+        some_left = omega (arith, walks.owned_some l)
+
+        pub rest_fits : o * y + rest % y ≤ most
+        rest_fits =
             let q = s.sought in
-            record {
-              n = q.n;
-              tables = q.tables;
-              asked = right_asked q rule_in k_some k_short;
-              span = right_span q rule_in k_some k_short;
-              known = both_known.1;
-              inside = rw (f', rest_is) (walks.right_ticket inside left_owned);
-            }
+            rw by_is (omega (arith, walks.rest_room inside left_owned, walks.chosen_tickets s.chosen, q.tables.by.fits p a m q.asked q.span))
 
-        module _ {d' : ℕ} (f' : d' ≡ x / w) {words' : List ℕ} {n' measured' w' o' : ℕ} (r : OwnedAs (ruled rules) by to c (p + k) (m - k) d' words' n' measured' w' o') where
-          both_owned : HalvesAs (ruled rules) by to b c p m k rest (words ++ words') (n * total (ruled rules) to (p + k) c (m - k) + measured * n') (measured * measured') (w * w') (o' * w + x % w)
-          both_owned = rw rest_is (walks.halves_owned inside left_owned (rw (f', rest_is) at r))
+        module _ {x : ℕ} (g : x ≡ o * y + rest % y) where
+          rest_is : x ≡ walks.right_rest inside left_owned
+          rest_is = rw by_is at g
 
-          pub halves_found : {z : ℕ} → z ≡ total_at totals measure (p + k) c (m - k)
-              → HalvesFoundAs rules choice measure p m b c k before rest (words ++ words') (before + n * z + measured * n') (measured * measured') (w * w') (o' * w + x % w)
-          halves_found e' =
-              record {
-                inner = n * total (ruled rules) to (p + k) c (m - k) + measured * n';
-                place_is = rw (to_is e') (omega arith);
-                owned = both_owned;
-              }
+          pub right_sought : {d' : ℕ} → d' ≡ x / w → Sought rules totals choice measure rc rp rm d'
+          right_sought f' =
+              let q = s.sought in
+              rw (er.0, er.1, er.2)
+              (record {
+                n = q.n;
+                tables = q.tables;
+                asked = right_asked q rule_in k_some k_short;
+                span = right_span q rule_in k_some k_short;
+                known = both_known.1;
+                inside = rw (f', rest_is) (walks.right_ticket inside left_owned);
+              })
+
+          module _ {d' : ℕ} (f' : d' ≡ x / w) {words' : List ℕ} {n' measured' w' o' : ℕ} (r : OwnedAs (ruled rules) by to rc rp rm d' words' n' measured' w' o') where
+            both_owned : HalvesAs (ruled rules) by to b c p m k rest (words ++ words') (n * total (ruled rules) to (p + k) c (m - k) + measured * n') (measured * measured') (w * w') (o' * w + x % w)
+            both_owned = rw rest_is (walks.halves_owned inside left_owned (rw (er.0, er.1, er.2, f', rest_is) at r))
+
+            pub halves_found : {z : ℕ} → z ≡ total_at totals measure rp rc rm
+                → HalvesFoundAs rules choice measure p m b c k before rest (words ++ words') (before + n * z + measured * n') (measured * measured') (w * w') (o' * w + x % w)
+            halves_found e' =
+                record {
+                  inner = n * total (ruled rules) to (p + k) c (m - k) + measured * n';
+                  place_is = rw (to_is e') (omega arith);
+                  owned = both_owned;
+                }
 
 -- ---- part after part: the place, what is measured and weighed, and the offset of what is found behind others
 
@@ -445,9 +451,10 @@ along_start {rules} {totals} {choice} {measure} {a} {p} {m} s =
 module _
     {rules totals choice measure : List (List ℕ)} {p m b c k before rest : ℕ} {done : List ℕ} {a p' m' b' c' k' before' rest' P M W O : ℕ}
     (h : Along rules totals choice measure p m b c k before rest done a p' m' b' c' k' before' rest' P M W O)
-    {y z d : ℕ} (ey : y ≡ total_at totals choice (p' + k') c' (m' - k')) (ez : z ≡ total_at totals measure (p' + k') c' (m' - k')) (ed : d ≡ rest' / y)
-    {words : List ℕ} {n u w o : ℕ} (l : OwnedAs (ruled rules) (weight_by rules choice) (weight_by rules measure) b' p' k' d words n u w o)
-    {x : ℕ} (ex : x ≡ o * y + rest' % y) where
+    {lb lp lm rc rp rm : ℕ} (el : (lb ≡ b') × (lp ≡ p') × (lm ≡ k')) (er : (rc ≡ c') × (rp ≡ p' + k') × (rm ≡ m' - k'))
+    {y z d : ℕ} (ey : y ≡ total_at totals choice rp rc rm) (ez : z ≡ total_at totals measure rp rc rm) (ed : d ≡ rest' / y)
+    {words : List ℕ} {n u w o : ℕ} (l : OwnedAs (ruled rules) (weight_by rules choice) (weight_by rules measure) lb lp lm d words n u w o)
+    {v : ℕ} (ev : v ≡ rest' % y) where
   abbrev s : HalvesSought rules totals choice measure a p' m' b' c' k' before' rest'
   s = h.sought
 
@@ -458,28 +465,31 @@ module _
   to_total = total (ruled rules) (weight_by rules measure)
 
   left_part : n + u ≤ to_total p' b' k'
-  left_part = omega (arith, place_inside l.owns, l.measure_is, total_sum (ruled rules) (weight_by rules measure) p' b' k')
+  left_part = let q = left_owned s el er ey ed l in omega (arith, place_inside q.owns, q.measure_is, total_sum (ruled rules) (weight_by rules measure) p' b' k')
+
+  over : o * y + v ≡ o * y + rest' % y
+  over = rw ev refl
 
   -- what is measured: the left half, with the right one behind each of its parts
   measured_room : P + M * (before' + n * z) + M * u * z ≤ most
-  measured_room = rw (to_is s ez)
+  measured_room = rw (to_is s el er ez)
       (place_low before' n u (to_total (p' + k') c' (m' - k')) (to_total p' b' k') (to_total p' a m') left_part (walks.chosen_room s.chosen) P M h.room.place)
 
   weighed_room : W * w * y ≤ most
-  weighed_room = rw (by_is s ey)
-      (weight_low W w (by_total p' b' k') (by_total (p' + k') c' (m' - k')) (by_total p' a m') (walks.owned_weighs l) (walks.chosen_tickets s.chosen) h.room.weight)
+  weighed_room = rw (by_is s el er ey)
+      (weight_low W w (by_total p' b' k') (by_total (p' + k') c' (m' - k')) (by_total p' a m') (walks.owned_weighs (left_owned s el er ey ed l)) (walks.chosen_tickets s.chosen) h.room.weight)
 
   weight_room : W * w ≤ most
-  weight_room = omega (arith, weighed_room, at_least (W * w) y (some_right s ey))
+  weight_room = omega (arith, weighed_room, at_least (W * w) y (some_right s el er ey))
 
-  offset_room : O + W * (x % w) < W * w
-  offset_room = offset_low O W (x % w) w h.room.offset (mod-lt x (some_left s ey ed l))
+  offset_room : O + W * ((o * y + v) % w) < W * w
+  offset_room = offset_low O W ((o * y + v) % w) w h.room.offset (mod-lt (o * y + v) (some_left s el er ey ed l))
 
-  pub extends : Extends P M W O before' n u w z x
+  pub extends : Extends P M W O before' n u w z (o * y + v)
   extends =
       let q = s.sought in
       record {
-        inner = rw (to_is s ez)
+        inner = rw (to_is s el er ez)
             (omega (
               arith,
               inner_low before' n u (to_total (p' + k') c' (m' - k')) (to_total p' b' k') (to_total p' a m') left_part (walks.chosen_room s.chosen),
@@ -489,31 +499,31 @@ module _
         measured_fits = λ i. omega (arith, measured_room, at_least (M * u) z i);
         weight_fits = weight_room;
         offset_fits = omega (arith, offset_room, weight_room);
-        some = some_left s ey ed l;
+        some = some_left s el er ey ed l;
       }
 
   -- then the right half is sought
-  module _ {P' M' W' O' t : ℕ} (e : ExtendedAs P M W O before' n u w z x P' M' W' O') (et : t ≡ x / w) where
-    right_room : Room rules choice measure c' (p' + k') (m' - k') P' M' W' O'
+  module _ {P' M' W' O' t : ℕ} (e : ExtendedAs P M W O before' n u w z (o * y + v) P' M' W' O') (et : t ≡ (o * y + v) / w) where
+    right_room : Room rules choice measure rc rp rm P' M' W' O'
     right_room =
         record {
-          place = rw (e.place_is, e.measured_is, ← to_is s ez) (omega (arith, measured_room, scaled_times M u z z (omega arith)));
-          weight = rw (e.weight_is, ← by_is s ey) weighed_room;
+          place = rw (er.0, er.1, er.2, e.place_is, e.measured_is, ← to_is s el er ez) (omega (arith, measured_room, scaled_times M u z z (omega arith)));
+          weight = rw (er.0, er.1, er.2, e.weight_is, ← by_is s el er ey) weighed_room;
           offset = rw (e.offset_is, e.weight_is) offset_room;
         }
 
-    right_found : {words' : List ℕ} {n' u' w' o' : ℕ} → OwnedAs (ruled rules) (weight_by rules choice) (weight_by rules measure) c' (p' + k') (m' - k') t words' n' u' w' o'
+    right_found : {words' : List ℕ} {n' u' w' o' : ℕ} → OwnedAs (ruled rules) (weight_by rules choice) (weight_by rules measure) rc rp rm t words' n' u' w' o'
         → HalvesFoundAs rules choice measure p m b c k before rest ((done ++ words) ++ words') (P' + M' * n') (M' * u') (W' * w') (O' + W' * o')
     right_found {words'} {n'} {u'} {w'} {o'} r =
-        let low : n' + u' ≤ z = rw (to_is s ez) (omega (arith, place_inside r.owns, r.measure_is, total_sum (ruled rules) (weight_by rules measure) (p' + k') c' (m' - k'))) in
+        let low : n' + u' ≤ z = rw (to_is s el er ez, ← er.0, ← er.1, ← er.2) (omega (arith, place_inside r.owns, r.measure_is, total_sum (ruled rules) (weight_by rules measure) rp rc rm)) in
         let ep : P' + M' * n' ≡ P + M * (before' + n * z + u * n') = rw (e.place_is, e.measured_is) (omega (arith, scaled_times M u z n' (omega arith))) in
         let em : M' * u' ≡ M * (u * u') = rw e.measured_is (omega (arith, scaled_times M u z u' (omega arith))) in
         let ew : W' * w' ≡ W * (w * w') = rw e.weight_is (omega arith) in
-        let eo : O' + W' * o' ≡ O + W * (o' * w + x % w) = rw (e.offset_is, e.weight_is) (omega arith) in
-        rw (append_assoc done words words', ep, em, ew, eo) (h.found (halves_found s ey ed l ex et r ez))
+        let eo : O' + W' * o' ≡ O + W * (o' * w + (o * y + v) % w) = rw (e.offset_is, e.weight_is) (omega arith) in
+        rw (append_assoc done words words', ep, em, ew, eo) (h.found (halves_found s el er ey ed l over et r ez))
 
-    pub behind : Behind rules totals choice measure p m b c k before rest (done ++ words) c' (p' + k') (m' - k') t P' M' W' O'
-    behind = record { sought = right_sought s ey ed l ex et; room = right_room; found = right_found }
+    pub behind : Behind rules totals choice measure p m b c k before rest (done ++ words) rc rp rm t P' M' W' O'
+    behind = record { sought = right_sought s el er ey ed l over et; room = right_room; found = right_found }
 
 -- ---- the right half: a word ends the walk, halves of its own are the next
 

@@ -3,21 +3,34 @@ ghost use Rattle.std.specs.Prelude.{◌≡◌, ◌<◌, length};
 ghost use Rattle.charts.specs.Inner.Letters.{letter_at};
 ghost use Rattle.walk.specs.Inner.Steps.{HasWord, WordPlacedAs, WordSought, PickedAs, LeafAs};
 
-use crate::Found;
+use crate::nodes::Node;
+use crate::{Found, Tables};
 use charts::maps::LETTERS;
 use counting::letters;
 use counting::letters::{ANY, WEIGHED};
 use grammar::rules;
 use grammar::rules::{NEXT_WORD, WITH_WORD, WORD_OWNER};
 
-// A word, its place by the measure, what it measures and what it weighs, and the ticket's offset in it.
+// A word, and what is found of it.
 #[derive(Clone, Copy)]
 pub struct Picked {
     pub word: u8,
-    pub place: u64,
-    pub measured: u64,
-    pub weight: u64,
-    pub offset: u64,
+    pub found: Found,
+}
+
+// A word that weighs 1: it has one ticket.
+fn one_ticket(word: u8, place: u64, measured: u64) -> Picked
+    ensures { (result.word ≡ word) × (result.found.place ≡ place) × (result.found.measured ≡ measured) × (result.found.weight ≡ 1) × (result.found.offset ≡ 0) }
+{
+    Picked {
+        word,
+        found: Found {
+            place,
+            measured,
+            weight: 1,
+            offset: 0,
+        },
+    }
 }
 
 // The place of the word x among the words of a, which has it: along the links of x.
@@ -32,10 +45,11 @@ fn place_of(rules: &[[u8; 256]], x: usize, a: usize) -> usize
     l - 1
 }
 
-// The words of a one after another.
+// The words of a one after another, up to the one that owns the ticket.
+// Stays: a `for` over the words would want an answer past the last one, where no ticket leads.
 fn scan(rules: &[[u8; 256]], by: u16, to: u16, a: usize, ticket: u64) -> Picked
     requires { WordSought rules.now by to a ticket }
-    ensures { PickedAs rules.now by to a ticket result.word result.place result.measured result.weight result.offset }
+    ensures { PickedAs rules.now by to a ticket result.word result.found.place result.found.measured result.found.weight result.found.offset }
 {
     let mut i = rules::words_from(rules, a);
     let mut rest = ticket;
@@ -47,10 +61,12 @@ fn scan(rules: &[[u8; 256]], by: u16, to: u16, a: usize, ticket: u64) -> Picked
         if rest < weight {
             return Picked {
                 word,
-                place,
-                measured,
-                weight,
-                offset: rest,
+                found: Found {
+                    place,
+                    measured,
+                    weight,
+                    offset: rest,
+                },
             };
         }
         rest -= weight;
@@ -62,65 +78,45 @@ fn scan(rules: &[[u8; 256]], by: u16, to: u16, a: usize, ticket: u64) -> Picked
 // The word that owns the ticket. Where the measure counts each word once there is no scan, nor where one word is asked for and the weights measure.
 fn pick(rules: &[[u8; 256]], by: u16, to: u16, a: usize, ticket: u64) -> Picked
     requires { WordSought rules.now by to a ticket }
-    ensures { PickedAs rules.now by to a ticket result.word result.place result.measured result.weight result.offset }
+    ensures { PickedAs rules.now by to a ticket result.word result.found.place result.found.measured result.found.weight result.found.offset }
 {
-    if to == ANY {
-        let from = rules::words_from(rules, a);
-        if by == ANY {
-            return Picked {
-                word: rules::word_at(rules, from + ticket as usize),
-                place: ticket,
-                measured: 1,
-                weight: 1,
-                offset: 0,
-            };
+    match (by, to) {
+        (ANY, ANY) => {
+            let i = rules::words_from(rules, a) + ticket as usize;
+            one_ticket(rules::word_at(rules, i), ticket, 1)
         }
-        if by < ANY {
+        (0..=255, ANY) => {
             let i = place_of(rules, by as usize, a);
-            return Picked {
-                word: by as u8,
-                place: (i - from) as u64,
-                measured: 1,
-                weight: 1,
-                offset: 0,
-            };
+            let from = rules::words_from(rules, a);
+            one_ticket(by as u8, (i - from) as u64, 1)
         }
-    }
-    if by < ANY {
-        if to == WEIGHED {
+        (0..=255, WEIGHED) => {
             let i = place_of(rules, by as usize, a);
             let word = by as u8;
-            return Picked {
+            one_ticket(
                 word,
-                place: letters::before(rules, i),
-                measured: letters::weight(rules, to, word),
-                weight: 1,
-                offset: 0,
-            };
+                letters::before(rules, i),
+                letters::weight(rules, to, word),
+            )
         }
+        _ => scan(rules, by, to, a, ticket),
     }
-    scan(rules, by, to, a, ticket)
 }
 
-// The same with the letters at the position p, the word written.
-pub fn leaf(
-    rules: &[[u8; 256]],
-    choice: &[[u16; 16]; 17],
-    measure: &[[u16; 16]; 17],
-    a: usize,
-    p: usize,
-    ticket: u64,
-    out: &mut [u8],
-) -> Found
-    requires { WordSought rules.now (letter_at choice.now p) (letter_at measure.now p) a ticket × (p < 16) × (length out.old ≡ 1) }
-    ensures { LeafAs rules.now (letter_at choice.now p) (letter_at measure.now p) a ticket out.new result.place result.measured result.weight result.offset }
-{
-    let w = pick(rules, choice[LETTERS][p], measure[LETTERS][p], a, ticket);
-    out[0] = w.word;
-    Found {
-        place: w.place,
-        measured: w.measured,
-        weight: w.weight,
-        offset: w.offset,
+impl<'a> Tables<'a> {
+    // The same with the letters at the position of a node of one word, the word written.
+    pub fn leaf(&self, node: Node, ticket: u64, out: &mut [u8]) -> Found
+        requires { WordSought self.now.rules.now (letter_at self.now.choice.now node.p) (letter_at self.now.measure.now node.p) node.a ticket × (node.p < 16) × (length out.old ≡ 1) }
+        ensures { LeafAs self.now.rules.now (letter_at self.now.choice.now node.p) (letter_at self.now.measure.now node.p) node.a ticket out.new result.place result.measured result.weight result.offset }
+    {
+        let w = pick(
+            self.rules,
+            self.choice[LETTERS][node.p],
+            self.measure[LETTERS][node.p],
+            node.a,
+            ticket,
+        );
+        out[0] = w.word;
+        w.found
     }
 }

@@ -11,13 +11,21 @@ ghost use Rattle.charts.specs.Inner.Letters.{weight_by};
 ghost use Rattle.walk.specs.Inner.Sought.{Sought};
 ghost use Rattle.walk.specs.Inner.Steps.{HalvesSought, HalvesFoundAs, scaled, Extends, ExtendedAs};
 
-use crate::leaf::leaf;
-use crate::nodes::{Node, total};
-use crate::pairs::{Pick, choose_rule};
+use crate::nodes::Node;
+use crate::pairs::Pick;
 
 pub mod leaf;
 pub mod nodes;
 pub mod pairs;
+
+// What every step of the walk reads: the rules, the totals, and the maps of what chooses and of what measures.
+#[derive(Clone, Copy)]
+pub struct Tables<'a> {
+    pub rules: &'a [[u8; 256]],
+    pub totals: &'a [[u64; 32]],
+    pub choice: &'a [[u16; 16]; 17],
+    pub measure: &'a [[u16; 16]; 17],
+}
 
 // What is found: its place by the measure, what it measures and what it weighs, and the ticket's offset in it.
 #[derive(Clone, Copy)]
@@ -28,7 +36,7 @@ pub struct Found {
     pub offset: u64,
 }
 
-// What a ticket is divided by most often is 1, and a division takes long.
+// Stays: a division is what takes long here, and what a ticket is divided by most often is 1.
 fn quotient(x: u64, y: u64) -> u64
     requires { 0 < y }
     ensures { result ≡ x / y }
@@ -36,52 +44,12 @@ fn quotient(x: u64, y: u64) -> u64
     if y == 1 { x } else { x / y }
 }
 
+// Stays: as `quotient`; the edit left_passed_twice is of its test.
 fn remainder(x: u64, y: u64) -> u64
     requires { 0 < y }
     ensures { result ≡ x % y }
 {
     if y == 1 { 0 } else { x % y }
-}
-
-// The rule chooser: of the derivations of a node the one that owns the ticket, its sentence written to `out`.
-#[cycle(choose_halves_left_half)]
-pub fn choose(
-    rules: &[[u8; 256]],
-    totals: &[[u64; 32]],
-    choice: &[[u16; 16]; 17],
-    measure: &[[u16; 16]; 17],
-    node: Node,
-    ticket: u64,
-    out: &mut [u8],
-) -> Found
-    requires { Sought rules.now totals.now choice.now measure.now node.a node.p node.m ticket × (length out.old ≡ node.m) }
-    ensures { OwnedAs (ruled rules.now) (weight_by rules.now choice.now) (weight_by rules.now measure.now) node.a node.p node.m ticket out.new result.place result.measured result.weight result.offset }
-{
-    if node.m == 1 {
-        return leaf(rules, choice, measure, node.a, node.p, ticket, out);
-    }
-    let pick = choose_rule(rules, totals, choice, measure, node, ticket);
-    halves(rules, totals, choice, measure, node, pick, out)
-}
-
-// The same of a left half, which most often is a single word: then there is no further call.
-#[cycle(choose_halves_left_half)]
-fn left_half(
-    rules: &[[u8; 256]],
-    totals: &[[u64; 32]],
-    choice: &[[u16; 16]; 17],
-    measure: &[[u16; 16]; 17],
-    node: Node,
-    ticket: u64,
-    out: &mut [u8],
-) -> Found
-    requires { Sought rules.now totals.now choice.now measure.now node.a node.p node.m ticket × (length out.old ≡ node.m) }
-    ensures { OwnedAs (ruled rules.now) (weight_by rules.now choice.now) (weight_by rules.now measure.now) node.a node.p node.m ticket out.new result.place result.measured result.weight result.offset }
-{
-    if node.m == 1 {
-        return leaf(rules, choice, measure, node.a, node.p, ticket, out);
-    }
-    choose(rules, totals, choice, measure, node, ticket, out)
 }
 
 // a times b, or 0 where nothing is measured after it: such a product counts for nothing, and need not fit.
@@ -92,85 +60,82 @@ fn times(a: u64, b: u64, after: u64) -> u64
     if after == 0 { 0 } else { a * b }
 }
 
-// One part more behind those found so far: `before` stands before it, `after` is what follows it in all by the measure, x is what is left of the
-// ticket.
-fn extend(found: Found, before: u64, part: Found, after: u64, x: u64) -> Found
-    requires { Extends found.place found.measured found.weight found.offset before part.place part.measured part.weight after x }
-    ensures { ExtendedAs found.place found.measured found.weight found.offset before part.place part.measured part.weight after x result.place result.measured result.weight result.offset }
-{
-    Found {
-        place: found.place + found.measured * (before + part.place * after),
-        measured: times(found.measured, part.measured, after),
-        weight: found.weight * part.weight,
-        offset: found.offset + found.weight * remainder(x, part.weight),
+impl Found {
+    // One part more behind those found so far: `before` stands before it, `after` is what follows it in all by the measure, x is what is left of the
+    // ticket.
+    fn extend(self, before: u64, part: Found, after: u64, x: u64) -> Found
+        requires { Extends self.place self.measured self.weight self.offset before part.place part.measured part.weight after x }
+        ensures { ExtendedAs self.place self.measured self.weight self.offset before part.place part.measured part.weight after x result.place result.measured result.weight result.offset }
+    {
+        Found {
+            place: self.place + self.measured * (before + part.place * after),
+            measured: times(self.measured, part.measured, after),
+            weight: self.weight * part.weight,
+            offset: self.offset + self.weight * remainder(x, part.weight),
+        }
     }
 }
 
-// The halves writer: the left half by the quotient, the right one by what is left of the ticket, over what the left one weighs. A right half
-// of more than one word has halves in turn: they are written here too, so that a walk to the right is a loop.
-#[cycle(choose_halves_left_half)]
-fn halves(
-    rules: &[[u8; 256]],
-    totals: &[[u64; 32]],
-    choice: &[[u16; 16]; 17],
-    measure: &[[u16; 16]; 17],
-    node: Node,
-    pick: Pick,
-    out: &mut [u8],
-) -> Found
-    requires { HalvesSought rules.now totals.now choice.now measure.now node.a node.p node.m pick.b pick.c pick.k pick.before pick.rest × (length out.old ≡ node.m) }
-    ensures { HalvesFoundAs rules.now choice.now measure.now node.p node.m pick.b pick.c pick.k pick.before pick.rest out.new result.place result.measured result.weight result.offset }
-{
-    let mut here = node;
-    let mut chosen = pick;
-    let mut at = 0;
-    let mut found = Found {
-        place: 0,
-        measured: 1,
-        weight: 1,
-        offset: 0,
-    };
-    loop {
-        let k = chosen.k;
-        let end = at + k;
-        let left = Node {
-            a: chosen.b,
-            p: here.p,
-            m: k,
-        };
-        let right = Node {
-            a: chosen.c,
-            p: here.p + k,
-            m: here.m - k,
-        };
-        let v = total(totals, choice, right);
-        let u = total(totals, measure, right);
-        let l = left_half(
-            rules,
-            totals,
-            choice,
-            measure,
-            left,
-            quotient(chosen.rest, v),
-            &mut out[at..end],
-        );
-        let x = l.offset * v + remainder(chosen.rest, v);
-        let ticket = quotient(x, l.weight);
-        found = extend(found, chosen.before, l, u, x);
-        here = right;
-        at = end;
-        if here.m == 1 {
-            let f = leaf(
-                rules,
-                choice,
-                measure,
-                here.a,
-                here.p,
-                ticket,
-                &mut out[at..],
-            );
-            return extend(found, 0, f, 1, f.offset);
+impl<'a> Tables<'a> {
+    // The rule chooser: of the derivations of a node the one that owns the ticket, its sentence written to `out`.
+    #[cycle(choose_halves_left_half)]
+    pub fn choose(&self, node: Node, ticket: u64, out: &mut [u8]) -> Found
+        requires { Sought self.now.rules.now self.now.totals.now self.now.choice.now self.now.measure.now node.a node.p node.m ticket × (length out.old ≡ node.m) }
+        ensures { OwnedAs (ruled self.now.rules.now) (weight_by self.now.rules.now self.now.choice.now) (weight_by self.now.rules.now self.now.measure.now) node.a node.p node.m ticket out.new result.place result.measured result.weight result.offset }
+    {
+        if node.m == 1 {
+            return self.leaf(node, ticket, out);
         }
-        chosen = choose_rule(rules, totals, choice, measure, here, ticket);
+        let pick = self.choose_rule(node, ticket);
+        self.halves(node, pick, out)
+    }
+
+    // The same of a left half.
+    // Stays: most left halves are a single word, found without a further call; with `choose` in its place the walk was slower.
+    #[cycle(choose_halves_left_half)]
+    fn left_half(&self, node: Node, ticket: u64, out: &mut [u8]) -> Found
+        requires { Sought self.now.rules.now self.now.totals.now self.now.choice.now self.now.measure.now node.a node.p node.m ticket × (length out.old ≡ node.m) }
+        ensures { OwnedAs (ruled self.now.rules.now) (weight_by self.now.rules.now self.now.choice.now) (weight_by self.now.rules.now self.now.measure.now) node.a node.p node.m ticket out.new result.place result.measured result.weight result.offset }
+    {
+        if node.m == 1 {
+            return self.leaf(node, ticket, out);
+        }
+        self.choose(node, ticket, out)
+    }
+
+    // The halves writer: the left half by the quotient, the right one by what is left of the ticket, over what the left one weighs. A right half
+    // of more than one word has halves in turn: they are written here too, so that a walk to the right is a loop.
+    #[cycle(choose_halves_left_half)]
+    fn halves(&self, node: Node, pick: Pick, out: &mut [u8]) -> Found
+        requires { HalvesSought self.now.rules.now self.now.totals.now self.now.choice.now self.now.measure.now node.a node.p node.m pick.b pick.c pick.k pick.before pick.rest × (length out.old ≡ node.m) }
+        ensures { HalvesFoundAs self.now.rules.now self.now.choice.now self.now.measure.now node.p node.m pick.b pick.c pick.k pick.before pick.rest out.new result.place result.measured result.weight result.offset }
+    {
+        let mut here = node;
+        let mut chosen = pick;
+        let mut at = 0;
+        let mut found = Found {
+            place: 0,
+            measured: 1,
+            weight: 1,
+            offset: 0,
+        };
+        loop {
+            let end = at + chosen.k;
+            let left = here.left(chosen.b, chosen.k);
+            let right = here.right(chosen.c, chosen.k);
+            let v = right.total(self.totals, self.choice);
+            let u = right.total(self.totals, self.measure);
+            let l = self.left_half(left, quotient(chosen.rest, v), &mut out[at..end]);
+            let x = l.offset * v + remainder(chosen.rest, v);
+            let ticket = quotient(x, l.weight);
+            found = found.extend(chosen.before, l, u, x);
+            here = right;
+            at = end;
+            if here.m == 1 {
+                let f = self.leaf(here, ticket, &mut out[at..]);
+                return found.extend(0, f, 1, f.offset);
+            }
+            chosen = self.choose_rule(here, ticket);
+        }
     }
 }

@@ -3,12 +3,13 @@
 -- apply; where one doesn't, or the weights are bad, the counts alone tell whether it does.
 -- Assumes nothing.
 use mathlib.Core.Path.{◌≡◌, refl, sym, ap, ◌∙◌}
-use mathlib.Core.Bool.{Bool, true, false, not, false≢true}
+use mathlib.Core.Bool.{Bool, true, false, not}
 use mathlib.Core.List.{List, [], ◌∷◌, ◌++◌, append_assoc}
 use Prim.Native.Nat.{ℕ, ◌≤◌, ◌<◌}
 use native.Mathlib.Omega.{arith}
 use lib.ListN.{length, get_or}
 use borrow.Author.Tests.{not-true, not-false, lt-ltb, le-ltb}
+use Rattle.std.specs.Prelude.{Result, Ok, Err, ⊤}
 use Rattle.lists.specs.Inner.Tables.{entry, Wide}
 use Rattle.lists.proofs.Tests.{both_ways}
 use Rattle.answers.specs.Answer.{Row, first_that_applies}
@@ -29,8 +30,6 @@ use Rattle.counting.specs.Refusals.{overflows, too_large, open_rows}
 use Rattle.counting.specs.Inner.Letters.{weighed, by_letter}
 use Rattle.counting.specs.Inner.Filling.{EachCounts, Beside, BesideAs, Filling, FilledAs}
 use Rattle.counting.specs.Inner.Preparing.{Opened, OpenedAs}
-use Rattle.counting.specs.declared.prepare.Prepared.{Prepared}
-use Rattle.counting.specs.declared.prepare.Prepared.TheVariants.{Ready, Refused}
 use Rattle.counting.proofs.Needed.{overflows_needed}
 use Rattle.counting.proofs.Totals.{total_within}
 use Rattle.counting.proofs.Tabled.{tabled_overflows, tabled_large}
@@ -71,7 +70,7 @@ overflows_same rules v u S n same =
 
 -- ---- the tables, once 1 to 9 are passed
 
-module _ {g : List ℕ} {n : ℕ} {rules₀ rules totals₀ : List (List ℕ)} {p : Prepared} (l : Lent rules₀ totals₀) (o : OpenedAs g n rules₀ rules p) (e : p ≡ Ready) where
+module _ {g : List ℕ} {n : ℕ} {rules₀ rules totals₀ : List (List ℕ)} {p : Result ⊤ Refusal} (l : Lent rules₀ totals₀) (o : OpenedAs g n rules₀ rules p) (e : p ≡ Ok tt) where
   none_opened : first_that_applies (open_rows g n) ≡ 0
   none_opened = sym o.refusal ∙ rw e
 
@@ -116,27 +115,19 @@ module _ {g : List ℕ} {n : ℕ} {rules₀ rules totals₀ : List (List ℕ)} {
 
 -- ---- the lines behind 9
 
--- 24 and 25, where one of them applies
-last_applies : (bad heavy : Bool) → (bad ≡ false → heavy ≡ true) → first_that_applies ((bad, 24) ∷ (heavy, 25) ∷ []) ≡ first_that_applies ((bad, 24) ∷ (true, 25) ∷ [])
-unfolding first_that_applies
-last_applies true heavy h = refl
-last_applies false heavy h = rw (h refl)
+-- what the test of the weights says, by the grammar's words
+pub bad_told : (weights : List ℕ) {told bad : Bool} {W W' : ℕ} → told ≡ bad_weights W weights → W ≡ W' → told ≡ bad → bad_weights W' weights ≡ bad
+bad_told weights says words_are e = rw words_are at (sym says ∙ e)
 
 -- what the counts alone tell
-module _ {rules before after : List (List ℕ)} {n : ℕ} {fits : Bool} (bad : Bool) (f : FilledAs rules (λ w. 1) n before after fits) where
-  pub told_large : fits ≡ false → 10 ≡ first_that_applies (last_rows rules n bad)
+module _ {rules before after : List (List ℕ)} {n : ℕ} {fits : Bool} (known : ℕ) (f : FilledAs rules (λ w. 1) n before after fits) where
+  pub told_large : fits ≡ false → 10 ≡ first_that_applies (last_rows rules n known)
   told_large z = sym (row_applies 10 _ (not-false _ (sym f.says ∙ z)))
 
-  told_few : fits ≡ true → first_that_applies (last_rows rules n bad) ≡ first_that_applies ((bad, 24) ∷ (true, 25) ∷ [])
-  told_few z = row_passed 10 _ (not-true _ (sym f.says ∙ z))
+  pub told_known : fits ≡ true → known ≡ first_that_applies (last_rows rules n known)
+  told_known z = sym (row_passed 10 _ (not-true _ (sym f.says ∙ z)) ∙ row_applies known [] refl)
 
-  pub told_bad : fits ≡ true → bad ≡ true → 24 ≡ first_that_applies (last_rows rules n bad)
-  told_bad z b = sym (told_few z ∙ row_applies 24 ((true, 25) ∷ []) b)
-
-  pub told_heavy : fits ≡ true → bad ≡ false → 25 ≡ first_that_applies (last_rows rules n bad)
-  told_heavy z b = sym (told_few z ∙ row_passed 24 ((true, 25) ∷ []) b ∙ row_applies 25 [] refl)
-
-module _ {g : List ℕ} {n : ℕ} (v : ℕ) (weights : List ℕ) {rules₀ rules totals₀ : List (List ℕ)} {p : Prepared} (l : Lent rules₀ totals₀) (o : OpenedAs g n rules₀ rules p) where
+module _ {g : List ℕ} {n : ℕ} (v : ℕ) (weights : List ℕ) {rules₀ rules totals₀ : List (List ℕ)} {p : Result ⊤ Refusal} (l : Lent rules₀ totals₀) (o : OpenedAs g n rules₀ rules p) where
   abbrev weight_rows : List Row
   weight_rows = (bad_weights (words g) weights, 24) ∷ (too_heavy g n weights, 25) ∷ []
 
@@ -147,19 +138,19 @@ module _ {g : List ℕ} {n : ℕ} (v : ℕ) (weights : List ℕ) {rules₀ rules
   rows_are = append_assoc (open_rows g n) ((bad_voice v, 22) ∷ (too_large g n, 10) ∷ (bad_pattern (words g) [], 21) ∷ []) weight_rows
 
   weigh_refused : {rules' totals : List (List ℕ)} {r : Refusal} → length totals ≡ length totals₀ → first_that_applies (weighed_rows g n v weights) ≡ refusal_number r
-      → WeighedAs g n v weights rules' totals₀ totals (Refused r)
+      → WeighedAs g n v weights rules' totals₀ totals (Err r)
   weigh_refused size e = record { refusal = sym e; ready = λ z. absurd (refused_ready z); size = size }
 
-  pub weigh_unopened : {r : Refusal} → p ≡ Refused r → WeighedAs g n v weights rules totals₀ totals₀ (Refused r)
+  pub weigh_unopened : {r : Refusal} → p ≡ Err r → WeighedAs g n v weights rules totals₀ totals₀ (Err r)
   weigh_unopened {r} e =
       let k : first_that_applies (open_rows g n) ≡ refusal_number r = sym o.refusal ∙ rw e in
       weigh_refused refl (ap first_that_applies rows_are ∙ rows_stop (open_rows g n) later (omega (arith, number_some r)) ∙ k)
 
-  module _ (e : p ≡ Ready) where
+  module _ (e : p ≡ Ok tt) where
     past_opening : first_that_applies (weighed_rows g n v weights) ≡ first_that_applies later
     past_opening = ap first_that_applies rows_are ∙ rows_pass (open_rows g n) later refl (none_opened l o e)
 
-    pub weigh_voice : 15 < v → WeighedAs g n v weights rules totals₀ totals₀ (Refused BadVoice)
+    pub weigh_voice : 15 < v → WeighedAs g n v weights rules totals₀ totals₀ (Err BadVoice)
     weigh_voice h = weigh_refused refl (past_opening ∙ row_applies 22 _ (lt-ltb 15 v h))
 
     module _ (voiced : v ≤ 15) where
@@ -170,17 +161,16 @@ module _ {g : List ℕ} {n : ℕ} (v : ℕ) (weights : List ℕ) {rules₀ rules
           past_opening ∙ row_passed 22 _ (le-ltb 15 v voiced)
           ∙ rows_tail ((too_large g n, 10) ∷ []) ((bad_pattern (words g) [], 21) ∷ weight_rows) weight_rows (row_passed 21 weight_rows refl)
 
-      -- 10, or else 24 or 25, by any table that holds the rules
-      refused_last : {rules' totals : List (List ℕ)} {r : Refusal} (bad : Bool) → Holds g rules' → bad ≡ bad_weights (words g) weights → (bad ≡ false → too_heavy g n weights ≡ true)
-          → length totals ≡ length totals₀ → refusal_number r ≡ first_that_applies (last_rows rules' n bad) → WeighedAs g n v weights rules' totals₀ totals (Refused r)
-      refused_last bad holds b heavy size k =
-          let rest : List Row = (bad, 24) ∷ (true, 25) ∷ [] in
-          let same : first_that_applies weight_rows ≡ first_that_applies rest = rw (← b) (last_applies bad (too_heavy g n weights) heavy) in
-          weigh_refused size (past_voice ∙ rows_tail ((too_large g n, 10) ∷ []) weight_rows rest same ∙ sym (rw (← tabled_large holds n) at k))
+      -- 10, or else the one of 24 and 25 that applies, by any table that holds the rules
+      refused_last : {rules' totals : List (List ℕ)} {r : Refusal} (known : ℕ) → Holds g rules' → first_that_applies weight_rows ≡ known
+          → length totals ≡ length totals₀ → refusal_number r ≡ first_that_applies (last_rows rules' n known) → WeighedAs g n v weights rules' totals₀ totals (Err r)
+      refused_last known holds applies size k =
+          let same : first_that_applies weight_rows ≡ first_that_applies ((true, known) ∷ []) = applies ∙ sym (row_applies known [] refl) in
+          weigh_refused size (past_voice ∙ rows_tail ((too_large g n, 10) ∷ []) weight_rows ((true, known) ∷ []) same ∙ sym (rw (← tabled_large holds n) at k))
 
-      pub weigh_bad : {r : Refusal} → bad_weights (words g) weights ≡ true → refusal_number r ≡ first_that_applies (last_rows rules n true)
-          → WeighedAs g n v weights rules totals₀ totals₀ (Refused r)
-      weigh_bad z k = refused_last true (o.ready e).holds (sym z) (λ y. absurd (false≢true (sym y))) refl k
+      pub weigh_bad : {r : Refusal} → bad_weights (words g) weights ≡ true → refusal_number r ≡ first_that_applies (last_rows rules n 24)
+          → WeighedAs g n v weights rules totals₀ totals₀ (Err r)
+      weigh_bad z k = refused_last 24 (o.ready e).holds (row_applies 24 _ z) refl k
 
       module _ (good : bad_weights (words g) weights ≡ false) {set : List (List ℕ)} (s : SetAs weights rules set) {totals : List (List ℕ)} {fits : Bool}
           (t : BesideAs set weighed weights_row (λ u b t. FilledAs set u n b t) totals₀ totals fits) where
@@ -196,10 +186,12 @@ module _ {g : List ℕ} {n : ℕ} (v : ℕ) (weights : List ℕ) {rules₀ rules
             (overflows_same (ruled set) (λ p w. by_letter set weighed w) (λ p w. weight_of weights w) (start_in set) n (λ p w. set_all s w)
             ∙ sym (tabled_overflows holds (λ p w. weight_of weights w) n))
 
-        pub weigh_heavy : {r : Refusal} → fits ≡ false → refusal_number r ≡ first_that_applies (last_rows set n false) → WeighedAs g n v weights set totals₀ totals (Refused r)
-        weigh_heavy z k = refused_last false holds (sym good) (λ y. not-false (too_heavy g n weights) (sym fits_says ∙ z)) (tally_size l t) k
+        pub weigh_heavy : {r : Refusal} → fits ≡ false → refusal_number r ≡ first_that_applies (last_rows set n 25) → WeighedAs g n v weights set totals₀ totals (Err r)
+        weigh_heavy z k =
+            let heavy = not-false (too_heavy g n weights) (sym fits_says ∙ z) in
+            refused_last 25 holds (row_passed 24 ((too_heavy g n weights, 25) ∷ []) good ∙ row_applies 25 [] heavy) (tally_size l t) k
 
-        pub weigh_ready : fits ≡ true → WeighedAs g n v weights set totals₀ totals Ready
+        pub weigh_ready : fits ≡ true → WeighedAs g n v weights set totals₀ totals (Ok tt)
         unfolding first_that_applies
         weigh_ready z =
             let light = not-true (too_heavy g n weights) (sym fits_says ∙ z) in

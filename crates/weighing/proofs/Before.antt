@@ -1,9 +1,9 @@
 -- What the words before each word weigh, place after place: at the places below i it is there, and the sum so far is what the words of a before i weigh. No
 -- place lies with two nonterminals.
 -- Assumes nothing.
-use mathlib.Core.Path.{◌≡◌, refl, sym, ap, ◌∙◌}
+use mathlib.Core.Path.{◌≡◌, sym, ap, ◌∙◌}
 use mathlib.Core.List.{List, [], ◌∷◌}
-use Prim.Native.Nat.{ℕ, suc, ◌+◌, ◌*◌, ◌-◌, ◌/◌, ◌%◌, ◌≤◌, ◌<◌}
+use Prim.Native.Nat.{ℕ, suc, ◌+◌, ◌*◌, ◌-◌, ◌≤◌, ◌<◌}
 use native.Mathlib.Omega.{arith}
 use native.Mathlib.Decide.{ℕ_discrete}
 use lib.ListN.{length, get_or, set, take, length-set}
@@ -20,34 +20,34 @@ use Rattle.weighing.specs.Inner.Tables.{SumsUp, SummedUpAs}
 
 -- ---- a number in two bytes
 
-abbrev noted : (rules : List (List ℕ)) (i x : ℕ) → List (List ℕ)
-noted rules i x = put (put rules 14 i (x % 256)) 15 i (x / 256)
+abbrev noted : (rules : List (List ℕ)) (i low high : ℕ) → List (List ℕ)
+noted rules i low high = put (put rules 14 i low) 15 i high
 
-module _ {rules : List (List ℕ)} (long : 16 ≤ length rules) (wide : Wide rules 256) (i x : ℕ) where
+module _ {rules : List (List ℕ)} (long : 16 ≤ length rules) (wide : Wide rules 256) (i low high : ℕ) where
   -- the low byte first
-  abbrev low : List (List ℕ)
-  low = put rules 14 i (x % 256)
+  abbrev half : List (List ℕ)
+  half = put rules 14 i low
 
-  low_long : 15 < length low
-  low_long = omega (arith, length-set rules 14 (set (get_or rules 14 []) i (x % 256)))
+  half_long : 15 < length half
+  half_long = omega (arith, length-set rules 14 (set (get_or rules 14 []) i low))
 
-  noted_here : i < 256 → before_at (noted rules i x) i ≡ x
+  noted_here : i < 256 → before_at (noted rules i low high) i ≡ low + 256 * high
   noted_here h =
       omega (
         arith,
-        put_other_row low 15 i (x / 256) 14 i (λ e. omega arith),
-        put_same rules 14 i (x % 256) (omega arith) (omega (arith, wide.row 14 (omega arith))),
-        put_same low 15 i (x / 256) low_long (omega (arith, (wide_put rules 256 14 i (x % 256) wide).row 15 low_long)),
+        put_other_row half 15 i high 14 i (λ e. omega arith),
+        put_same rules 14 i low (omega arith) (omega (arith, wide.row 14 (omega arith))),
+        put_same half 15 i high half_long (omega (arith, (wide_put rules 256 14 i low wide).row 15 half_long)),
       )
 
-  noted_beside : (k : ℕ) → (k ≡ i → ⊥) → before_at (noted rules i x) k ≡ before_at rules k
+  noted_beside : (k : ℕ) → (k ≡ i → ⊥) → before_at (noted rules i low high) k ≡ before_at rules k
   noted_beside k n =
       omega (
         arith,
-        put_other_row low 15 i (x / 256) 14 k (λ e. omega arith),
-        put_beside rules 14 i (x % 256) k (omega arith) n,
-        put_beside low 15 i (x / 256) k low_long n,
-        put_other_row rules 14 i (x % 256) 15 k (λ e. omega arith),
+        put_other_row half 15 i high 14 k (λ e. omega arith),
+        put_beside rules 14 i low k (omega arith) n,
+        put_beside half 15 i high k half_long n,
+        put_other_row rules 14 i low 15 k (λ e. omega arith),
       )
 
 -- ---- place after place
@@ -69,28 +69,16 @@ module _ {before : List (List ℕ)} (s : SumsUp before) where
   word_to : (b j : ℕ) → b < count_in before → j < length (words_in before b) → word_from before b + j < word_from before (b + 1)
   word_to b j l h = omega (arith, word_count_lem before b)
 
-  pub summing_start : SummingUp before before 0 0 0
-  summing_start = record {
-    low = omega arith;
-    from = omega (arith, s.table.word_first);
-    to = λ l. omega arith;
-    light = omega arith;
-    so_far = rw s.table.word_first refl;
-    here = λ b j l h u. absurd (omega arith);
-    long = refl;
-    wide = s.table.wide;
-    others = λ r x y. refl;
-  }
-
   module _ {now : List (List ℕ)} {a i sum : ℕ} (w : SummingUp before now a i sum) where
     same : (r k : ℕ) → r < 14 → entry now r k ≡ entry before r k
     same r k h = ap (λ (l : List ℕ). get_or l k 0) (w.others r (λ e. omega arith) (λ e. omega arith))
 
-    pub summing_long : 16 ≤ length now
+    summing_long : 16 ≤ length now
     summing_long = omega (arith, w.long, s.long)
 
-    pub summing_room : 15 < length (put now 14 i (sum % 256))
-    summing_room = low_long summing_long w.wide i sum
+    -- where each nonterminal's words begin is as before
+    pub summing_from : (b : ℕ) → word_from now b ≡ word_from before b
+    summing_from b = same 3 b (omega arith)
 
     pub summing_end : count_in before ≤ a → SummedUpAs before now
     summing_end h =
@@ -107,30 +95,10 @@ module _ {before : List (List ℕ)} (s : SumsUp before) where
       pub summing_low : i ≤ 255
       summing_low = omega (arith, w.to l, s.table.word_low (a + 1) (omega arith))
 
-      -- past the last word of a
-      pub summing_past : i ≡ word_from now (a + 1) → SummingUp before now (a + 1) i 0
-      summing_past e =
-          let z : i ≡ word_from before (a + 1) = e ∙ same 3 (a + 1) (omega arith) in
-          let none : i - word_from before (a + 1) ≡ 0 = omega arith in
-          record {
-            low = omega arith;
-            from = omega arith;
-            to = λ k. omega (arith, s.table.word_rises (a + 1) k);
-            light = omega arith;
-            so_far = rw none refl;
-            here = w.here;
-            long = w.long;
-            wide = w.wide;
-            others = w.others;
-          }
-
       -- at one
-      module _ (n : i ≡ word_from now (a + 1) → ⊥) {x y : ℕ} (word_is : x ≡ word_at now i) (weight_is : y ≡ by_letter now weighed x) (small : y ≤ 255) where
+      module _ (inside : i < word_from before (a + 1)) {x y : ℕ} (word_is : x ≡ word_at now i) (weight_is : y ≡ by_letter now weighed x) (small : y ≤ 255) where
         abbrev j : ℕ
         j = i - word_from before a
-
-        inside : i < word_from before (a + 1)
-        inside = omega (arith, w.to l, same 3 (a + 1) (omega arith))
 
         j_low : j < length (words_in before a)
         j_low = omega (arith, inside, w.from, word_count_lem before a)
@@ -151,34 +119,37 @@ module _ {before : List (List ℕ)} (s : SumsUp before) where
               sum_append (entry before 13) (take j (words_in before a)) (get_or (words_in before a) j 0 ∷ []),
             )
 
-        -- the sum so far stands at i, and i is no other's
-        here_too : (b k : ℕ) → b < count_in before → k < length (words_in before b) → word_from before b + k < i + 1
-            → before_at (noted now i sum) (word_from before b + k) ≡ sum_over (entry before 13) (take k (words_in before b))
-        here_too b k m h u =
-            elim (ℕ_discrete (word_from before b + k) i) [
-              | yes e ↦
-                  let q : a ≡ b = one_holder (word_from before) s.table.word_rises l m w.from inside (omega arith) (omega (arith, word_to b k m h)) in
-                  let z : j ≡ k = omega (arith, ap (word_from before) q) in
-                  ap (before_at (noted now i sum)) e
-                  ∙ noted_here summing_long w.wide i sum (omega (arith, summing_low))
-                  ∙ w.so_far
-                  ∙ ap (λ c. sum_over (entry before 13) (take c (words_in before a))) z
-                  ∙ ap (λ c. sum_over (entry before 13) (take k (words_in before c))) q
-              | no e ↦ noted_beside summing_long w.wide i sum (word_from before b + k) e ∙ w.here b k m h (omega arith)
-            ]
+        -- in two bytes
+        module _ (low high : ℕ) (bytes : low + 256 * high ≡ sum) where
+          -- the sum so far stands at i, and i is no other's
+          here_too : (b k : ℕ) → b < count_in before → k < length (words_in before b) → word_from before b + k < i + 1
+              → before_at (noted now i low high) (word_from before b + k) ≡ sum_over (entry before 13) (take k (words_in before b))
+          here_too b k m h u =
+              elim (ℕ_discrete (word_from before b + k) i) [
+                | yes e ↦
+                    let q : a ≡ b = one_holder (word_from before) s.table.word_rises l m w.from inside (omega arith) (omega (arith, word_to b k m h)) in
+                    let z : j ≡ k = omega (arith, ap (word_from before) q) in
+                    ap (before_at (noted now i low high)) e
+                    ∙ noted_here summing_long w.wide i low high (omega (arith, summing_low))
+                    ∙ bytes
+                    ∙ w.so_far
+                    ∙ ap (λ c. sum_over (entry before 13) (take c (words_in before a))) z
+                    ∙ ap (λ c. sum_over (entry before 13) (take k (words_in before c))) q
+                | no e ↦ noted_beside summing_long w.wide i low high (word_from before b + k) e ∙ w.here b k m h (omega arith)
+              ]
 
-        pub summing_word : SummingUp before (noted now i sum) a (i + 1) (sum + y)
-        summing_word =
-            let t = put now 14 i (sum % 256) in
-            let next : suc j ≡ i + 1 - word_from before a = omega (arith, w.from) in
-            record {
-              low = w.low;
-              from = omega (arith, w.from);
-              to = λ m. omega (arith, inside);
-              light = omega (arith, w.light);
-              so_far = rw next at more;
-              here = here_too;
-              long = length-set t 15 (set (get_or t 15 []) i (sum / 256)) ∙ length-set now 14 (set (get_or now 14 []) i (sum % 256)) ∙ w.long;
-              wide = wide_put t 256 15 i (sum / 256) (wide_put now 256 14 i (sum % 256) w.wide);
-              others = λ r p q. put_row t 15 i (sum / 256) r q ∙ put_row now 14 i (sum % 256) r p ∙ w.others r p q;
-            }
+          pub summing_word : SummingUp before (noted now i low high) a (i + 1) (sum + y)
+          summing_word =
+              let t = put now 14 i low in
+              let next : suc j ≡ i + 1 - word_from before a = omega (arith, w.from) in
+              record {
+                low = w.low;
+                from = omega (arith, w.from);
+                to = λ m. omega (arith, inside);
+                light = omega (arith, w.light);
+                so_far = rw next at more;
+                here = here_too;
+                long = length-set t 15 (set (get_or t 15 []) i high) ∙ length-set now 14 (set (get_or now 14 []) i low) ∙ w.long;
+                wide = wide_put t 256 15 i high (wide_put now 256 14 i low w.wide);
+                others = λ r p q. put_row t 15 i high r q ∙ put_row now 14 i low r p ∙ w.others r p q;
+              }

@@ -10,6 +10,8 @@ use native.Mathlib.Omega.{arith}
 use borrow.Author.Tests.{le-leb, lt-ltb}
 use lib.Dec.{ltb}
 use lib.ListN.{length, get_or, drop}
+use Rattle.answers.specs.declared.refusal.Refusal.{Refusal}
+use Rattle.std.specs.Prelude.{Result, Ok}
 use Rattle.lists.specs.Joined.{◌∈◌}
 use Rattle.lists.specs.Inner.Tables.{entry, Wide}
 use Rattle.grammar.specs.Layout.{start}
@@ -42,13 +44,11 @@ use Rattle.history.specs.Refusals.{Accepted}
 use Rattle.sampling.specs.Question.{plainly}
 use Rattle.sampling.specs.Inner.Collect.{beginning, ending, Collects}
 use Rattle.sampling.specs.Inner.Preparing.{NumbersBy}
-use Rattle.sampling.specs.declared.prepare.Sampled.{Sampled}
-use Rattle.sampling.specs.declared.prepare.Sampled.TheVariants.{Ready}
 use Rattle.sampling.proofs.Readying.{held_same, hold_same, full_same}
 use Rattle.sampling.proofs.Answering.{none_heard, fitted_recorded}
 use Rattle.weighing.specs.Weights.{weight_of, weighs}
 use Rattle.weighing.specs.Inner.Tables.{Weighed, SumsUp, SummedUpAs}
-use Rattle.weighing.specs.Inner.Preparing.{behind_weights, FirstsSought, FirstsAs, RecordsAs}
+use Rattle.weighing.specs.Inner.Preparing.{behind_weights, FirstsSought, FirstsAs, RecordsSought, RecordsAs}
 use Rattle.weighing.proofs.Weighing.{left_weighty, derived_some}
 
 -- ---- the map of the totals by weight
@@ -123,7 +123,7 @@ module _ {g : List ℕ} {n : ℕ} {weights : List ℕ} {rules totals : List (Lis
 
   -- a history without records has nothing heard
   pub firsts_none : (h : List ℕ) (v : ℕ) {numbers ends : List ℕ} → Accepted h → records_of h ≡ 0
-      → RecordsAs rules h n v weights rules totals numbers ends (Ready 0)
+      → RecordsAs rules h n v weights rules totals numbers ends (Ok 0)
   firsts_none h v {numbers} {ends} ok none = record {
     recorded = fitted_recorded rules h (plainly n v) ok
         (record {
@@ -162,6 +162,11 @@ module _ {g : List ℕ} {n : ℕ} {weights : List ℕ} {rules totals : List (Lis
     }
 
 -- ---- the collecting
+
+-- an accepted history with records has what collecting asks
+pub firsts_sought : {g : List ℕ} {n : ℕ} {weights : List ℕ} {rules totals : List (List ℕ)} {h numbers ends : List ℕ} → RecordsSought g n weights rules totals h numbers ends
+    → Accepted h → 1 ≤ records_of h → FirstsSought g n weights rules totals h numbers ends
+firsts_sought s d some = record { weighed = s.weighed; diary = d; room = s.room d; ends_room = s.ends_room d; charts = s.charts d some }
 
 module _ {g : List ℕ} {n : ℕ} {weights : List ℕ} {rules totals : List (List ℕ)} {h numbers ends : List ℕ} (s : FirstsSought g n weights rules totals h numbers ends) where
   abbrev w : Weighed g n weights rules totals
@@ -234,7 +239,7 @@ module _ {g : List ℕ} {n : ℕ} {weights : List ℕ} {rules totals : List (Lis
           }
 
       -- what is collected by the linked rules is what the rules and the weights say
-      pub firsts_heard : {v : ℕ} {totals' : List (List ℕ)} {numbers' ends' : List ℕ} {x : Sampled} → length ends' ≡ length ends
+      pub firsts_heard : {v : ℕ} {totals' : List (List ℕ)} {numbers' ends' : List ℕ} {x : Result ℕ Refusal} → length ends' ≡ length ends
           → NumbersBy after plan weights_map h n v totals' numbers' ends' x → FirstsAs rules h n v weights after totals' numbers' ends' x
       firsts_heard {v} {numbers' = numbers'} {ends'} {x = x} size q = record {
         heard = record {

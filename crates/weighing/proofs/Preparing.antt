@@ -8,6 +8,7 @@ use Prim.Native.Nat.{ℕ, zero, suc, ◌-◌, ◌≤◌, ◌<◌}
 use native.Mathlib.Omega.{arith}
 use lib.ListN.{length, get_or, take, replicate, length-map, length-replicate}
 use lib.Seq.{get_or-take, length-take-le}
+use Rattle.std.specs.Prelude.{Result, Ok, Err, ⊤}
 use Rattle.lists.specs.Joined.{sum_over}
 use Rattle.lists.specs.Inner.Tickets.{gone}
 use Rattle.answers.specs.Answer.{Row, first_that_applies, refused}
@@ -16,8 +17,6 @@ use Rattle.answers.specs.declared.refusal.Refusal.{Refusal}
 use Rattle.answers.proofs.Numbers.{number_some}
 use Rattle.grammar.specs.Inner.Rules as grammar
 use Rattle.counting.specs.Refusals.{most}
-use Rattle.counting.specs.declared.prepare.Prepared.{Prepared}
-use Rattle.counting.specs.declared.prepare.Prepared.TheVariants as tables
 use Rattle.charts.specs.Inner.Maps.{weights_map}
 use Rattle.history.specs.Layout.{records_of}
 use Rattle.history.specs.Refusals.{Accepted}
@@ -28,9 +27,7 @@ use Rattle.sampling.specs.Inner.Skipping.{heard_spans, Told}
 use Rattle.sampling.specs.Inner.Collect.{beginning, ending, spans_by}
 use Rattle.sampling.specs.Inner.Drawing.{spans_in, DrawSought, draw_skipping}
 use Rattle.sampling.specs.Inner.Preparing.{Ended, RecordedBy, DrawableBy, SampledBy}
-use Rattle.sampling.specs.declared.prepare.Sampled.{Sampled}
-use Rattle.sampling.specs.declared.prepare.Sampled.TheVariants.{Ready, Refused}
-use Rattle.sampling.proofs.Answering.{refused_unready, heard_spans_lem, weigh_low, unprepared, recorded_prepared, prepared_case, parts_low, room_all, room_short}
+use Rattle.sampling.proofs.Answering.{refused_unready, heard_spans_lem, weigh_low, unprepared, recorded_prepared, prepared_case, parts_low}
 use Rattle.sampling.specs.Unheard.{unheard}
 use Rattle.sampling.proofs.Listed.{draw_from, ticket_list, spans_told, drawn_listed}
 use Rattle.charts.proofs.Placing as charts
@@ -39,39 +36,49 @@ use Rattle.weighing.specs.Weights.{weighs, tickets_of}
 use Rattle.weighing.specs.Weighted.{weighed_rows, weighted_rows, draw_weighted}
 use Rattle.weighing.specs.Inner.Tables.{WeighedAs}
 use Rattle.weighing.specs.Inner.Sums.{SumsSought, SummedAs}
-use Rattle.weighing.specs.Inner.Preparing.{Rooms, Cleared, Called, PreparedAs}
+use Rattle.weighing.specs.Inner.Preparing.{RoomFor, RowsFor, Called, PreparedAs, Room, RecordsSought}
 use Rattle.weighing.proofs.Laws.{drawn_from, drawn_refused}
 use Rattle.weighing.proofs.Told.{summed_spans, summed_told}
 
 -- ---- the refusals up to 15
 
-module _ {g h : List ℕ} {n v : ℕ} {weights : List ℕ} {rules₀ totals₀ totals : List (List ℕ)} {p : Prepared} (k : WeighedAs g n v weights rules₀ totals₀ totals p) where
-  pub prepared_unweighed : {rules' totals' : List (List ℕ)} {numbers sums : List ℕ} {r : Refusal} → p ≡ tables.Refused r → (Accepted h → records_of h ≤ length numbers)
-      → PreparedAs g h n v weights rules' totals' numbers sums (Refused r)
+module _ {g h : List ℕ} {n v : ℕ} {weights : List ℕ} {rules₀ totals₀ totals : List (List ℕ)} {p : Result ⊤ Refusal} (k : WeighedAs g n v weights rules₀ totals₀ totals p) where
+  pub prepared_unweighed : {rules' totals' : List (List ℕ)} {numbers sums : List ℕ} {r : Refusal} → p ≡ Err r → (Accepted h → records_of h ≤ length numbers)
+      → PreparedAs g h n v weights rules' totals' numbers sums (Err r)
   prepared_unweighed {r = r} e room = record {
     sampled = unprepared g h (plainly n v) (weighs weights) (weighed_rows g n v weights) r (sym (sym k.refusal ∙ rw e)) room;
     told = λ i z. absurd (refused_unready z);
   }
 
-  module _ (e : p ≡ tables.Ready) where
-    pub prepared_sampled : {rules' totals' : List (List ℕ)} {numbers : List ℕ} {s : Sampled} → (Accepted h → records_of h ≤ length numbers)
+  module _ (e : p ≡ Ok tt) where
+    pub records_sought : {numbers sums : List ℕ} → Room n h totals₀ numbers sums → RecordsSought g n weights rules₀ totals h numbers sums
+    records_sought r =
+        let q = k.ready e in
+        record {
+          weighed = q;
+          room = r.numbers_room;
+          ends_room = r.sums_room;
+          charts = λ d some. omega (arith, r.charts d some q.tabled.counted.short, k.size);
+        }
+
+    pub prepared_sampled : {rules' totals' : List (List ℕ)} {numbers : List ℕ} {s : Result ℕ Refusal} → (Accepted h → records_of h ≤ length numbers)
         → RecordedBy rules₀ h (plainly n v) (weighs weights) rules' totals' weights_map numbers s
         → SampledBy g h (plainly n v) (weighs weights) (weighed_rows g n v weights) rules' totals' weights_map numbers s
     prepared_sampled room q =
         recorded_prepared g h (plainly n v) (weighs weights) (weighed_rows g n v weights) refl (sym k.refusal ∙ rw e) (k.ready e).tabled.holds room q
 
-pub prepared_unready : {g h : List ℕ} {n v : ℕ} {weights : List ℕ} {rules totals : List (List ℕ)} {numbers sums : List ℕ} {s : Sampled} {r : Refusal}
-    → SampledBy g h (plainly n v) (weighs weights) (weighed_rows g n v weights) rules totals weights_map numbers s → s ≡ Refused r
-    → PreparedAs g h n v weights rules totals numbers sums (Refused r)
+pub prepared_unready : {g h : List ℕ} {n v : ℕ} {weights : List ℕ} {rules totals : List (List ℕ)} {numbers sums : List ℕ} {s : Result ℕ Refusal} {r : Refusal}
+    → SampledBy g h (plainly n v) (weighs weights) (weighed_rows g n v weights) rules totals weights_map numbers s → s ≡ Err r
+    → PreparedAs g h n v weights rules totals numbers sums (Err r)
 prepared_unready q e = record { sampled = rw e at q; told = λ i z. absurd (refused_unready z) }
 
-pub prepared_ready : {g h : List ℕ} {n v : ℕ} {weights : List ℕ} {rules totals : List (List ℕ)} {numbers sums : List ℕ} {s : Sampled} {k : ℕ}
-    → SampledBy g h (plainly n v) (weighs weights) (weighed_rows g n v weights) rules totals weights_map numbers s → s ≡ Ready k
+pub prepared_ready : {g h : List ℕ} {n v : ℕ} {weights : List ℕ} {rules totals : List (List ℕ)} {numbers sums : List ℕ} {s : Result ℕ Refusal} {k : ℕ}
+    → SampledBy g h (plainly n v) (weighs weights) (weighed_rows g n v weights) rules totals weights_map numbers s → s ≡ Ok k
     → ((k ≤ length sums) × Told (take k numbers) (take k sums) × (heard_spans (take k numbers) (take k sums) ≡ spans_by g h n v (weighs weights)))
-    → PreparedAs g h n v weights rules totals numbers sums (Ready k)
+    → PreparedAs g h n v weights rules totals numbers sums (Ok k)
 prepared_ready q e t = record { sampled = rw e at q; told = λ i z. let same = ready_same z in rw (← same) t }
   where
-    ready_same : {i k : ℕ} → Ready k ≡ Ready i → k ≡ i
+    ready_same : {i k : ℕ} → ◌≡◌ {A = Result ℕ Refusal} (Ok k) (Ok i) → k ≡ i
     ready_same z = cc
 
 -- ---- the sums
@@ -128,14 +135,14 @@ list_weighted : (g h : List ℕ) (n v : ℕ) (weights : List ℕ) → ticket_lis
 unfolding tickets_of unheard
 list_weighted g h n v weights = refl
 
-module _ {g h : List ℕ} {n v : ℕ} {weights : List ℕ} {rules totals : List (List ℕ)} {numbers sums : List ℕ} {s : Sampled}
+module _ {g h : List ℕ} {n v : ℕ} {weights : List ℕ} {rules totals : List (List ℕ)} {numbers sums : List ℕ} {s : Result ℕ Refusal}
     (p : PreparedAs g h n v weights rules totals numbers sums s) where
-  pub drawn_unready : {r : Refusal} → s ≡ Refused r → (t : ℕ) (out : List ℕ) → refused (refusal_number r) 2 out ≡ draw_weighted g h n v weights t out
+  pub drawn_unready : {r : Refusal} → s ≡ Err r → (t : ℕ) (out : List ℕ) → refused (refusal_number r) 2 out ≡ draw_weighted g h n v weights t out
   drawn_unready {r} e t out =
       let k : refusal_number r ≡ first_that_applies (weighted_rows g h n v weights) = prepared_case p.sampled e in
       ap (λ (i : ℕ). refused i 2 out) k ∙ sym (drawn_refused g h n v weights t out (omega (arith, number_some r)))
 
-  module _ {k : ℕ} (e : s ≡ Ready k) where
+  module _ {k : ℕ} (e : s ≡ Ok k) where
     pub drawable : DrawableBy g h (plainly n v) (weighs weights) (weighed_rows g n v weights) rules totals weights_map numbers k
     drawable = prepared_case p.sampled e
 
@@ -167,51 +174,47 @@ module _ {g h : List ℕ} {n v : ℕ} {weights : List ℕ} {rules totals : List 
 
 -- ---- the tables that a call makes
 
-pub call_made : {n : ℕ} {h : List ℕ} {totals : List (List ℕ)} {numbers sums : List ℕ} → Rooms n h totals numbers sums
-    → Called n h (replicate 16 (replicate 256 0)) totals numbers sums
-call_made r = record {
-  lent = record { rules_long = omega arith; rules_wide = wide_made 16 256 0; unruled = made_entry 16 256; long = r.long; wide = r.wide; zeros = r.zeros };
-  room = r.room;
-}
-
--- 1,000 places serve every history, 100 those of at most 2,004 bytes, and one those of fewer than 24, which have no record
-module _ (n : ℕ) (h : List ℕ) {totals : List (List ℕ)} (c : Cleared n totals) where
-  rooms_of : {numbers sums : List ℕ} → (Accepted h → records_of h ≤ length numbers) → (Accepted h → records_of h ≤ length sums) → Rooms n h totals numbers sums
-  rooms_of a b = record { long = c.long; wide = c.wide; zeros = c.zeros; room = record { numbers_room = a; sums_room = b; charts = λ d some l. c.charts l } }
-
-  pub rooms_all : Rooms n h totals (replicate 1000 0) (replicate 1000 0)
-  rooms_all = rooms_of (room_all h) (room_all h)
-
-  pub rooms_few : length h ≤ 2004 → Rooms n h totals (replicate 100 0) (replicate 100 0)
-  rooms_few l = rooms_of (room_short h l) (room_short h l)
-
-pub rooms_none : (n : ℕ) (h : List ℕ) → length h < 24 → Rooms n h (replicate 35 (replicate 32 0)) (replicate 1 0) (replicate 1 0)
-rooms_none n h l =
-    let none : (d : Accepted h) → records_of h < 1 = λ d. omega (arith, (known h d).sized.size) in
+-- of zeros, by their sizes
+pub call_made : {n : ℕ} {h : List ℕ} {rows places : ℕ} → RoomFor n h rows places
+    → Called n h (replicate 16 (replicate 256 0)) (replicate rows (replicate 32 0)) (replicate places 0) (replicate places 0)
+call_made {rows = rows} {places} r =
+    let many = length-replicate rows (replicate 32 zero) in
+    let size = length-replicate places zero in
     record {
-      long = omega (arith, length-replicate 35 (replicate 32 zero));
-      wide = wide_made 35 32 0;
-      zeros = made_entry 35 32;
+      lent = record {
+        rules_long = omega arith;
+        rules_wide = wide_made 16 256 0;
+        unruled = made_entry 16 256;
+        long = omega (arith, many, r.long);
+        wide = wide_made rows 32 0;
+        zeros = made_entry rows 32;
+      };
       room = record {
-        numbers_room = λ d. omega (arith, none d);
-        sums_room = λ d. omega (arith, none d);
-        charts = λ d some s. absurd (omega (arith, none d));
+        numbers_room = λ d. omega (arith, size, r.room d);
+        sums_room = λ d. omega (arith, size, r.room d);
+        charts = λ d some l. omega (arith, many, r.charts d some l);
       };
     }
 
--- behind the totals by weight, room for the chart of five positions, and of sixteen
-pub cleared_short : (n : ℕ) → n ≤ 5 → Cleared n (replicate 50 (replicate 32 0))
-cleared_short n h = record {
-  long = omega (arith, length-replicate 50 (replicate 32 zero));
-  wide = wide_made 50 32 0;
-  zeros = made_entry 50 32;
-  charts = λ l. omega (arith, charts.room_short n h, length-replicate 50 (replicate 32 zero));
-}
+-- 1,000 places serve every history, 100 those of at most 2,004 bytes, and one those of fewer than 24, which have no record
+module _ {n : ℕ} (h : List ℕ) {rows : ℕ} (c : RowsFor n rows) where
+  room_of : {places : ℕ} → (Accepted h → records_of h ≤ places) → places ≤ 1000 → RoomFor n h rows places
+  room_of room small = record { long = c.long; charts = λ d some l. c.charts l; few = c.few; room = room; small = small }
 
-pub cleared_long : (n : ℕ) → Cleared n (replicate 171 (replicate 32 0))
-cleared_long n = record {
-  long = omega (arith, length-replicate 171 (replicate 32 zero));
-  wide = wide_made 171 32 0;
-  zeros = made_entry 171 32;
-  charts = λ l. omega (arith, charts.room_low n l, length-replicate 171 (replicate 32 zero));
-}
+  pub room_for_all : RoomFor n h rows 1000
+  room_for_all = room_of (λ d. (known h d).sized.few) (omega arith)
+
+  pub room_for_short : length h ≤ 2004 → RoomFor n h rows 100
+  room_for_short l = room_of (λ d. omega (arith, (known h d).sized.size)) (omega arith)
+
+pub room_for_none : (n : ℕ) (h : List ℕ) → length h < 24 → RoomFor n h 35 1
+room_for_none n h l =
+    let none : (d : Accepted h) → records_of h < 1 = λ d. omega (arith, (known h d).sized.size) in
+    record { long = omega arith; charts = λ d some s. absurd (omega (arith, none d)); few = omega arith; room = λ d. omega (arith, none d); small = omega arith }
+
+-- behind the totals by weight, room for the chart of five positions, and of sixteen
+pub rows_short : (n : ℕ) → n ≤ 5 → RowsFor n 50
+rows_short n h = record { long = omega arith; charts = λ l. omega (arith, charts.room_short n h); few = omega arith }
+
+pub rows_long : (n : ℕ) → RowsFor n 171
+rows_long n = record { long = omega arith; charts = λ l. omega (arith, charts.room_low n l); few = omega arith }

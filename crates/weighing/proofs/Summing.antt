@@ -1,6 +1,6 @@
 -- The sums of the heard derivations' weights, one after another: the sum so far is what those passed weigh together, and the ends to come are as they were.
 -- Assumes nothing.
-use mathlib.Core.Path.{◌≡◌, refl, sym, ap, ◌∙◌}
+use mathlib.Core.Path.{◌≡◌, sym, ap, ◌∙◌}
 use mathlib.Core.List.{List, [], ◌∷◌}
 use Prim.Native.Nat.{ℕ, suc, ◌+◌, ◌-◌, ◌≤◌, ◌<◌}
 use native.Mathlib.Omega.{arith}
@@ -14,7 +14,7 @@ use Rattle.lists.proofs.Sums.{sum_append}
 use Rattle.lists.proofs.Places.{get_d_map}
 use Rattle.counting.specs.Refusals.{most}
 use Rattle.sampling.specs.Inner.Collect.{beginning, ending}
-use Rattle.weighing.specs.Inner.Sums.{SumsSought, SummedTo, SummedAs}
+use Rattle.weighing.specs.Inner.Sums.{SumsSought, SummedTo}
 
 pub record Summing (l : List (ℕ × ℕ)) (before sums : List ℕ) (i sum : ℕ) : Type 0 where
   pub low : i ≤ length l
@@ -24,9 +24,6 @@ pub record Summing (l : List (ℕ × ℕ)) (before sums : List ℕ) (i sum : ℕ
 module _ {l : List (ℕ × ℕ)} {firsts before : List ℕ} (s : SumsSought l firsts before) where
   pub many : length firsts ≡ length l
   many = ap length s.firsts_are ∙ length-map l beginning
-
-  pub summing_start : Summing l before before 0 0
-  summing_start = record { low = omega arith; so_far = refl; summed = record { long = refl; each = λ i h. absurd (omega arith); rest = λ i h. refl } }
 
   module _ {sums : List ℕ} {i sum : ℕ} (w : Summing l before sums i sum) (low : i < length firsts) where
     listed : i < length l
@@ -85,6 +82,3 @@ module _ {l : List (ℕ × ℕ)} {firsts before : List ℕ} (s : SumsSought l fi
             rest = λ j h. get_or-set_other sums i j x 0 (λ e. omega arith) ∙ w.summed.rest j (omega arith);
           };
         })
-
-  pub summing_end : {sums : List ℕ} {i sum : ℕ} → Summing l before sums i sum → length firsts ≤ i → SummedAs l before sums
-  summing_end {i = i} w h = let e : i ≡ length l = omega (arith, w.low, many) in rw e at w.summed

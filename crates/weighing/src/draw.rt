@@ -2,95 +2,78 @@
 ghost use Rattle.std.specs.Prelude.{◌≡◌};
 ghost use Rattle.sampling.specs.Inner.Says.{draw_says};
 ghost use Rattle.weighing.specs.Weighted.{draw_weighted};
-ghost use Rattle.weighing.specs.Inner.Preparing.{Rooms, Cleared};
+ghost use Rattle.weighing.specs.Inner.Preparing.{RoomFor, RowsFor};
 
 use crate::prepare;
+use answers::refusal::Refusal;
 use charts::maps;
 use sampling::draw;
-use sampling::draw::DrawAnswer;
-use sampling::prepare::Sampled;
+use sampling::draw::Drawn;
 use sampling::question::Question;
-use sampling::skip::DrawNumber;
+use sampling::skip::{DrawNumber, Heard};
+use walk::Tables;
 
-// With room for the totals, the first tickets and the sums.
-fn draw_in(
+// With `ROWS` rows for the totals, and with room for the first tickets of `N` heard derivations and for their sums.
+fn draw_in<const ROWS: usize, const N: usize>(
     g: &[u8],
     h: &[u8],
     question: Question,
     weights: &[u8],
     ticket: DrawNumber,
-    totals: &mut [[u64; 32]],
-    numbers: &mut [u64],
-    sums: &mut [u64],
     out: &mut [u8],
-) -> DrawAnswer
-    requires { Rooms question.length h.now totals.old numbers.old sums.old }
+) -> Result<Drawn, Refusal>
+    requires { RoomFor question.length h.now ROWS N }
     ensures { draw_says result out.new ≡ draw_weighted g.now h.now question.length question.voice weights.now ticket.0 out.old }
 {
-    let byte_row = [0u8; 256];
-    let mut rules = [byte_row; 16];
-    let p = prepare::prepare(g, h, question, weights, &mut rules, totals, numbers, sums);
-    match p {
-        Sampled::Refused(r) => DrawAnswer::Refused(r),
-        Sampled::Ready(k) => {
-            let choice = maps::BY_WEIGHT;
-            let counts = maps::EVERYWHERE;
-            draw::draw_from(
-                &rules,
-                totals,
-                &choice,
-                &counts,
-                question.length as usize,
-                &numbers[0..k],
-                &sums[0..k],
-                ticket,
-                out,
-            )
-        }
-    }
-}
-
-// With room for the totals: 2,004 bytes of history have 100 records at most.
-fn draw_by(
-    g: &[u8],
-    h: &[u8],
-    question: Question,
-    weights: &[u8],
-    ticket: DrawNumber,
-    totals: &mut [[u64; 32]],
-    out: &mut [u8],
-) -> DrawAnswer
-    requires { Cleared question.length totals.old }
-    ensures { draw_says result out.new ≡ draw_weighted g.now h.now question.length question.voice weights.now ticket.0 out.old }
-{
-    if h.len() <= 2004 {
-        let mut numbers = [0u64; 100];
-        let mut sums = [0u64; 100];
-        return draw_in(
-            g,
-            h,
-            question,
-            weights,
-            ticket,
-            totals,
-            &mut numbers,
-            &mut sums,
-            out,
-        );
-    }
-    let mut numbers = [0u64; 1000];
-    let mut sums = [0u64; 1000];
-    draw_in(
+    let mut rules = [[0u8; 256]; 16];
+    let mut totals = [[0u64; 32]; ROWS];
+    let mut numbers = [0u64; N];
+    let mut sums = [0u64; N];
+    let k = prepare::prepare(
         g,
         h,
         question,
         weights,
-        ticket,
-        totals,
+        &mut rules,
+        &mut totals,
         &mut numbers,
         &mut sums,
-        out,
-    )
+    )?;
+    // As slices, of which a part can be lent.
+    let numbers = &numbers[..];
+    let sums = &sums[..];
+    let choice = maps::BY_WEIGHT;
+    let counts = maps::EVERYWHERE;
+    let tables = Tables {
+        rules: &rules,
+        totals: &totals,
+        choice: &choice,
+        measure: &counts,
+    };
+    let heard = Heard {
+        firsts: &numbers[0..k],
+        sums: &sums[0..k],
+    };
+    draw::draw_from(tables, question.length as usize, heard, ticket, out)
+}
+
+// With `ROWS` rows for the totals: 2,004 bytes of history have 100 records at most.
+fn draw_by<const ROWS: usize>(
+    g: &[u8],
+    h: &[u8],
+    question: Question,
+    weights: &[u8],
+    ticket: DrawNumber,
+    out: &mut [u8],
+) -> Result<Drawn, Refusal>
+    requires { RowsFor question.length ROWS }
+    ensures { draw_says result out.new ≡ draw_weighted g.now h.now question.length question.voice weights.now ticket.0 out.old }
+{
+    if h.len() <= 2004 {
+        draw_in::<ROWS, 100>(g, h, question, weights, ticket, out)
+    } else {
+        draw_in::<ROWS, 1000>(g, h, question, weights, ticket, out)
+    }
 }
 
 // Behind the totals by weight, which end at row 35, a chart of up to five words takes 15 rows, of sixteen 136. A history of fewer than 24 bytes has no
@@ -102,30 +85,14 @@ pub fn draw_weighted(
     weights: &[u8],
     ticket: DrawNumber,
     out: &mut [u8],
-) -> DrawAnswer
+) -> Result<Drawn, Refusal>
     ensures { draw_says result out.new ≡ draw_weighted g.now h.now question.length question.voice weights.now ticket.0 out.old }
 {
-    let row = [0u64; 32];
     if h.len() < 24 {
-        let mut totals = [row; 35];
-        let mut numbers = [0u64; 1];
-        let mut sums = [0u64; 1];
-        return draw_in(
-            g,
-            h,
-            question,
-            weights,
-            ticket,
-            &mut totals,
-            &mut numbers,
-            &mut sums,
-            out,
-        );
+        draw_in::<35, 1>(g, h, question, weights, ticket, out)
+    } else if question.length <= 5 {
+        draw_by::<50>(g, h, question, weights, ticket, out)
+    } else {
+        draw_by::<171>(g, h, question, weights, ticket, out)
     }
-    if question.length <= 5 {
-        let mut totals = [row; 50];
-        return draw_by(g, h, question, weights, ticket, &mut totals, out);
-    }
-    let mut totals = [row; 171];
-    draw_by(g, h, question, weights, ticket, &mut totals, out)
 }

@@ -11,29 +11,23 @@ use answers::refusal::Refusal;
 use charts::maps::BEHIND_WEIGHTS;
 use charts::{maps, plan, ready};
 use counting::letters::{ANY, WEIGHED};
-use counting::prepare::Prepared;
 use counting::{prepare as tables, tallies};
 use grammar::fields;
 use history::checks;
-use history::checks::HistoryAnswer;
 use sampling::prepare;
-use sampling::prepare::Sampled;
 use sampling::question::Question;
 
-// 10, 24 or 25: the counts alone tell whether it is 10.
-fn refusal(rules: &[[u8; 256]], n: usize, bad: bool) -> Refusal
+// 10, which the counts alone tell, or else the refusal that is known to apply.
+fn refusal(rules: &[[u8; 256]], n: usize, known: Refusal) -> Refusal
     requires { Ruled rules.now × (1 ≤ n) × (n ≤ 16) }
-    ensures { refusal_number result ≡ first_that_applies (last_rows rules.now n bad) }
+    ensures { refusal_number result ≡ first_that_applies (last_rows rules.now n (refusal_number known)) }
 {
-    let row = [0u64; 32];
-    let mut counts = [row; 17];
-    if !tallies::fill(rules, ANY, n, 0, &mut counts) {
-        return Refusal::TooManyDerivations;
+    let mut counts = [[0u64; 32]; 17];
+    if tallies::fill(rules, ANY, n, 0, &mut counts) {
+        known
+    } else {
+        Refusal::TooManyDerivations
     }
-    if bad {
-        return Refusal::BadWeights;
-    }
-    Refusal::TooManyTickets
 }
 
 // 1 to 9, 22, 10, 24 and 25. No count is above its total weight, so the counts are filled in beside the total weights, and fit where these do.
@@ -43,27 +37,23 @@ fn weigh(
     weights: &[u8],
     rules: &mut [[u8; 256]],
     totals: &mut [[u64; 32]],
-) -> Prepared
+) -> Result<(), Refusal>
     requires { Lent rules.old totals.old }
     ensures { WeighedAs g.now question.length question.voice weights.now rules.new totals.old totals.new result }
 {
-    let opened = tables::open(g, question.length, rules);
-    match opened {
-        Prepared::Refused(r) => return Prepared::Refused(r),
-        Prepared::Ready => {}
-    }
+    tables::open(g, question.length, rules)?;
     if 15 < question.voice {
-        return Prepared::Refused(Refusal::BadVoice);
+        return Err(Refusal::BadVoice);
     }
     let n = question.length as usize;
     if weights::bad(weights, fields::words(g)) {
-        return Prepared::Refused(refusal(rules, n, true));
+        return Err(refusal(rules, n, Refusal::BadWeights));
     }
     weights::set(weights, rules);
-    if tallies::fill(rules, WEIGHED, n, maps::WEIGHTS, totals) {
-        return Prepared::Ready;
+    if !tallies::fill(rules, WEIGHED, n, maps::WEIGHTS, totals) {
+        return Err(refusal(rules, n, Refusal::TooManyTickets));
     }
-    Prepared::Refused(refusal(rules, n, false))
+    Ok(())
 }
 
 // The first tickets of the heard derivations, and where they end: their sentences' charts stand behind the totals by weight, which measure.
@@ -74,15 +64,13 @@ fn first_tickets(
     question: Question,
     numbers: &mut [u64],
     ends: &mut [u64],
-) -> Sampled
+) -> Result<usize, Refusal>
     requires { (g weights : List ℕ) × FirstsSought g question.length weights rules.old totals.old h.now numbers.old ends.old }
     ensures { (g weights : List ℕ) → FirstsSought g question.length weights rules.old totals.old h.now numbers.old ends.old → FirstsAs rules.old h.now question.length question.voice weights rules.new totals.new numbers.new ends.new result }
 {
     weights::sum_up(rules);
-    let set_row = [0u32; 32];
-    let mut plan = [set_row; 4];
-    let map_row = [0u16; 16];
-    let mut map = [map_row; 17];
+    let mut plan = [[0u32; 32]; 4];
+    let mut map = [[0u16; 16]; 17];
     ready::ready(rules, totals, question.length as usize, &mut plan, &mut map);
     plan::rows(&plan, BEHIND_WEIGHTS, &mut map);
     let measure = maps::BY_WEIGHT;
@@ -99,23 +87,19 @@ fn records(
     question: Question,
     numbers: &mut [u64],
     ends: &mut [u64],
-) -> Sampled
+) -> Result<usize, Refusal>
     requires { (g weights : List ℕ) × RecordsSought g question.length weights rules.old totals.old h.now numbers.old ends.old }
     ensures { (g weights : List ℕ) → RecordsSought g question.length weights rules.old totals.old h.now numbers.old ends.old → RecordsAs rules.old h.now question.length question.voice weights rules.new totals.new numbers.new ends.new result }
 {
-    let a = checks::check(h);
-    match a {
-        HistoryAnswer::Refused(r) => Sampled::Refused(r),
-        HistoryAnswer::Given(k) => {
-            if k == 0 {
-                return Sampled::Ready(0);
-            }
-            first_tickets(rules, totals, h, question, numbers, ends)
-        }
+    let k = checks::check(h)?;
+    if k == 0 {
+        return Ok(0);
     }
+    first_tickets(rules, totals, h, question, numbers, ends)
 }
 
 // 1 to 9, 22, 10, 24 and 25, then 11 to 15; then what the heard ones weigh, where it was told where they end.
+// Stays: the clauses, which may not change, speak of the four lent buffers one by one, and there is no heap to make them in.
 pub fn prepare(
     g: &[u8],
     h: &[u8],
@@ -125,21 +109,12 @@ pub fn prepare(
     totals: &mut [[u64; 32]],
     numbers: &mut [u64],
     sums: &mut [u64],
-) -> Sampled
+) -> Result<usize, Refusal>
     requires { Called question.length h.now rules.old totals.old numbers.old sums.old }
     ensures { PreparedAs g.now h.now question.length question.voice weights.now rules.new totals.new numbers.new sums.new result }
 {
-    let p = weigh(g, question, weights, rules, totals);
-    match p {
-        Prepared::Refused(r) => return Sampled::Refused(r),
-        Prepared::Ready => {}
-    }
-    let s = records(rules, totals, h, question, numbers, sums);
-    match s {
-        Sampled::Refused(r) => Sampled::Refused(r),
-        Sampled::Ready(k) => {
-            sums::fill(&numbers[0..k], sums);
-            Sampled::Ready(k)
-        }
-    }
+    weigh(g, question, weights, rules, totals)?;
+    let k = records(rules, totals, h, question, numbers, sums)?;
+    sums::fill(&numbers[0..k], sums);
+    Ok(k)
 }

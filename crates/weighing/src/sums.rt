@@ -8,10 +8,8 @@ pub fn fill(firsts: &[u64], ends: &mut [u64])
     ensures { (l : List (ℕ × ℕ)) → SumsSought l firsts.now ends.old → SummedAs l ends.old ends.new }
 {
     let mut sum: u64 = 0;
-    let mut i = 0;
-    while i < firsts.len() {
-        sum += ends[i] - firsts[i];
+    for (i, first) in firsts.iter().enumerate() {
+        sum += ends[i] - *first;
         ends[i] = sum;
-        i += 1;
     }
 }

@@ -12,17 +12,7 @@ use grammar::rules::{BEFORE_HIGH, BEFORE_LOW, WEIGHTS};
 pub fn bad(weights: &[u8], words: u8) -> bool
     ensures { result ≡ bad_weights words weights.now }
 {
-    if weights.len() != words as usize {
-        return true;
-    }
-    let mut w = 0;
-    while w < weights.len() {
-        if weights[w] == 0 {
-            return true;
-        }
-        w += 1;
-    }
-    false
+    weights.len() != usize::from(words) || weights.contains(&0)
 }
 
 // Into their row, which is all 0.
@@ -30,10 +20,9 @@ pub fn set(weights: &[u8], rules: &mut [[u8; 256]])
     requires { Sets weights.now rules.old }
     ensures { SetAs weights.now rules.old rules.new }
 {
-    let mut w = 0;
-    while w < weights.len() {
-        rules[WEIGHTS][w] = weights[w];
-        w += 1;
+    // Stays: tried with `rules[WEIGHTS][..n].copy_from_slice(weights)`, and the proof did not close: nothing tells what a row becomes whose part is lent.
+    for (w, weight) in weights.iter().enumerate() {
+        rules[WEIGHTS][w] = *weight;
     }
 }
 
@@ -42,21 +31,15 @@ pub fn sum_up(rules: &mut [[u8; 256]])
     requires { SumsUp rules.old }
     ensures { SummedUpAs rules.old rules.new }
 {
-    let count = rules::count(rules);
-    let mut a = 0;
-    let mut i = 0;
-    let mut sum: u64 = 0;
-    while a < count {
-        if i == rules::words_from(rules, a + 1) {
-            a += 1;
-            sum = 0;
-        } else {
+    for a in 0..rules::count(rules) {
+        let mut sum: u16 = 0;
+        for i in rules::words_from(rules, a)..rules::words_from(rules, a + 1) {
             let word = rules::word_at(rules, i);
             let weight = letters::weight(rules, WEIGHED, word);
-            rules[BEFORE_LOW][i] = (sum % 256) as u8;
-            rules[BEFORE_HIGH][i] = (sum / 256) as u8;
-            sum += weight;
-            i += 1;
+            let [low, high] = sum.to_le_bytes();
+            rules[BEFORE_LOW][i] = low;
+            rules[BEFORE_HIGH][i] = high;
+            sum += weight as u16;
         }
     }
 }

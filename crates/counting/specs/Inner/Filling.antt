@@ -1,7 +1,7 @@
 -- What the steps of filling the table of totals ask of each other and promise, by name. Nothing of this is needed to read what *Count*
 -- answers.
 -- Assumes nothing: these are definitions.
-use Rattle.std.specs.Prelude.{◌≡◌, Bool, true, false, not, cond, List, [], ℕ, ◌*◌, ◌-◌, ◌≤◌, ◌<◌, eqb, length, get_or, take, drop}
+use Rattle.std.specs.Prelude.{◌≡◌, Bool, true, false, not, cond, List, [], ℕ, ◌*◌, ◌-◌, ◌≤◌, ◌<◌, eqb, length, get_or, take, drop, replicate, Option, Some, None}
 use Rattle.lists.specs.Joined.{◌∈◌, sum_over, up_from}
 use Rattle.lists.specs.Inner.Tables.{entry, put, Wide, Kept}
 use Rattle.sets.specs.Inner.Sets.{member}
@@ -11,20 +11,16 @@ use Rattle.counting.specs.Refusals.{most, overflows}
 use Rattle.counting.specs.Inner.Counted.{count_at, longest_at, Tallied}
 use Rattle.counting.specs.Inner.Letters.{weighed, by_letter}
 use Rattle.counting.specs.Inner.Needs.{MemberOf, Owners}
-use Rattle.counting.specs.declared.tallies.Tally.{Tally}
-use Rattle.counting.specs.declared.tallies.Tally.TheVariants.{Fits, Over}
-use Rattle.counting.specs.declared.tallies.Both.{Both}
-use Rattle.counting.specs.declared.tallies.Both.TheVariants as both
 
 -- a number, or that it is above 2^64 - 1
-abbrev pub TalliedAs : ℕ → Tally → Type 0
-TalliedAs n (Fits v) = v ≡ n
-TalliedAs n Over = most < n
+abbrev pub TalliedAs : ℕ → Option ℕ → Type 0
+TalliedAs n (Some v) = v ≡ n
+TalliedAs n None = most < n
 
 -- two numbers, the second no more than the first, or that the first is above 2^64 - 1
-abbrev pub BothAs : (n k : ℕ) → Both → Type 0
-BothAs n k (both.Fit v c) = (v ≡ n) × (c ≡ k) × (c ≤ v)
-BothAs n k both.Over = most < n
+abbrev pub BothAs : (n k : ℕ) → Option (ℕ × ℕ) → Type 0
+BothAs n k (Some x) = (x.0 ≡ n) × (x.1 ≡ k) × (x.1 ≤ x.0)
+BothAs n k None = most < n
 
 -- ---- two tables in one
 
@@ -80,9 +76,12 @@ pub record Halves (totals : List (List ℕ)) (B C m to : ℕ) : Type 0 where
   pub left_over : (k : ℕ) → longest_at totals B < k → k < m → count_at totals B k ≡ 0
   pub right_over : (k : ℕ) → longest_at totals C < k → k < m → count_at totals C k ≡ 0
 
--- the same of a second table, whose counts are no more; nor is what was added before
+-- a table whose counts are all 0
+abbrev pub no_counts : List (List ℕ)
+no_counts = replicate 17 []
+
+-- of a second table: its counts are no more; nor is what was added before
 pub record HalvesBeside (totals counts : List (List ℕ)) (B C m before counted : ℕ) : Type 0 where
-  pub halves : Halves totals B C m (m - 1)
   pub long : 17 ≤ length counts
   pub left : (k : ℕ) → 1 ≤ k → k < m → count_at counts B k ≤ count_at totals B k
   pub right : (k : ℕ) → 1 ≤ k → k < m → count_at counts C k ≤ count_at totals C k
@@ -109,11 +108,11 @@ pub record Deriving (rules : List (List ℕ)) (u : ℕ → ℕ) (totals : List (
   pub long : 17 ≤ length totals
   pub halves : HalvesBelow rules u totals m a
 
--- and its count, in a second table
-pub record DerivingBeside (rules : List (List ℕ)) (u : ℕ → ℕ) (totals counts : List (List ℕ)) (m a : ℕ) : Type 0 where
+-- and the total by a weight v that is no greater, in a second table
+pub record DerivingBeside (rules : List (List ℕ)) (u v : ℕ → ℕ) (totals counts : List (List ℕ)) (m a : ℕ) : Type 0 where
   pub own : Deriving rules u totals m a
-  pub beside : Deriving rules (λ w. 1) counts m a
-  pub each : EachCounts rules u
+  pub beside : Deriving rules v counts m a
+  pub less : (A w : ℕ) → A < count_in rules → w ∈ words_in rules A → v w ≤ u w
 
 -- the longest length with a derivation, once v derivations of the length m are found
 abbrev pub longer : (old m v : ℕ) → ℕ

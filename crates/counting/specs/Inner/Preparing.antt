@@ -1,20 +1,14 @@
 -- What every call that takes a grammar and a length has at hand: once the refusals 1 to 8 and 9 are passed the table of rules, and once 10
 -- is passed the counts.
 -- Assumes nothing: these are definitions.
-use Rattle.std.specs.Prelude.{◌≡◌, false, List, ℕ, ◌≤◌, length}
+use Rattle.std.specs.Prelude.{◌≡◌, false, List, ℕ, ◌≤◌, length, Result, Ok, Err, ⊤}
 use Rattle.lists.specs.Inner.Tables.{entry, Wide, Kept}
 use Rattle.answers.specs.Answer.{first_that_applies}
-use Rattle.answers.specs.Inner.Refusals.{refusal_number}
+use Rattle.answers.specs.Inner.Results.{result_number}
+use Rattle.answers.specs.declared.refusal.Refusal.{Refusal}
 use Rattle.grammar.specs.Inner.Rules.{Holds, Roomy}
 use Rattle.counting.specs.Refusals.{too_large, open_rows, prepared_rows}
 use Rattle.counting.specs.Inner.Counted.{Counted}
-use Rattle.counting.specs.declared.prepare.Prepared.{Prepared}
-use Rattle.counting.specs.declared.prepare.Prepared.TheVariants.{Ready, Refused}
-
--- the paper's number of each case
-abbrev pub prepared_number : Prepared → ℕ
-prepared_number Ready = 0
-prepared_number (Refused r) = refusal_number r
 
 -- ---- 1 to 9
 
@@ -25,9 +19,9 @@ pub record Opened (g : List ℕ) (n : ℕ) (rules : List (List ℕ)) : Type 0 wh
   pub short : n ≤ 16
 
 -- what opening a grammar with a length answers: the refusal, or the rules; the rows from 4 on stay
-pub record OpenedAs (g : List ℕ) (n : ℕ) (before after : List (List ℕ)) (r : Prepared) : Type 0 where
-  pub refusal : prepared_number r ≡ first_that_applies (open_rows g n)
-  pub ready : r ≡ Ready → Opened g n after
+pub record OpenedAs (g : List ℕ) (n : ℕ) (before after : List (List ℕ)) (r : Result ⊤ Refusal) : Type 0 where
+  pub refusal : result_number r ≡ first_that_applies (open_rows g n)
+  pub ready : r ≡ Ok tt → Opened g n after
   pub kept : Kept 4 256 before after
 
 -- ---- 1 to 10
@@ -46,8 +40,8 @@ pub record Tabled (g : List ℕ) (n : ℕ) (rules totals : List (List ℕ)) : Ty
   pub counted : Counted rules totals n
 
 -- what preparing a grammar and a length answers: the refusal, or the tables; the rows that are not theirs stay
-pub record PreparedAs (g : List ℕ) (n : ℕ) (rules₀ rules totals₀ totals : List (List ℕ)) (r : Prepared) : Type 0 where
-  pub refusal : prepared_number r ≡ first_that_applies (prepared_rows g n)
-  pub ready : r ≡ Ready → Tabled g n rules totals
+pub record PreparedAs (g : List ℕ) (n : ℕ) (rules₀ rules totals₀ totals : List (List ℕ)) (r : Result ⊤ Refusal) : Type 0 where
+  pub refusal : result_number r ≡ first_that_applies (prepared_rows g n)
+  pub ready : r ≡ Ok tt → Tabled g n rules totals
   pub rules_kept : Kept 4 256 rules₀ rules
   pub totals_kept : Kept 17 32 totals₀ totals

@@ -1,8 +1,10 @@
 -- What the checks ask of each other and promise, by name. Nothing of this is needed to read what *Check bank* answers.
 -- Assumes nothing: these are definitions.
-use Rattle.std.specs.Prelude.{◌≡◌, Bool, true, false, List, map, ℕ, ◌+◌, ◌*◌, ◌-◌, ◌≤◌, ◌<◌, length, get_or}
+use Rattle.std.specs.Prelude.{◌≡◌, Bool, true, false, cond, Result, Ok, Err, List, map, ℕ, ◌+◌, ◌*◌, ◌-◌, ◌≤◌, ◌<◌, length, get_or}
 use Rattle.lists.specs.Joined.{◌∈◌, up_from}
 use Rattle.lists.specs.Searched.{some_to, repeats}
+use Rattle.answers.specs.declared.refusal.Refusal.{Refusal}
+use Rattle.answers.specs.declared.refusal.Refusal.TheVariants.{GrammarBadRule, GrammarBadLink}
 use Rattle.grammar.specs.Layout.{nonterminals, words, rules}
 use Rattle.grammar.specs.Refusals.{bad_rule, next_above}
 use Rattle.grammar.specs.Inner.Rules.{word_at, word_from, pair_from}
@@ -24,10 +26,9 @@ pub record Readable (g : List ℕ) : Type 0 where
 
 -- ---- 4, and 5 of the nexts
 
--- whether some rule does not fit, and if all fit, whether some next is above R
-pub record FoundAs (g : List ℕ) (rule link : Bool) : Type 0 where
-  pub bad : rule ≡ bad_rule g
-  pub far : rule ≡ false → link ≡ some_to (next_above g) (rules g)
+-- 4 where some rule does not fit; where all fit, 5 where some next is above R
+abbrev pub rules_say : List ℕ → Result (Unit {0}) Refusal
+rules_say g = cond (bad_rule g) (Err GrammarBadRule) (cond (some_to (next_above g) (rules g)) (Err GrammarBadLink) (Ok tt))
 
 -- ---- 8: rules that are alike
 

@@ -1,12 +1,12 @@
--- What the code's answers to *Check bank* say: the paper's number and values for each case of the enum. Their promises use these definitions.
+-- What the code's answers to *Check bank* say: the paper's values of `Ok`, and its number of `Err`. Their promises use these definitions.
 -- Assumes nothing: these are definitions.
-use Rattle.std.specs.Prelude.{[], ◌∷◌}
+use Rattle.std.specs.Prelude.{[], ◌∷◌, Result, Ok, Err}
 use Rattle.answers.specs.Answer.{Answer, given, refused}
 use Rattle.answers.specs.Inner.Refusals.{refusal_number}
-use Rattle.grammar.specs.declared.checks.GrammarAnswer.{GrammarAnswer}
-use Rattle.grammar.specs.declared.checks.GrammarAnswer.TheVariants.{Given, Refused}
+use Rattle.answers.specs.declared.refusal.Refusal.{Refusal}
+use Rattle.grammar.specs.declared.checks.Sizes.{Sizes}
 
--- the paper's number and figures of each case
-abbrev pub grammar_says : GrammarAnswer → Answer
-grammar_says (Given n w) = given (n ∷ w ∷ []) []
-grammar_says (Refused r) = refused (refusal_number r) 2 []
+-- the paper's figures, or its number of a refusal
+abbrev pub grammar_says : Result Sizes Refusal → Answer
+grammar_says (Ok s) = given (s.nonterminals ∷ s.words ∷ []) []
+grammar_says (Err r) = refused (refusal_number r) 2 []

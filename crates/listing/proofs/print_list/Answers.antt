@@ -1,7 +1,6 @@
 -- `print_list` is safe and ends: the heard numbers are places of the full list, so they are no more than T.
 -- Assumes nothing.
 use native.Mathlib.Omega.{arith}
-use borrow.Author.Rules.{rules}
 use Rattle.charts.proofs.Mapping.{counts_map_lem}
 use Rattle.ranking.proofs.Finding.{counts_total}
 use Rattle.sampling.proofs.Answering.{struck_few}

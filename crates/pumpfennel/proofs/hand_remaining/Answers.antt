@@ -5,8 +5,8 @@ use Rattle.sampling.specs.Inner.Says.{remaining_says}
 use Rattle.pumpfennel.proofs.Cases.{answered}
 use Rattle.pumpfennel.proofs.hand_remaining.Goals as goal
 
-pub returns-in-Given : goal.returns-in-Given
-returns-in-Given c = answered remaining_says _ _ refl c.in-Given.is refl refl
+pub returns-in-Ok : goal.returns-in-Ok
+returns-in-Ok c = answered remaining_says _ _ refl c.in-Ok.is refl refl
 
-pub returns-in-Refused : goal.returns-in-Refused
-returns-in-Refused c = answered remaining_says _ _ refl c.in-Refused.is refl c.number.ensures
+pub returns-in-Err : goal.returns-in-Err
+returns-in-Err c = answered remaining_says _ _ refl c.in-Err.is refl c.from.ensures

@@ -1,12 +1,9 @@
--- `pumpfennel_append` meets its contract, case by case of the answer.
+-- `pumpfennel_append` meets its contract: its one figure is handed over.
 -- Assumes nothing.
-use mathlib.Core.Path.{refl}
+use mathlib.Core.Path.{refl, ◌∙◌}
 use Rattle.history.specs.Inner.Says.{append_says}
-use Rattle.pumpfennel.proofs.Cases.{answered}
+use Rattle.pumpfennel.proofs.Cases.{one_figure}
 use Rattle.pumpfennel.proofs.pumpfennel_append.Goals as goal
 
-pub returns-in-Given : goal.returns-in-Given
-returns-in-Given c = answered (λ a. append_says a c.append-a.new.h) _ _ c.append-a.ensures c.in-Given.is refl refl
-
-pub returns-in-Refused : goal.returns-in-Refused
-returns-in-Refused c = answered (λ a. append_says a c.append-a.new.h) _ _ c.append-a.ensures c.in-Refused.is refl c.number.ensures
+pub returns : goal.returns
+returns c = c.hand_figure.ensures _ ∙ one_figure (λ a. append_says a c.append.new.h) _ (λ x. refl) (λ r. refl) _ ∙ c.append.ensures

@@ -5,8 +5,8 @@ use Rattle.grammar.specs.Inner.Says.{grammar_says}
 use Rattle.pumpfennel.proofs.Cases.{answered}
 use Rattle.pumpfennel.proofs.pumpfennel_check_grammar.Goals as goal
 
-pub returns-in-Given : goal.returns-in-Given
-returns-in-Given c = answered grammar_says _ _ c.check-a.ensures c.in-Given.is refl refl
+pub returns-in-Ok : goal.returns-in-Ok
+returns-in-Ok c = answered grammar_says _ _ c.check.ensures c.in-Ok.is (rw (c.from.ensures, c.from-in-Ok.ensures) refl) refl
 
-pub returns-in-Refused : goal.returns-in-Refused
-returns-in-Refused c = answered grammar_says _ _ c.check-a.ensures c.in-Refused.is refl c.number.ensures
+pub returns-in-Err : goal.returns-in-Err
+returns-in-Err c = answered grammar_says _ _ c.check.ensures c.in-Err.is refl c.from-in-Err.ensures

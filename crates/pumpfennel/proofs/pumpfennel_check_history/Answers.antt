@@ -1,12 +1,9 @@
--- `pumpfennel_check_history` meets its contract, case by case of the answer.
+-- `pumpfennel_check_history` meets its contract: its one figure is handed over.
 -- Assumes nothing.
-use mathlib.Core.Path.{refl}
+use mathlib.Core.Path.{refl, ◌∙◌}
 use Rattle.history.specs.Inner.Says.{history_says}
-use Rattle.pumpfennel.proofs.Cases.{answered}
+use Rattle.pumpfennel.proofs.Cases.{one_figure}
 use Rattle.pumpfennel.proofs.pumpfennel_check_history.Goals as goal
 
-pub returns-in-Given : goal.returns-in-Given
-returns-in-Given c = answered history_says _ _ c.check-a.ensures c.in-Given.is refl refl
-
-pub returns-in-Refused : goal.returns-in-Refused
-returns-in-Refused c = answered history_says _ _ c.check-a.ensures c.in-Refused.is refl c.number.ensures
+pub returns : goal.returns
+returns c = c.hand_figure.ensures _ ∙ one_figure history_says _ (λ x. refl) (λ r. refl) _ ∙ c.check.ensures

@@ -5,8 +5,8 @@ use Rattle.ranking.specs.Inner.Says.{rank_says}
 use Rattle.pumpfennel.proofs.Cases.{answered}
 use Rattle.pumpfennel.proofs.pumpfennel_rank.Goals as goal
 
-pub returns-in-Given : goal.returns-in-Given
-returns-in-Given c = answered rank_says _ _ c.rank-a.ensures c.in-Given.is refl refl
+pub returns-in-Ok : goal.returns-in-Ok
+returns-in-Ok c = answered rank_says _ _ c.rank.ensures c.in-Ok.is refl refl
 
-pub returns-in-Refused : goal.returns-in-Refused
-returns-in-Refused c = answered rank_says _ _ c.rank-a.ensures c.in-Refused.is refl c.number.ensures
+pub returns-in-Err : goal.returns-in-Err
+returns-in-Err c = answered rank_says _ _ c.rank.ensures c.in-Err.is refl c.from.ensures

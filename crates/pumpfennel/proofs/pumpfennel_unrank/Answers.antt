@@ -1,12 +1,9 @@
--- `pumpfennel_unrank` meets its contract, case by case of the answer.
+-- `pumpfennel_unrank` meets its contract: its one figure is handed over.
 -- Assumes nothing.
-use mathlib.Core.Path.{refl}
+use mathlib.Core.Path.{refl, ◌∙◌}
 use Rattle.ranking.specs.Inner.Says.{unrank_says}
-use Rattle.pumpfennel.proofs.Cases.{answered}
+use Rattle.pumpfennel.proofs.Cases.{one_figure}
 use Rattle.pumpfennel.proofs.pumpfennel_unrank.Goals as goal
 
-pub returns-in-Given : goal.returns-in-Given
-returns-in-Given c = answered (λ a. unrank_says a c.unrank-a.new.out) _ _ c.unrank-a.ensures c.in-Given.is refl refl
-
-pub returns-in-Refused : goal.returns-in-Refused
-returns-in-Refused c = answered (λ a. unrank_says a c.unrank-a.new.out) _ _ c.unrank-a.ensures c.in-Refused.is refl c.number.ensures
+pub returns : goal.returns
+returns c = c.hand_figure.ensures _ ∙ one_figure (λ a. unrank_says a c.unrank-a.new.out) _ (λ x. refl) (λ r. refl) _ ∙ c.unrank-a.ensures

@@ -47,7 +47,13 @@ pub record PlacedAs (rules measure : List (List ℕ)) (s : List ℕ) (first weig
   pub weight_is : weight ≡ weighs rules measure s
   pub fits : first + weight ≤ most
 
--- room for the chart of n positions, in a table of zeros
+-- rows enough for the chart of n positions
+pub record RoomFor (n rows : ℕ) : Type 0 where
+  pub long : n ≤ 16 → room n ≤ rows
+  pub counts : 18 ≤ rows
+  pub few : rows ≤ 154
+
+-- room for it, in a table of zeros
 pub record Roomy (n : ℕ) (totals : List (List ℕ)) : Type 0 where
   pub wide : Wide totals 32
   pub zeros : (r A : ℕ) → entry totals r A ≡ 0

@@ -1,7 +1,9 @@
 -- What collecting the heard derivations asks and gives back, by the table of rules alone. They are told by their first tickets, and where room is lent
 -- also by where these end, where each sentence weighs u: by a measure's letters; 1 where it fits a pattern, and else nothing; or what words' weights make it.
 -- Assumes nothing: these are definitions.
-use Rattle.std.specs.Prelude.{◌≡◌, Bool, true, false, cond, ◌&&◌, List, [], ◌∷◌, ℕ, ◌+◌, ◌≤◌, ◌<◌, length, take, ltb, leb, eqb}
+use Rattle.answers.specs.Inner.Refusals.{refusal_number}
+use Rattle.answers.specs.declared.refusal.Refusal.{Refusal}
+use Rattle.std.specs.Prelude.{◌≡◌, Bool, true, false, cond, ◌&&◌, List, [], ◌∷◌, ℕ, ◌+◌, ◌≤◌, ◌<◌, length, take, ltb, leb, eqb, Option, None, Some, Result, Ok, Err}
 use Rattle.lists.specs.Joined.{◌∈◌, concat_map}
 use Rattle.lists.specs.Searched.{bit, some_of, same, keep}
 use Rattle.lists.specs.Inner.Tickets.{first_ticket, spans}
@@ -17,6 +19,7 @@ use Rattle.charts.specs.Inner.Plan.{length_in, needed, end_of}
 use Rattle.charts.specs.Inner.Chart.{Clean}
 use Rattle.charts.specs.Inner.Ready.{Ready}
 use Rattle.ranking.specs.Answers.{full_list}
+use Rattle.ranking.specs.declared.rank.Span.{Span as Tickets}
 use Rattle.ranking.specs.Inner.Inside.{full_in, readings_in, weighs}
 use Rattle.history.specs.Layout.{records_of}
 use Rattle.history.specs.Refusals.{Accepted}
@@ -24,10 +27,6 @@ use Rattle.history.specs.Heard.{sentences_in}
 use Rattle.sampling.specs.Pattern.{matches}
 use Rattle.sampling.specs.Question.{Question, plainly}
 use Rattle.sampling.specs.Unheard.{outside, suits, of_length}
-use Rattle.sampling.specs.declared.heard.Added.{Added}
-use Rattle.sampling.specs.declared.heard.Added.TheVariants.{Nothing, Place, Many}
-use Rattle.sampling.specs.declared.heard.Collected.{Collected}
-use Rattle.sampling.specs.declared.heard.Collected.TheVariants.{Numbers, Ambiguous}
 
 -- the derivations that fit, each with its number, and of these the places that are struck, rising
 abbrev pub fitting_at : (g : List ℕ) (a : Question) → List (ℕ × Tree)
@@ -87,12 +86,12 @@ pub record Serves (rules plan map measure : List (List ℕ)) (sets : List ℕ) (
   pub measures : Measures rules plan measure totals first (length_in plan)
 
 -- what the sentence s adds: by how many derivations it has, and whether it weighs something
-abbrev pub Adds : (rules : List (List ℕ)) (u : List ℕ → ℕ) (n : ℕ) (s : List ℕ) → Added → Type 0
-Adds rules u n s Nothing = (many_in rules n s ≡ false) × ((tell : ℕ × ℕ → ℕ) → numbers_in rules u tell n s ≡ [])
-Adds rules u n s (Place d w) = (many_in rules n s ≡ false) × ((tell : ℕ × ℕ → ℕ) → numbers_in rules u tell n s ≡ tell (d, w) ∷ []) × (d + w ≤ most)
-Adds rules u n s Many = many_in rules n s ≡ true
+abbrev pub Adds : (rules : List (List ℕ)) (u : List ℕ → ℕ) (n : ℕ) (s : List ℕ) → Result (Option Tickets) Refusal → Type 0
+Adds rules u n s (Ok None) = (many_in rules n s ≡ false) × ((tell : ℕ × ℕ → ℕ) → numbers_in rules u tell n s ≡ [])
+Adds rules u n s (Ok (Some d)) = (many_in rules n s ≡ false) × ((tell : ℕ × ℕ → ℕ) → numbers_in rules u tell n s ≡ tell (d.first, d.weight) ∷ []) × (d.first + d.weight ≤ most)
+Adds rules u n s (Err r) = (many_in rules n s ≡ true) × (refusal_number r ≡ 15)
 
-pub record HeardFoundAs (rules plan map measure : List (List ℕ)) (s sets : List ℕ) (totals : List (List ℕ)) (f : Added) : Type 0 where
+pub record HeardFoundAs (rules plan map measure : List (List ℕ)) (s sets : List ℕ) (totals : List (List ℕ)) (f : Result (Option Tickets) Refusal) : Type 0 where
   pub adds : Adds rules (weighs rules measure) (length_in plan) s f
   pub serves : Serves rules plan map measure sets totals
 
@@ -110,9 +109,9 @@ pub record Collects (rules plan map measure : List (List ℕ)) (h : List ℕ) (n
   pub room : records_of h ≤ length numbers
 
 -- what is told along the chain, or that a sentence has two or more derivations
-abbrev pub CollectedIs : (rules : List (List ℕ)) (u : List ℕ → ℕ) (tell : ℕ × ℕ → ℕ) (h : List ℕ) (n v : ℕ) (numbers : List ℕ) → Collected → Type 0
-CollectedIs rules u tell h n v numbers (Numbers k) = (ambiguous_in rules h n v ≡ false) × (k ≤ records_of h) × (take k numbers ≡ all_numbers_in rules u tell h n v)
-CollectedIs rules u tell h n v numbers Ambiguous = ambiguous_in rules h n v ≡ true
+abbrev pub CollectedIs : (rules : List (List ℕ)) (u : List ℕ → ℕ) (tell : ℕ × ℕ → ℕ) (h : List ℕ) (n v : ℕ) (numbers : List ℕ) → Result ℕ Refusal → Type 0
+CollectedIs rules u tell h n v numbers (Ok k) = (ambiguous_in rules h n v ≡ false) × (k ≤ records_of h) × (take k numbers ≡ all_numbers_in rules u tell h n v)
+CollectedIs rules u tell h n v numbers (Err r) = (ambiguous_in rules h n v ≡ true) × (refusal_number r ≡ 15)
 
 -- the counts and the measure's totals are as they were
 pub record Still (rules plan measure totals : List (List ℕ)) (n : ℕ) : Type 0 where
@@ -120,7 +119,7 @@ pub record Still (rules plan measure totals : List (List ℕ)) (n : ℕ) : Type 
   pub mapped : Mapped rules totals measure n (needed plan)
 
 -- the places, and where there is room for it also where they end
-pub record CollectedAs (rules plan measure : List (List ℕ)) (h : List ℕ) (n v : ℕ) (totals : List (List ℕ)) (numbers ends : List ℕ) (c : Collected) : Type 0 where
+pub record CollectedAs (rules plan measure : List (List ℕ)) (h : List ℕ) (n v : ℕ) (totals : List (List ℕ)) (numbers ends : List ℕ) (c : Result ℕ Refusal) : Type 0 where
   pub holds : CollectedIs rules (weighs rules measure) beginning h n v numbers c
   pub ended : records_of h ≤ length ends → CollectedIs rules (weighs rules measure) ending h n v ends c
   pub still : Still rules plan measure totals n

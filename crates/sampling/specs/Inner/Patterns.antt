@@ -21,6 +21,13 @@ pub record Patterned (a : Question) (rules totals : List (List ℕ)) : Type 0 wh
   pub zeros : (r A : ℕ) → 17 ≤ r → entry totals r A ≡ 0
   pub room : a.length ≤ 16 → end_of (behind_of a.length) a.length ≤ length totals
 
+-- a number of rows enough for both charts
+pub record RowsFor (a : Question) (rows : ℕ) : Type 0 where
+  pub long : length a.pattern ≡ a.length
+  pub counts : 17 ≤ rows
+  pub room : a.length ≤ 16 → end_of (behind_of a.length) a.length ≤ rows
+  pub few : rows ≤ 290
+
 -- the tables that a pattern's chart is made of
 pub record ChartSought (rules : List (List ℕ)) (pattern : List ℕ) (plan choice totals : List (List ℕ)) : Type 0 where
   pub readies : Readies rules totals (length pattern) plan choice

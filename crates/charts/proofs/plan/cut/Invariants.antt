@@ -1,11 +1,8 @@
--- `cut` meets its contract. The loop's invariant: the lengths below m have their left lengths. The measure is the lengths left.
+-- `cut` meets its contract. The loop's invariant: the lengths below m have their left lengths.
 -- Assumes nothing.
-use Prim.Native.Nat.{◌+◌, ◌-◌, ◌≤◌}
+use Prim.Native.Nat.{◌-◌}
 use Rattle.charts.specs.Inner.Planning.{AllCutAs}
 use Rattle.charts.proofs.plan.cut.Given as goal
 
 abbrev pub invariant-loop-m : goal.invariant-loop-m
-invariant-loop-m l = (1 ≤ l.m) × (l.m ≤ l.n + 1) × AllCutAs l.wanted l.lefts l.rights (l.m - 1) l.cuts
-
-abbrev pub decreases-loop-m : goal.decreases-loop-m
-decreases-loop-m l = l.n + 1 - l.m
+invariant-loop-m l = AllCutAs l.wanted l.lefts l.rights (l.m - 1) l.cuts

@@ -1,59 +1,34 @@
-use Prim.Native.Nat.{◌≤◌, ◌<◌}
 use native.Mathlib.Omega.{arith}
-use Rattle.sets.proofs.Loops.{lowest_low, turn, turn_less, first_member}
-use Rattle.charts.proofs.Spreading.{spreading_start, lowest_within, spreading_turn, spreading_end}
+use Rattle.charts.proofs.Spreading.{lowest_within, spreading_turn, spreading_end}
 use Rattle.charts.proofs.plan.spread.Goals as goal
 
-pub loop-left-init : goal.loop-left-init
-loop-left-init c = spreading_start _ _ _ c.requires.long
-
 pub offset_bounds-spots-k : goal.offset_bounds-spots-k
-offset_bounds-spots-k c =
-    let low : c.lowest-k.result < 32 = lowest_low c.loop-left.left c.lowest-k.result c.lowest-k.ensures in
-    omega (arith, low)
+offset_bounds-spots-k c = omega (arith, lowest_within c.requires c.loop-k.invariant c.in-Some.ensures.steps)
 
 pub bounds-spots-k : goal.bounds-spots-k
-bounds-spots-k c =
-    let low : c.lowest-k.result < 32 = lowest_low c.loop-left.left c.lowest-k.result c.lowest-k.ensures in
-    low
+bounds-spots-k c = omega (arith, lowest_within c.requires c.loop-k.invariant c.in-Some.ensures.steps)
 
-pub offset_bounds-spots-k-in-loop-left : goal.offset_bounds-spots-k-in-loop-left
-offset_bounds-spots-k-in-loop-left c =
-    let low : c.lowest-k.result < 32 = lowest_low c.loop-left.left c.lowest-k.result c.lowest-k.ensures in
-    omega (arith, low)
+pub offset_bounds-spots-k-in-loop-k : goal.offset_bounds-spots-k-in-loop-k
+offset_bounds-spots-k-in-loop-k c = omega (arith, lowest_within c.requires c.loop-k.invariant c.in-Some.ensures.steps)
 
-pub bounds-spots-k-in-loop-left : goal.bounds-spots-k-in-loop-left
-bounds-spots-k-in-loop-left c =
-    let low : c.lowest-k.result < 32 = lowest_low c.loop-left.left c.lowest-k.result c.lowest-k.ensures in
-    low
+pub bounds-spots-k-in-loop-k : goal.bounds-spots-k-in-loop-k
+bounds-spots-k-in-loop-k c = omega (arith, lowest_within c.requires c.loop-k.invariant c.in-Some.ensures.steps)
 
 pub overflow_sub-m : goal.overflow_sub-m
-overflow_sub-m c =
-    let low : c.lowest-k.result < 32 = lowest_low c.loop-left.left c.lowest-k.result c.lowest-k.ensures in
-    let within : (1 ≤ c.lowest-k.result) × (c.lowest-k.result < c.args.m) = lowest_within c.requires c.loop-left.invariant c.lowest-k.result low (first_member c.loop-left.left c.lowest-k.result _ c.lowest-k.ensures) in
-    omega (arith, within)
+overflow_sub-m c = omega (arith, lowest_within c.requires c.loop-k.invariant c.in-Some.ensures.steps)
 
 pub moved-requires : goal.moved-requires
-moved-requires c =
-    let low : c.lowest-k.result < 32 = lowest_low c.loop-left.left c.lowest-k.result c.lowest-k.ensures in
-    omega (arith, low)
+moved-requires c = omega (arith, lowest_within c.requires c.loop-k.invariant c.in-Some.ensures.steps)
 
 pub overflow_sub-spots : goal.overflow_sub-spots
-overflow_sub-spots c =
-    let low : c.lowest-k.result < 32 = lowest_low c.loop-left.left c.lowest-k.result c.lowest-k.ensures in
-    let within : (1 ≤ c.lowest-k.result) × (c.lowest-k.result < c.args.m) = lowest_within c.requires c.loop-left.invariant c.lowest-k.result low (first_member c.loop-left.left c.lowest-k.result _ c.lowest-k.ensures) in
-    omega (arith, within)
+overflow_sub-spots c = omega (arith, lowest_within c.requires c.loop-k.invariant c.in-Some.ensures.steps)
 
-pub loop-left-smaller : goal.loop-left-smaller
-loop-left-smaller c = turn_less c.loop-left.left c.lowest-k.result c.lowest-k.ensures c.after_lowest-left.result c.after_lowest-left.ensures
-
-pub loop-left-preserved : goal.loop-left-preserved
-loop-left-preserved c =
-    spreading_turn c.requires c.loop-left.invariant c.lowest-k.result c.after_lowest-left.result
-    (turn c.loop-left.left c.lowest-k.result c.lowest-k.ensures c.after_lowest-left.result c.after_lowest-left.ensures)
+pub loop-k-preserved : goal.loop-k-preserved
+loop-k-preserved c =
+    spreading_turn c.requires c.loop-k.invariant _ _ c.in-Some.ensures.steps
     c.either.result c.either.ensures
     c.moved.result c.moved.ensures
-    c.either-in-loop-left.result c.either-in-loop-left.ensures
+    c.either-in-loop-k.result c.either-in-loop-k.ensures
 
 pub returns : goal.returns
-returns c = spreading_end c.loop-left.invariant c.loop-left-test.false
+returns c = spreading_end c.loop-k.invariant c.in-None.ensures.steps.0

@@ -1,18 +1,19 @@
 -- `prepare` meets its contract: a refusal of opening is handed on, and past it the counts fit or 10 is the refusal. Assumes nothing.
+use Rattle.answers.proofs.Results.{handed_on}
 use Rattle.counting.proofs.Preparing.{prepare_by_opening, prepare_asks, prepare_too_large, prepare_ready}
 use Rattle.counting.proofs.prepare.prepare.Goals as goal
 
-pub open-opened-requires : goal.open-opened-requires
-open-opened-requires c = c.requires.rules_room
+pub open-requires : goal.open-requires
+open-requires c = c.requires.rules_room
 
-pub returns-in-Refused : goal.returns-in-Refused
-returns-in-Refused c = prepare_by_opening c.requires c.open-opened.ensures c.in-Refused.is
+pub returns-in_err-open : goal.returns-in_err-open
+returns-in_err-open c = rw (handed_on c.from_residual.ensures.1) (prepare_by_opening c.requires c.«open».ensures c.in_err-open.was)
 
 pub fill-requires : goal.fill-requires
-fill-requires c = prepare_asks c.requires c.open-opened.ensures c.in-Ready.is
+fill-requires c = prepare_asks c.requires c.«open».ensures c.in_ok-open.was
 
-pub returns-then-fill : goal.returns-then-fill
-returns-then-fill c = prepare_ready c.requires c.open-opened.ensures c.in-Ready.is c.fill.ensures.own c.if-fill.true
+pub returns-then-not-fill : goal.returns-then-not-fill
+returns-then-not-fill c = prepare_too_large c.requires c.«open».ensures c.in_ok-open.was c.fill.ensures.own c.if-not-fill.true
 
 pub returns : goal.returns
-returns c = prepare_too_large c.requires c.open-opened.ensures c.in-Ready.is c.fill.ensures.own c.if-fill.false
+returns c = prepare_ready c.requires c.«open».ensures c.in_ok-open.was c.fill.ensures.own c.if-not-fill.false

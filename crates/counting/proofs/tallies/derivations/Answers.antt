@@ -1,16 +1,16 @@
--- `derivations` meets its contract: at the length 1 what the words count for is the total, at a greater one `derive` says it. Assumes nothing.
+-- `derivations` meets its contract: at the length 1 what the words count for is the total, and what they are counted as the count; at a greater one
+-- `derive` says both. Assumes nothing.
 use native.Mathlib.Omega.{arith}
 use Rattle.counting.proofs.Filling.{words_total}
+use Rattle.counting.proofs.Besides.{count_less}
 use Rattle.counting.proofs.tallies.derivations.Goals as goal
 
-pub words-requires : goal.words-requires
-words-requires c = let d = c.requires.0 in record { table = d.table; inside = d.inside; weights = c.requires.1 }
-
 pub returns-then-m-eq1 : goal.returns-then-m-eq1
-returns-then-m-eq1 c = words_total c.requires.0 c.if-m-eq1.true c.words.ensures
-
-pub derive-requires : goal.derive-requires
-derive-requires c = let d = c.requires.0 in ((_, d), omega (arith, d.some, c.if-m-eq1.false))
+returns-then-m-eq1 g c =
+    let d = c.requires.0 in
+    let total = words_total d.own c.if-m-eq1.true c.words.ensures in
+    let count = words_total d.beside c.if-m-eq1.true c.words-then-m-eq1.ensures in
+    (total, count, omega (arith, total, count, count_less d.own.table d.less c.args.a c.args.m d.own.inside))
 
 pub returns : goal.returns
-returns c = c.derive.ensures _ c.requires.0
+returns g c = c.derive.ensures _ c.requires.0

@@ -9,20 +9,14 @@ find-requires c = let f = c.requires.own in record { table = f.table; some = f.s
 pub loop-m-init : goal.loop-m-init
 loop-m-init c = fills_start c.requires
 
-pub offset_bounds-needs-m : goal.offset_bounds-needs-m
-offset_bounds-needs-m c = omega (arith, c.loop-m-test.true, c.requires.own.short)
-
-pub bounds-needs-m : goal.bounds-needs-m
-bounds-needs-m c = omega (arith, c.loop-m-test.true, c.requires.own.short)
-
 pub row-requires : goal.row-requires
-row-requires c = fills_asks c.requires c.loop-m.invariant c.loop-m-test.true c.find.ensures refl
+row-requires c = fills_asks c.requires c.loop-m.invariant (omega arith) c.find.ensures refl
 
 pub returns-then-not-row : goal.returns-then-not-row
-returns-then-not-row c = fills_over c.requires c.loop-m.invariant c.loop-m-test.true c.find.ensures refl c.row.ensures c.if-not-row.true
+returns-then-not-row c = fills_over c.requires c.loop-m.invariant (omega arith) c.find.ensures refl c.row.ensures c.if-not-row.true
 
 pub loop-m-preserved : goal.loop-m-preserved
-loop-m-preserved c = fills_step c.requires c.loop-m.invariant c.loop-m-test.true c.find.ensures refl c.row.ensures c.if-not-row.false
+loop-m-preserved c = fills_step c.requires c.loop-m.invariant (omega arith) c.find.ensures refl c.row.ensures c.if-not-row.false
 
 pub returns : goal.returns
-returns c = fills_end c.requires c.loop-m.invariant c.loop-m-test.false
+returns c = fills_end c.requires c.loop-m.invariant (omega arith)

@@ -1,29 +1,35 @@
-use mathlib.Core.Path.{◌≡◌, sym, ap, ◌∙◌}
-use mathlib.Core.Bool.{true, false}
+-- `checks::head_above` meets its contract: a test over the heads' bytes is one over the nonterminals.
+-- Assumes nothing.
+use mathlib.Core.Path.{◌≡◌, refl, ◌∙◌}
+use mathlib.Core.Bool.{or_comm}
 use mathlib.Core.List.{List}
-use Prim.Native.Nat.{ℕ, ◌-◌, ◌≤◌, ◌<◌}
+use Prim.Native.Nat.{ℕ, zero, suc, ◌+◌, ◌-◌, ◌≤◌}
 use native.Mathlib.Omega.{arith}
-use borrow.Author.Tests.{lt-ltb, le-ltb}
+use native.Mathlib.Numerals.{add-one}
+use lib.Dec.{ltb}
+use lib.ListN.{length, take, drop, length-drop}
+use Rattle.std.specs.List.{list_any}
+use Rattle.std.proofs.Common.{rules, tests, get_or-drop}
+use Rattle.std.proofs.lemmas.List.Folds.{list_any_more}
+use Rattle.std.proofs.lemmas.Iterator.{YieldsList-from_slice}
+use Rattle.std.proofs.lemmas.Iterator.Search.{any_from_yields_List}
 use Rattle.lists.specs.Searched.{some_below}
-use Rattle.lists.proofs.Tests.{below_hit, below_miss, below_none}
-use Rattle.grammar.specs.Layout.{rules, head_of}
+use Rattle.grammar.specs.Layout as layout
 use Rattle.grammar.specs.Refusals.{head_above}
 use Rattle.grammar.proofs.checks.head_above.Goals as goal
 
-above : (g : List ℕ) (A : ℕ) {r x : ℕ} → r ≡ rules g → x ≡ head_of g A → r < x → head_above g A ≡ true
-above g A e f h = lt-ltb (rules g) (head_of g A) (omega arith)
-
-not_above : (g : List ℕ) (A : ℕ) {r x : ℕ} → r ≡ rules g → x ≡ head_of g A → x ≤ r → head_above g A ≡ false
-not_above g A e f h = le-ltb (rules g) (head_of g A) (omega arith)
-
-pub loop-i-init : goal.loop-i-init
-loop-i-init c = (omega arith, ap (some_below (head_above c.args.g.now)) (sym c.requires.heads))
-
-pub returns-then-r-wide : goal.returns-then-r-wide
-returns-then-r-wide c = sym (c.loop-i.invariant.1 ∙ below_hit (head_above c.args.g.now) c.loop-i.i (omega arith) (above c.args.g.now (c.loop-i.i - 1) c.requires.bodies c.wide.ensures.0 c.if-r-wide.true))
-
-pub loop-i-preserved : goal.loop-i-preserved
-loop-i-preserved c = (omega arith, c.loop-i.invariant.1 ∙ below_miss (head_above c.args.g.now) c.loop-i.i (omega arith) (not_above c.args.g.now (c.loop-i.i - 1) c.requires.bodies c.wide.ensures.0 c.if-r-wide.false))
+-- the test of the first i heads, from the front and from the back
+heads_tested : (g : List ℕ) (i : ℕ) → 4 + i ≤ length g → list_any (ltb (layout.rules g)) (take i (drop 4 g)) ≡ some_below (head_above g) i
+unfolding some_below
+heads_tested g zero h = refl
+heads_tested g (suc i) h =
+    rw (← add-one i)
+    (list_any_more (ltb (layout.rules g)) (drop 4 g) i 0 (omega (arith, length-drop 4 g))
+    ∙ rw (get_or-drop, heads_tested g i (omega arith)) (or_comm (some_below (head_above g) i) (head_above g i)))
 
 pub returns : goal.returns
-returns c = sym (c.loop-i.invariant.1 ∙ below_none (head_above c.args.g.now) _ c.loop-i-test.false)
+returns c =
+    let g = c.args.g.now in
+    let found = any_from_yields_List (ltb c.args.r) _ _ c.any.result c.any.ensures.ran (YieldsList-from_slice (take (4 + c.args.n - 4) (drop 4 g)) (cc)) (λ x b q k. search (rules, tests)) in
+    let count : 4 + c.args.n - 4 ≡ layout.nonterminals g = omega (arith, c.requires.heads) in
+    found ∙ rw (c.requires.bodies, count) (heads_tested g (layout.nonterminals g) (omega (arith, c.requires.size, c.requires.heads)))

@@ -1,15 +1,15 @@
--- `put_two` meets its contract: two bytes, one after the other.
+-- `put_two` meets its contract: the number's two bytes, the low one first.
 -- Assumes nothing.
+use mathlib.Core.Path.{◌≡◌, refl, ap, ◌∙◌}
+use mathlib.Core.List.{[], ◌∷◌}
+use Prim.Native.Nat.{ℕ, ◌/◌, ◌%◌}
 use native.Mathlib.Omega.{arith}
-use native.Mathlib.Numerals.{add-one}
-use lib.ListN.{length-set}
-use lib.Seq.{sets-eq}
-use Rattle.history.specs.Writing.{overwritten, two_bytes}
+use Rattle.history.specs.Writing.{two_bytes}
+use Rattle.history.proofs.Writing.{part_put}
 use Rattle.history.proofs.append.put_two.Goals as goal
 
-pub bounds-h-at-2 : goal.bounds-h-at-2
-bounds-h-at-2 c = simp length-set (omega arith)
-
 pub returns : goal.returns
-unfolding overwritten
-returns c = rw (add-one c.args.at) (sets-eq (two_bytes c.args.x) c.args.h.now c.args.at (omega arith))
+returns c =
+    let x = c.args.x in
+    let high : x / 256 % 256 ≡ x / 256 = omega arith in
+    part_put _ (two_bytes x) _ 2 (c.copy_from_slice.ensures.after ∙ c.to_le_bytes.ensures ∙ ap (λ (b : ℕ). x % 256 ∷ b ∷ []) high) refl

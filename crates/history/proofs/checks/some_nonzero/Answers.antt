@@ -33,23 +33,15 @@ module _ (h : List ℕ) (at n : ℕ) where
   before i l = let e : i + 1 - n ≡ i - n = omega arith in rw e
 
 pub loop-i-init : goal.loop-i-init
-loop-i-init c = (omega arith, sym (below_none _ _ (omega arith)))
+loop-i-init c = sym (below_none _ _ (omega arith))
 
 pub loop-i-preserved : goal.loop-i-preserved
 loop-i-preserved c =
     let a = c.args in
     elim c.if-n-i.branch [
-      | then-n-i w ↦ (
-        omega arith,
-        ap (λ (b : ℕ). not (eqb b 0)) w.bits-is
-            ∙ or_some c.loop-i.bits _
-            ∙ rw c.loop-i.invariant.1 (sym (passed a.h.now a.at a.n c.loop-i.i w.if-n-i.true)),
-      )
-      | else-n-i w ↦ (
-        omega arith,
-        ap (λ (b : ℕ). not (eqb b 0)) w.bits-is ∙ c.loop-i.invariant.1 ∙ sym (before a.h.now a.at a.n c.loop-i.i w.if-n-i.false),
-      )
+      | then-n-i w ↦
+          ap (λ (b : ℕ). not (eqb b 0)) w.bits-is
+          ∙ or_some c.loop-i.bits _
+          ∙ rw c.loop-i.invariant (sym (passed a.h.now a.at a.n c.loop-i.i w.if-n-i.true))
+      | else-n-i w ↦ ap (λ (b : ℕ). not (eqb b 0)) w.bits-is ∙ c.loop-i.invariant ∙ sym (before a.h.now a.at a.n c.loop-i.i w.if-n-i.false)
     ]
-
-pub returns : goal.returns
-returns c = let e : c.loop-i.i ≡ 16 = omega arith in rw e at c.loop-i.invariant.1

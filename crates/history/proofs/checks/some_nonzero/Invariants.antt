@@ -2,13 +2,10 @@
 -- Assumes nothing.
 use mathlib.Core.Path.{◌≡◌}
 use mathlib.Core.Bool.{not}
-use Prim.Native.Nat.{◌+◌, ◌-◌, ◌≤◌}
+use Prim.Native.Nat.{◌+◌, ◌-◌}
 use lib.Dec.{eqb}
 use Rattle.history.specs.Refusals.{some_nonzero}
 use Rattle.history.proofs.checks.some_nonzero.Given as goal
 
 abbrev pub invariant-loop-i : goal.invariant-loop-i
-invariant-loop-i l = (l.i ≤ 16) × (not (eqb l.bits 0) ≡ some_nonzero l.h (l.at + l.n) (l.i - l.n))
-
-abbrev pub decreases-loop-i : goal.decreases-loop-i
-decreases-loop-i l = 16 - l.i
+invariant-loop-i l = not (eqb l.bits 0) ≡ some_nonzero l.h (l.at + l.n) (l.i - l.n)

@@ -1,12 +1,17 @@
 use mathlib.Core.Path.{◌≡◌, refl, sym, ap, ◌∙◌}
-use mathlib.Core.Bool.{Bool, true, false, or-false, false≢true}
-use mathlib.Core.List.{List}
+use mathlib.Core.Bool.{Bool, true, false, ◌||◌, or-false}
+use mathlib.Core.List.{List, [], ◌∷◌}
 use Prim.Native.Nat.{ℕ, ◌+◌, ◌-◌, ◌≤◌, ◌<◌}
 use native.Mathlib.Omega.{arith}
+use native.Mathlib.Decide.{dec_lt}
 use borrow.Author.Tests.{lt-ltb, le-ltb}
 use lib.Dec.{ltb}
+use Rattle.std.specs.Prelude.{Ok, Err}
 use Rattle.lists.specs.Searched.{some_below, some_to}
 use Rattle.lists.proofs.Tests.{or_true, to_hit, to_miss, to_some}
+use Rattle.answers.specs.Answer.{first_that_applies}
+use Rattle.answers.specs.declared.refusal.Refusal.TheVariants.{HistoryBadRecord, HistoryBadLink}
+use Rattle.answers.proofs.Refusals.{row_applies, row_passed}
 use Rattle.history.specs.Layout.{records_of, head_of, record_at, two_at}
 use Rattle.history.specs.Refusals.{misfit, next_above, bad_record, bad_link}
 use Rattle.history.specs.Inner.Checks.{Sized, TestedAs}
@@ -15,88 +20,68 @@ use Rattle.history.proofs.checks.test_records.Goals as goal
 
 module _ (h : List ℕ) {k : ℕ} (s : Sized h k) where
   -- before the first
-  none : {x : ℕ} → x ≡ head_of h → Past h (ltb k x) 0
+  none : {x : ℕ} → x ≡ head_of h → Past h (ltb k x) 1
   unfolding some_below
-  none e = record { high = omega arith; fit = refl; links = sym (or-false (ltb (records_of h) (head_of h)) ∙ cc s.count) }
+  none e = record { fit = refl; links = sym (or-false (ltb (records_of h) (head_of h)) ∙ cc s.count) }
 
   -- after the last
-  all : {far : Bool} {r : ℕ} → Past h far r → k ≤ r → TestedAs h false far
-  unfolding bad_record bad_link
-  all {r = r} p l =
-      let e : r ≡ records_of h = omega (arith, s.count, p.high) in
-      record { records = sym (rw e at p.fit); links = λ f. rw e at p.links }
-
-  -- the next record, which stands at i
-  module _ {r i : ℕ} (l : r < k) (e : i ≡ record_at (r + 1)) where
-    bad : {far : Bool} → misfit h i ≡ true → TestedAs h true far
+  module _ {far : Bool} {r : ℕ} (p : Past h far r) (l : r ≡ k + 1) where
+    all_fit : bad_record h ≡ false
     unfolding bad_record
-    bad m =
-        record {
-          records = sym (to_some (λ r. misfit h (record_at r)) (records_of h) (r + 1) (omega arith) (omega (arith, s.count)) (rw e at m));
-          links = λ f. absurd (false≢true (sym f));
-        }
+    all_fit = let f : r - 1 ≡ records_of h = omega (arith, s.count) in rw f at p.fit
 
-    next_fit : misfit h i ≡ false → some_to (λ r. misfit h (record_at r)) r ≡ false → some_to (λ r. misfit h (record_at r)) (r + 1) ≡ false
-    next_fit m p =
-        let f : r + 1 - 1 ≡ r = omega arith in
-        to_miss (λ r. misfit h (record_at r)) (r + 1) (omega arith) (rw e at m) ∙ rw f p
+    link_far : far ≡ bad_link h
+    unfolding bad_link
+    link_far = let f : r - 1 ≡ records_of h = omega (arith, s.count) in rw f at p.links
 
-    above : {x : ℕ} → x ≡ two_at h i → k < x → next_above h (r + 1) ≡ true
-    above f m = lt-ltb (records_of h) (two_at h (record_at (r + 1))) (omega (arith, s.count, ap (two_at h) e))
+    all_near : far ≡ false → TestedAs h (Ok tt)
+    unfolding first_that_applies
+    all_near b = record { first = sym (row_passed 12 ((bad_link h, 13) ∷ []) all_fit ∙ row_passed 13 [] (sym link_far ∙ b)) }
 
-    below : {x : ℕ} → x ≡ two_at h i → x ≤ k → next_above h (r + 1) ≡ false
-    below f m = le-ltb (records_of h) (two_at h (record_at (r + 1))) (omega (arith, s.count, ap (two_at h) e))
+    one_far : far ≡ true → TestedAs h (Err HistoryBadLink)
+    one_far b = record { first = sym (row_passed 12 _ all_fit ∙ row_applies 13 [] (sym link_far ∙ b)) }
 
-    module _ {far : Bool} {x : ℕ} (p : Past h far r) (m : misfit h i ≡ false) (f : x ≡ two_at h i) where
+  -- the record r, which stands at i
+  module _ {r i : ℕ} (l : 1 ≤ r) (m : r ≤ k) (e : i ≡ record_at r) where
+    bad : misfit h i ≡ true → TestedAs h (Err HistoryBadRecord)
+    unfolding bad_record
+    bad b = record { first = sym (row_applies 12 _ (to_some (λ q. misfit h (record_at q)) (records_of h) r l (omega (arith, s.count)) (rw e at b))) }
+
+    module _ {far : Bool} {x : ℕ} (p : Past h far r) (n : misfit h i ≡ false) (f : x ≡ two_at h i) where
+      next_fit : some_to (λ q. misfit h (record_at q)) (r + 1 - 1) ≡ false
+      next_fit = let g : r + 1 - 1 ≡ r = omega arith in rw g (to_miss (λ q. misfit h (record_at q)) r l (rw e at n) ∙ p.fit)
+
       next_far : k < x → Past h true (r + 1)
       next_far b =
-          record {
-            high = omega (arith, s.count);
-            fit = next_fit m p.fit;
-            links = sym (or_true (ltb (records_of h) (head_of h)) (some_to (next_above h) (r + 1)) (to_hit (next_above h) (r + 1) (omega arith) (above f b)));
-          }
+          let g : r + 1 - 1 ≡ r = omega arith in
+          let above : next_above h r ≡ true = lt-ltb (records_of h) (two_at h (record_at r)) (omega (arith, s.count, ap (two_at h) e)) in
+          record { fit = next_fit; links = rw g (sym (or_true (ltb (records_of h) (head_of h)) (some_to (next_above h) r) (to_hit (next_above h) r l above))) }
 
       next_near : x ≤ k → Past h far (r + 1)
       next_near b =
           let g : r + 1 - 1 ≡ r = omega arith in
-          record {
-            high = omega (arith, s.count);
-            fit = next_fit m p.fit;
-            links = rw (to_miss (next_above h) (r + 1) (omega arith) (below f b), g) p.links;
-          }
+          let below : next_above h r ≡ false = le-ltb (records_of h) (two_at h (record_at r)) (omega (arith, s.count, ap (two_at h) e)) in
+          record { fit = next_fit; links = rw (g, to_miss (next_above h) r l below) p.links }
 
-pub two_at-requires : goal.two_at-requires
-two_at-requires c = let s = c.requires in omega arith
+      next : Past h (far || ltb k x) (r + 1)
+      next =
+          elim (dec_lt k x) [
+            | yes b ↦ rw (lt-ltb k x b, or_true far true refl) (next_far b)
+            | no b ↦ rw (le-ltb k x (omega arith), or-false far) (next_near (omega arith))
+          ]
 
 pub loop-r-init : goal.loop-r-init
 loop-r-init c = none _ c.requires c.two_at.ensures.0
 
-pub overflow_add-r : goal.overflow_add-r
-overflow_add-r c = let s = c.requires in omega arith
-
-pub record_at-at-requires : goal.record_at-at-requires
-record_at-at-requires c = let s = c.requires in omega arith
-
-pub misfit-requires : goal.misfit-requires
-misfit-requires c = let s = c.requires in omega arith
-
 pub returns-then-misfit : goal.returns-then-misfit
-returns-then-misfit c = bad c.args.h.now c.requires c.loop-r-test.true c.record_at-at.ensures (sym c.misfit.ensures ∙ c.if-misfit.true)
-
-pub two_at-requires-in-loop-r : goal.two_at-requires-in-loop-r
-two_at-requires-in-loop-r c = let s = c.requires in omega arith
-
-pub loop-r-preserved-then-k-two_at : goal.loop-r-preserved-then-k-two_at
-loop-r-preserved-then-k-two_at c = next_far c.args.h.now c.requires c.loop-r-test.true c.record_at-at.ensures c.loop-r.invariant
-    (sym c.misfit.ensures ∙ c.if-misfit.false)
-    c.two_at-in-loop-r.ensures.0
-    c.if-k-two_at.true
+returns-then-misfit c = bad c.args.h.now c.requires (omega arith) (omega arith) c.record_at-at.ensures (sym c.if-misfit.ensures)
 
 pub loop-r-preserved : goal.loop-r-preserved
-loop-r-preserved c = next_near c.args.h.now c.requires c.loop-r-test.true c.record_at-at.ensures c.loop-r.invariant
-    (sym c.misfit.ensures ∙ c.if-misfit.false)
-    c.two_at-in-loop-r.ensures.0
-    c.if-k-two_at.false
+loop-r-preserved c =
+    next c.args.h.now c.requires (omega arith) (omega arith) c.record_at-at.ensures c.loop-r.invariant (sym c.if-misfit.ensures) c.two_at-in-loop-r.ensures.0
 
-pub returns : goal.returns
-returns c = all c.args.h.now c.requires c.loop-r.invariant c.loop-r-test.false
+pub returns-then-far : goal.returns-then-far
+returns-then-far c = one_far _ c.requires c.loop-r.invariant (omega arith) c.if-far.true
+
+pub returns-else-far : goal.returns-else-far
+returns-else-far c = all_near _ c.requires c.loop-r.invariant (omega arith) c.if-far.false

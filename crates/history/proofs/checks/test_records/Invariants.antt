@@ -3,21 +3,17 @@
 use mathlib.Core.Path.{◌≡◌}
 use mathlib.Core.Bool.{Bool, false, ◌||◌}
 use mathlib.Core.List.{List}
-use Prim.Native.Nat.{ℕ, ◌-◌, ◌≤◌}
+use Prim.Native.Nat.{ℕ, ◌-◌}
 use lib.Dec.{ltb}
 use Rattle.lists.specs.Searched.{some_to}
 use Rattle.history.specs.Layout.{records_of, head_of, record_at}
 use Rattle.history.specs.Refusals.{misfit, next_above}
 use Rattle.history.proofs.checks.test_records.Given as goal
 
--- the first r records are passed
+-- the records before r are passed
 pub record Past (h : List ℕ) (far : Bool) (r : ℕ) : Type 0 where
-  pub high : r ≤ records_of h
-  pub fit : some_to (λ r. misfit h (record_at r)) r ≡ false
-  pub links : far ≡ (ltb (records_of h) (head_of h) || some_to (next_above h) r)
+  pub fit : some_to (λ q. misfit h (record_at q)) (r - 1) ≡ false
+  pub links : far ≡ (ltb (records_of h) (head_of h) || some_to (next_above h) (r - 1))
 
 abbrev pub invariant-loop-r : goal.invariant-loop-r
 invariant-loop-r l = Past l.h l.far l.r
-
-abbrev pub decreases-loop-r : goal.decreases-loop-r
-decreases-loop-r l = l.k - l.r

@@ -2,33 +2,34 @@
 -- Assumes nothing.
 use mathlib.Core.Path.{◌∙◌}
 use native.Mathlib.Omega.{arith}
+use Rattle.answers.proofs.Results.{handed_on}
 use Rattle.charts.specs.Inner.Maps.{counts_map}
 use Rattle.sampling.specs.Question.{plainly}
 use Rattle.sampling.specs.Inner.Preparing.{Drawable}
-use Rattle.sampling.proofs.Answering.{draw_refused, draw_skipping_lem, draw_sought, lent_made, prepared_case}
+use Rattle.sampling.proofs.Answering.{draw_refused, draw_skipping_lem, draw_sought, plainly_made, prepared_case}
 use Rattle.answers.proofs.Numbers.{number_some}
 use Rattle.sampling.proofs.draw.draw_in.Goals as goal
 
-pub prepare-p-requires : goal.prepare-p-requires
-prepare-p-requires c = lent_made _ _ c.requires
+pub prepare-requires : goal.prepare-requires
+prepare-requires g c = plainly_made c.requires
 
-pub slice_bounds-draw_prepared-end-in-Ready-2 : goal.slice_bounds-draw_prepared-end-in-Ready-2
-slice_bounds-draw_prepared-end-in-Ready-2 c =
+pub slice_bounds-draw_prepared-end : goal.slice_bounds-draw_prepared-end
+slice_bounds-draw_prepared-end g c =
     let drawable : let s = c.args in
-    Drawable s.g.now s.h.now (plainly s.question.length s.question.voice) c.prepare-p.new.rules c.prepare-p.new.totals counts_map c.prepare-p.new.numbers c.in-Ready.k = prepared_case c.prepare-p.ensures c.in-Ready.is in
-    omega (arith, drawable.few, c.prepare-p.ensures.room drawable.diary)
+    Drawable s.g.now s.h.now (plainly s.question.length s.question.voice) c.prepare.new.rules c.prepare.new.totals counts_map c.prepare.new.numbers c.in_ok-k.k = prepared_case c.prepare.ensures c.in_ok-k.was in
+    omega (arith, drawable.few, c.prepare.ensures.room drawable.diary)
 
 pub draw_prepared-requires : goal.draw_prepared-requires
-draw_prepared-requires c =
+draw_prepared-requires g c =
     let drawable : let s = c.args in
-    Drawable s.g.now s.h.now (plainly s.question.length s.question.voice) c.prepare-p.new.rules c.prepare-p.new.totals counts_map c.prepare-p.new.numbers c.in-Ready.k = prepared_case c.prepare-p.ensures c.in-Ready.is in
-    draw_sought drawable c.prepare-p.ensures.room
+    Drawable s.g.now s.h.now (plainly s.question.length s.question.voice) c.prepare.new.rules c.prepare.new.totals counts_map c.prepare.new.numbers c.in_ok-k.k = prepared_case c.prepare.ensures c.in_ok-k.was in
+    draw_sought drawable c.prepare.ensures.room
 
-pub returns-in-Refused : goal.returns-in-Refused
-returns-in-Refused c = draw_refused _ _ _ _ _ _ (prepared_case c.prepare-p.ensures c.in-Refused.is) (number_some c.in-Refused.r)
+pub returns-in_err-k : goal.returns-in_err-k
+returns-in_err-k g c = rw (handed_on c.from_residual.ensures.1) (draw_refused _ _ _ _ _ _ (prepared_case c.prepare.ensures c.in_err-k.was) (number_some _))
 
-pub returns-in-Ready : goal.returns-in-Ready
-returns-in-Ready c =
+pub returns : goal.returns
+returns g c =
     let drawable : let s = c.args in
-    Drawable s.g.now s.h.now (plainly s.question.length s.question.voice) c.prepare-p.new.rules c.prepare-p.new.totals counts_map c.prepare-p.new.numbers c.in-Ready.k = prepared_case c.prepare-p.ensures c.in-Ready.is in
+    Drawable s.g.now s.h.now (plainly s.question.length s.question.voice) c.prepare.new.rules c.prepare.new.totals counts_map c.prepare.new.numbers c.in_ok-k.k = prepared_case c.prepare.ensures c.in_ok-k.was in
     c.draw_prepared.ensures ∙ draw_skipping_lem _ _ _ _ _ drawable

@@ -1,4 +1,4 @@
-use mathlib.Core.Path.{◌≡◌, refl, ◌∙◌}
+use mathlib.Core.Path.{◌≡◌, refl, ap, ◌∙◌}
 use Prim.Native.Nat.{zero, ◌<◌}
 use native.Mathlib.Omega.{arith}
 use lib.ListN.{length, replicate, length-set}
@@ -7,8 +7,9 @@ use Rattle.history.proofs.Acceptance.{known}
 use Rattle.history.specs.Chain.{numbers_from}
 use Rattle.history.specs.Refusals.{Accepted}
 use Rattle.sampling.specs.Inner.Collect.{Adds}
-use Rattle.sampling.specs.declared.heard.Added.TheVariants.{Place}
 use Rattle.sampling.proofs.Collect.{collect_start, collect_end, collect_inside, collect_less, collect_room, collect_unheard, collect_many, collect_none, collect_one, serves_start, added_case, serves_still}
+use Rattle.answers.proofs.Results.{handed_on}
+use Rattle.std.specs.Prelude.{Some, Ok}
 use Rattle.sampling.proofs.heard.collect.Goals as goal
 
 pub first-at-requires : goal.first-at-requires
@@ -42,42 +43,42 @@ sentence-s-requires c =
     let diary : Accepted c.args.h.now = c.requires.diary in
     diary
 
-pub find_heard-f-requires : goal.find_heard-f-requires
-find_heard-f-requires c = c.loop-at.invariant.1
+pub find_heard-requires : goal.find_heard-requires
+find_heard-requires c = c.loop-at.invariant.1
 
-pub loop-at-smaller-in-Nothing : goal.loop-at-smaller-in-Nothing
-loop-at-smaller-in-Nothing c =
+pub loop-at-smaller-in_default : goal.loop-at-smaller-in_default
+loop-at-smaller-in_default c =
     let more : c.loop-at.at ≡ 0 → ⊥ = λ z. omega arith in
     let diary : Accepted c.args.h.now = c.requires.diary in
     let less : length (numbers_from c.args.h.now c.after-at.result)
     < length (numbers_from c.args.h.now c.loop-at.at) = collect_less c.loop-at.invariant.0 diary more c.after-at.ensures in
     less
 
-pub loop-at-preserved-in-Nothing : goal.loop-at-preserved-in-Nothing
-loop-at-preserved-in-Nothing c =
+pub loop-at-preserved-in_default : goal.loop-at-preserved-in_default
+loop-at-preserved-in_default c =
     let more : c.loop-at.at ≡ 0 → ⊥ = λ z. omega arith in
-    let rows : length c.find_heard-f.new.totals ≡ length c.args.totals.now = c.find_heard-f.auto.totals ∙ c.loop-at.invariant.3 in
-    let sets : length c.find_heard-f.new.sets ≡ 290 = c.find_heard-f.auto.sets ∙ c.loop-at.invariant.2 in
+    let rows : length c.find_heard.new.totals ≡ length c.args.totals.now = c.find_heard.auto.totals ∙ c.loop-at.invariant.3 in
+    let sets : length c.find_heard.new.sets ≡ 290 = c.find_heard.auto.sets ∙ c.loop-at.invariant.2 in
     let diary : Accepted c.args.h.now = c.requires.diary in (
       collect_none c.loop-at.invariant.0 diary more c.makes_heard.ensures c.if-makes_heard.true c.sentence-s.ensures
-          (added_case c.requires.planned c.find_heard-f.ensures c.in-Nothing.is) c.after-at.ensures,
-      c.find_heard-f.ensures.serves,
+          (added_case c.requires.planned c.find_heard.ensures (c.in_ok-found.was ∙ ap Ok c.in_default.is)) c.after-at.ensures,
+      c.find_heard.ensures.serves,
       sets,
       rows,
       c.loop-at.invariant.4,
       (λ long. collect_none (c.loop-at.invariant.5 long) diary more c.makes_heard.ensures c.if-makes_heard.true c.sentence-s.ensures
-          (added_case c.requires.planned c.find_heard-f.ensures c.in-Nothing.is) c.after-at.ensures),
+          (added_case c.requires.planned c.find_heard.ensures (c.in_ok-found.was ∙ ap Ok c.in_default.is)) c.after-at.ensures),
       c.loop-at.invariant.6,
     )
 
-pub returns-in-Many : goal.returns-in-Many
-returns-in-Many c =
+pub returns-in_err-found : goal.returns-in_err-found
+returns-in_err-found c =
     let more : c.loop-at.at ≡ 0 → ⊥ = λ z. omega arith in
     let diary : Accepted c.args.h.now = c.requires.diary in
     let p = c.requires.planned in
-    let many = collect_many c.loop-at.invariant.0 diary more c.makes_heard.ensures c.if-makes_heard.true c.sentence-s.ensures
-    (added_case p c.find_heard-f.ensures c.in-Many.is) c.loop-at.numbers in
-    record { holds = many; ended = λ long. many; still = serves_still p c.find_heard-f.ensures.serves }
+    let many = collect_many c.loop-at.invariant.0 diary more c.makes_heard.ensures c.if-makes_heard.true c.sentence-s.ensures _
+    (added_case p c.find_heard.ensures c.in_err-found.was) c.loop-at.numbers in
+    rw (handed_on c.from_residual.ensures.1) (record { holds = many; ended = λ long. many; still = serves_still p c.find_heard.ensures.serves })
 
 pub offset_bounds-numbers-count : goal.offset_bounds-numbers-count
 offset_bounds-numbers-count c =
@@ -97,8 +98,8 @@ bounds-numbers-count c =
 
 pub note-requires : goal.note-requires
 note-requires c =
-    let adds : Adds c.args.rules.now (weighs c.args.rules.now c.args.measure.now) c.args.question.length c.sentence-s.result.now (Place c.in-Place.d c.in-Place.w)
-    = added_case c.requires.planned c.find_heard-f.ensures c.in-Place.is in
+    let adds : Adds c.args.rules.now (weighs c.args.rules.now c.args.measure.now) c.args.question.length c.sentence-s.result.now (Ok (Some c.in-Some.d))
+    = added_case c.requires.planned c.find_heard.ensures (c.in_ok-found.was ∙ ap Ok c.in-Some.is) in
     adds.2
 
 pub overflow_add-count : goal.overflow_add-count
@@ -109,24 +110,24 @@ overflow_add-count c =
     (omega (arith, few, (known _ diary).sized.few), omega (arith, few, c.loop-at.invariant.0.long)) in
     omega (arith, room.0)
 
-pub loop-at-smaller-in-Place : goal.loop-at-smaller-in-Place
-loop-at-smaller-in-Place c =
+pub loop-at-smaller-in-Some : goal.loop-at-smaller-in-Some
+loop-at-smaller-in-Some c =
     let more : c.loop-at.at ≡ 0 → ⊥ = λ z. omega arith in
     let diary : Accepted c.args.h.now = c.requires.diary in
     let less : length (numbers_from c.args.h.now c.after-at.result)
     < length (numbers_from c.args.h.now c.loop-at.at) = collect_less c.loop-at.invariant.0 diary more c.after-at.ensures in
     less
 
-pub loop-at-preserved-in-Place : goal.loop-at-preserved-in-Place
-loop-at-preserved-in-Place c =
+pub loop-at-preserved-in-Some : goal.loop-at-preserved-in-Some
+loop-at-preserved-in-Some c =
     let more : c.loop-at.at ≡ 0 → ⊥ = λ z. omega arith in
-    let adds : Adds c.args.rules.now (weighs c.args.rules.now c.args.measure.now) c.args.question.length c.sentence-s.result.now (Place c.in-Place.d c.in-Place.w)
-    = added_case c.requires.planned c.find_heard-f.ensures c.in-Place.is in
-    let rows : length c.find_heard-f.new.totals ≡ length c.args.totals.now = c.find_heard-f.auto.totals ∙ c.loop-at.invariant.3 in
-    let sets : length c.find_heard-f.new.sets ≡ 290 = c.find_heard-f.auto.sets ∙ c.loop-at.invariant.2 in
+    let adds : Adds c.args.rules.now (weighs c.args.rules.now c.args.measure.now) c.args.question.length c.sentence-s.result.now (Ok (Some c.in-Some.d))
+    = added_case c.requires.planned c.find_heard.ensures (c.in_ok-found.was ∙ ap Ok c.in-Some.is) in
+    let rows : length c.find_heard.new.totals ≡ length c.args.totals.now = c.find_heard.auto.totals ∙ c.loop-at.invariant.3 in
+    let sets : length c.find_heard.new.sets ≡ 290 = c.find_heard.auto.sets ∙ c.loop-at.invariant.2 in
     let diary : Accepted c.args.h.now = c.requires.diary in (
       collect_one c.loop-at.invariant.0 diary more c.makes_heard.ensures c.if-makes_heard.true c.sentence-s.ensures adds c.after-at.ensures,
-      c.find_heard-f.ensures.serves,
+      c.find_heard.ensures.serves,
       sets,
       rows,
       length-set c.loop-at.numbers c.loop-at.count _ ∙ c.loop-at.invariant.4,

@@ -1,19 +1,16 @@
-use mathlib.Core.Path.{refl, sym, ◌∙◌}
-use native.Mathlib.Omega.{arith}
-use native.Mathlib.Numerals.{add-one}
+-- `bad` meets its contract: some byte is neither.
+-- Assumes nothing.
+use mathlib.Core.Path.{◌∙◌}
+use borrow.Author.Rules.{rules}
+use borrow.Author.Tests.{tests}
+use Rattle.std.proofs.lemmas.Iterator.{YieldsList-from_slice}
+use Rattle.std.proofs.lemmas.Iterator.Search.{any_from_yields_List}
 use Rattle.sampling.specs.Pattern.{neither, bad_pattern}
-use Rattle.sampling.proofs.Blanks.{bad_here, bad_later, bad_none}
+use Rattle.sampling.proofs.Blanks.{any_some}
 use Rattle.sampling.proofs.pattern.bad.Goals as goal
 
-pub loop-p-init : goal.loop-p-init
-unfolding bad_pattern
-loop-p-init c = (omega arith, refl)
-
-pub returns-then-outside : goal.returns-then-outside
-returns-then-outside c = sym (sym c.loop-p.invariant.1 ∙ bad_here (neither _) c.loop-p.p _ (omega arith) (sym c.outside.ensures ∙ c.if-outside.true))
-
-pub loop-p-preserved : goal.loop-p-preserved
-loop-p-preserved c = (omega arith, rw add-one (bad_later (neither _) c.loop-p.p _ (omega arith) (sym c.outside.ensures ∙ c.if-outside.false) ∙ c.loop-p.invariant.1))
-
 pub returns : goal.returns
-returns c = sym (sym c.loop-p.invariant.1 ∙ bad_none (neither _) c.loop-p.p _ (omega arith))
+unfolding bad_pattern
+returns c =
+    any_from_yields_List (neither c.args.words) _ _ c.any.result c.any.ensures.ran (YieldsList-from_slice _ c.iter.ensures.rest) (λ x b q k. search (rules, tests))
+    ∙ any_some (neither c.args.words) c.args.pattern.now

@@ -1,13 +1,13 @@
--- `remaining` meets its contract: each array has room for the numbers.
+-- `remaining` meets its contract: each number of places is enough.
 -- Assumes nothing.
-use Rattle.sampling.proofs.Answering.{room_all, room_short, room_none}
+use Rattle.sampling.proofs.Answering.{places_all, places_short, places_none}
 use Rattle.sampling.proofs.remaining.remaining.Goals as goal
 
 pub remaining_in-requires : goal.remaining_in-requires
-remaining_in-requires c = room_none _ c.if-h-lt24.true
+remaining_in-requires c = places_none _ c.if-h-lt24.true
 
 pub remaining_in-requires-then-h-le2004 : goal.remaining_in-requires-then-h-le2004
-remaining_in-requires-then-h-le2004 c = room_short _ c.if-h-le2004.true
+remaining_in-requires-then-h-le2004 c = places_short _ c.if-h-le2004.true
 
-pub remaining_in-requires-2 : goal.remaining_in-requires-2
-remaining_in-requires-2 c = room_all _
+pub remaining_in-requires-else-h-le2004 : goal.remaining_in-requires-else-h-le2004
+remaining_in-requires-else-h-le2004 c = places_all _

@@ -1,13 +1,11 @@
--- `remaining_matching` meets its contract: either table has room for the pattern's chart and a sentence's.
+-- `remaining_matching` meets its contract: either number of rows is enough for the pattern's chart and a sentence's.
 -- Assumes nothing.
 use mathlib.Core.Path.{refl}
-use native.Mathlib.Omega.{arith}
-use Rattle.sampling.proofs.Readying.{behind_five, behind_room}
-use Rattle.sampling.proofs.Answering.{tables_matching}
+use Rattle.sampling.proofs.Answering.{rows_short, rows_all}
 use Rattle.sampling.proofs.remaining.remaining_matching.Goals as goal
 
 pub remaining_matching_by-requires : goal.remaining_matching_by-requires
-remaining_matching_by-requires c = tables_matching _ 48 (omega arith) refl (λ l. behind_five _ c.if-pattern-le5.true)
+remaining_matching_by-requires c = rows_short _ refl c.if-pattern-le5.true
 
-pub remaining_matching_by-requires-2 : goal.remaining_matching_by-requires-2
-remaining_matching_by-requires-2 c = tables_matching _ 290 (omega arith) refl (λ l. (behind_room _ l).2)
+pub remaining_matching_by-requires-else-pattern-le5 : goal.remaining_matching_by-requires-else-pattern-le5
+remaining_matching_by-requires-else-pattern-le5 c = rows_all _ refl

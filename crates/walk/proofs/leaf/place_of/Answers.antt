@@ -2,9 +2,6 @@ use native.Mathlib.Omega.{arith}
 use Rattle.walk.proofs.Linking.{linking_start, linking_low, linking_some, linking_end, linking_next}
 use Rattle.walk.proofs.leaf.place_of.Goals as goal
 
-pub link_at-l-requires : goal.link_at-l-requires
-link_at-l-requires c = let s = c.requires in (omega (arith, s.linked.long), s.low)
-
 pub loop-l-init : goal.loop-l-init
 loop-l-init c = linking_start c.requires c.link_at-l.ensures.0
 

@@ -1,21 +1,9 @@
 use native.Mathlib.Omega.{arith}
-use Rattle.walk.proofs.Leaves.{scanning_start, scanning_low, scanning_room, scanning_found, scanning_next}
+use Rattle.walk.proofs.Leaves.{scanning_low, scanning_room, scanning_found, scanning_next}
 use Rattle.walk.proofs.leaf.scan.Goals as goal
-
-pub words_from-i-requires : goal.words_from-i-requires
-words_from-i-requires c = let s = c.requires in (s.table.long, omega (arith, s.table.few, s.inside))
-
-pub loop-rest-init : goal.loop-rest-init
-loop-rest-init c = scanning_start c.requires c.words_from-i.ensures.0
 
 pub word_at-word-requires : goal.word_at-word-requires
 word_at-word-requires c = let s = c.requires in (s.table.long, omega (arith, scanning_low s c.loop-rest.invariant))
-
-pub weight-weight-requires : goal.weight-weight-requires
-weight-weight-requires c = c.requires.weights
-
-pub weight-measured-requires : goal.weight-measured-requires
-weight-measured-requires c e = omega (arith, (c.requires.measures e).long)
 
 pub returns-then-rest-weight : goal.returns-then-rest-weight
 returns-then-rest-weight c = scanning_found c.requires c.loop-rest.invariant c.word_at-word.ensures c.weight-weight.ensures.0 c.weight-measured.ensures.0 c.if-rest-weight.true

@@ -1,24 +1,19 @@
 -- `draw_in` meets its contract: where preparing is refused so is the call, and else the draw from what is prepared is the call's.
 -- Assumes nothing.
 use mathlib.Core.Path.{◌∙◌}
+use Rattle.answers.proofs.Results.{handed_on}
 use Rattle.charts.proofs.Mapping.{counts_map_lem}
-use Rattle.weighing.proofs.Preparing.{call_made, drawn_unready, parts_long, draw_served, drawn_ready}
+use Rattle.weighing.proofs.Preparing.{call_made, drawn_unready, draw_served, drawn_ready}
 use Rattle.weighing.proofs.draw.draw_in.Goals as goal
 
-pub prepare-p-requires : goal.prepare-p-requires
-prepare-p-requires c = call_made c.requires
-
-pub slice_bounds-draw_from-end-in-Ready : goal.slice_bounds-draw_from-end-in-Ready
-slice_bounds-draw_from-end-in-Ready c = (parts_long c.prepare-p.ensures c.in-Ready.is).0
-
-pub slice_bounds-draw_from-end-in-Ready-2 : goal.slice_bounds-draw_from-end-in-Ready-2
-slice_bounds-draw_from-end-in-Ready-2 c = (parts_long c.prepare-p.ensures c.in-Ready.is).1
+pub prepare-requires : goal.prepare-requires
+prepare-requires g c = call_made c.requires
 
 pub draw_from-requires : goal.draw_from-requires
-draw_from-requires c = (draw_served c.prepare-p.ensures c.in-Ready.is, counts_map_lem)
+draw_from-requires g c = (draw_served c.prepare.ensures c.in_ok-k.was, counts_map_lem)
 
-pub returns-in-Refused : goal.returns-in-Refused
-returns-in-Refused c = drawn_unready c.prepare-p.ensures c.in-Refused.is _ _
+pub returns-in_err-k : goal.returns-in_err-k
+returns-in_err-k g c = rw (handed_on c.from_residual.ensures.1) (drawn_unready c.prepare.ensures c.in_err-k.was _ _)
 
-pub returns-in-Ready : goal.returns-in-Ready
-returns-in-Ready c = c.draw_from.ensures ∙ drawn_ready c.prepare-p.ensures c.in-Ready.is _ _
+pub returns : goal.returns
+returns g c = c.draw_from.ensures ∙ drawn_ready c.prepare.ensures c.in_ok-k.was _ _

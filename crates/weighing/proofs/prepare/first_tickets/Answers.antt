@@ -2,21 +2,14 @@
 -- summed up.
 -- Assumes nothing.
 use mathlib.Core.Path.{refl}
-use native.Mathlib.Omega.{arith}
 use Rattle.lists.proofs.Tables.{wide_made}
-use Rattle.weighing.proofs.Firsts.{firsts_sum, firsts_ready, plan_low, firsts_collect, firsts_heard}
+use Rattle.weighing.proofs.Firsts.{firsts_ready, firsts_collect, firsts_heard}
 use Rattle.weighing.proofs.prepare.first_tickets.Goals as goal
-
-pub sum_up-requires : goal.sum_up-requires
-sum_up-requires c = firsts_sum c.requires.2.weighed
 
 pub ready-requires : goal.ready-requires
 ready-requires c =
     let s = c.requires.2 in
     firsts_ready s.weighed c.sum_up.ensures refl refl (wide_made 17 16 0) s.charts
-
-pub rows-requires : goal.rows-requires
-rows-requires c = (plan_low c.requires.2 c.sum_up.ensures c.ready.ensures, omega arith, c.ready.ensures.ready.long, c.ready.ensures.ready.wide)
 
 pub numbers_by-requires : goal.numbers_by-requires
 numbers_by-requires c = firsts_collect c.requires.2 c.sum_up.ensures c.ready.ensures c.rows.ensures

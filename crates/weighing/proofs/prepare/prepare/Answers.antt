@@ -1,120 +1,73 @@
 -- `prepare` meets its contract: what the grammar, the question and the weights are refused for, then the history's refusals, then 15; past them the tables,
 -- the first tickets and the sums.
 -- Assumes nothing.
-use Prim.Native.Nat.{◌≤◌}
+use Prim.Native.Nat.{ℕ, ◌-◌, ◌≤◌}
 use native.Mathlib.Omega.{arith}
-use lib.ListN.{length}
-use Rattle.grammar.specs.Inner.Rules.{Holds}
-use Rattle.charts.specs.Inner.Maps.{weights_map}
+use lib.ListN.{length, take}
+use Rattle.answers.proofs.Results.{handed_on}
 use Rattle.history.specs.Layout.{records_of}
 use Rattle.history.specs.Refusals.{Accepted}
 use Rattle.sampling.specs.Question.{plainly}
+use Rattle.sampling.specs.Inner.Collect.{spans_by}
 use Rattle.sampling.specs.Inner.Preparing.{DrawableBy, SampledBy}
+use Rattle.sampling.proofs.Answering.{prepared_case}
 use Rattle.weighing.specs.Weights.{weighs}
 use Rattle.weighing.specs.Weighted.{weighed_rows}
-use Rattle.weighing.specs.Inner.Preparing.{RecordsSought}
-use Rattle.sampling.proofs.Answering.{prepared_case}
-use Rattle.weighing.proofs.Preparing.{prepared_unweighed, prepared_sampled, prepared_unready, prepared_ready, sums_sought, sums_tell}
+use Rattle.weighing.specs.Inner.Sums.{SumsSought}
+use Rattle.weighing.specs.Inner.Preparing.{RecordsAs}
+use Rattle.charts.specs.Inner.Maps.{weights_map}
+use mathlib.Core.Path.{◌≡◌}
+use Rattle.std.specs.Prelude.{Ok}
+use Rattle.weighing.proofs.Preparing.{records_sought, prepared_unweighed, prepared_sampled, prepared_unready, prepared_ready, sums_sought, sums_tell}
 use Rattle.weighing.proofs.prepare.prepare.Goals as goal
+use Rattle.weighing.proofs.prepare.prepare.Goals.{After-records}
 
-pub returns-in-Refused : goal.returns-in-Refused
-returns-in-Refused c = prepared_unweighed c.weigh-p.ensures c.in-Refused.is c.requires.room.numbers_room
+-- ---- past 22 and the weights
 
-pub records-s-requires : goal.records-s-requires
-records-s-requires c =
-    let sought : let a = c.args in
-    RecordsSought a.g.now a.question.length a.weights.now c.weigh-p.new.rules c.weigh-p.new.totals a.h.now a.numbers.now a.sums.now = let r = c.requires.room in
-    let q = c.weigh-p.ensures.ready c.in-Ready.is in
-    record {
-      weighed = q;
-      room = r.numbers_room;
-      ends_room = r.sums_room;
-      charts = λ d some. omega (arith, r.charts d some q.tabled.counted.short, c.weigh-p.ensures.size);
-    } in
-    (_, _, sought)
+-- what is lent has room for the history
+numbers_room : (c : After-records) → Accepted c.args.h.now → records_of c.args.h.now ≤ length c.records.new.numbers
+numbers_room c d = omega (arith, c.records.auto.numbers, c.requires.room.numbers_room d)
 
-pub slice_bounds-fill-end : goal.slice_bounds-fill-end
-slice_bounds-fill-end c =
-    let room : Accepted c.args.h.now → records_of c.args.h.now ≤ length c.records-s.new.numbers = λ d. omega (arith, c.records-s.auto.numbers, c.requires.room.numbers_room d) in
-    let sought : let a = c.args in
-    RecordsSought a.g.now a.question.length a.weights.now c.weigh-p.new.rules c.weigh-p.new.totals a.h.now a.numbers.now a.sums.now = let r = c.requires.room in
-    let q = c.weigh-p.ensures.ready c.in-Ready.is in
-    record {
-      weighed = q;
-      room = r.numbers_room;
-      ends_room = r.sums_room;
-      charts = λ d some. omega (arith, r.charts d some q.tabled.counted.short, c.weigh-p.ensures.size);
-    } in
-    let sampled : SampledBy c.args.g.now c.args.h.now (plainly c.args.question.length c.args.question.voice) (weighs c.args.weights.now)
-    (weighed_rows c.args.g.now c.args.question.length c.args.question.voice c.args.weights.now)
-    c.records-s.new.rules c.records-s.new.totals weights_map c.records-s.new.numbers c.records-s.result = prepared_sampled c.weigh-p.ensures c.in-Ready.is room (c.records-s.ensures _ _ sought).recorded in
-    let drawable : let a = c.args in
-    DrawableBy a.g.now a.h.now (plainly a.question.length a.question.voice) (weighs a.weights.now)
-    (weighed_rows a.g.now a.question.length a.question.voice a.weights.now)
-    c.records-s.new.rules c.records-s.new.totals weights_map c.records-s.new.numbers c.in-Ready-s.k = prepared_case sampled c.in-Ready-s.is in
-    omega (arith, drawable.few, room drawable.diary)
+ends_room : (c : After-records) → Accepted c.args.h.now → records_of c.args.h.now ≤ length c.records.new.ends
+ends_room c d = omega (arith, c.records.auto.ends, c.requires.room.sums_room d)
+
+-- what the history is answered
+recorded : (c : After-records)
+    → RecordsAs c.weigh.new.rules c.args.h.now c.args.question.length c.args.question.voice c.args.weights.now c.records.new.rules c.records.new.totals c.records.new.numbers
+    c.records.new.ends c.records.result
+recorded c = c.records.ensures _ _ (records_sought c.weigh.ensures c.in_ok-weigh.was c.requires.room)
+
+sampled : (c : After-records) → let q = c.args.question in
+    SampledBy c.args.g.now c.args.h.now (plainly q.length q.voice) (weighs c.args.weights.now) (weighed_rows c.args.g.now q.length q.voice c.args.weights.now) c.records.new.rules
+    c.records.new.totals weights_map c.records.new.numbers c.records.result
+sampled c = prepared_sampled c.weigh.ensures c.in_ok-weigh.was (numbers_room c) (recorded c).recorded
+
+drawable : (c : After-records) {k : ℕ} → c.records.result ≡ Ok k → let q = c.args.question in
+    DrawableBy c.args.g.now c.args.h.now (plainly q.length q.voice) (weighs c.args.weights.now) (weighed_rows c.args.g.now q.length q.voice c.args.weights.now) c.records.new.rules
+    c.records.new.totals weights_map c.records.new.numbers k
+drawable c e = prepared_case (sampled c) e
+
+sums_asked : (c : After-records) {k : ℕ} → c.records.result ≡ Ok k
+    → SumsSought (spans_by c.args.g.now c.args.h.now c.args.question.length c.args.question.voice (weighs c.args.weights.now)) (take (k - 0) c.records.new.numbers) c.records.new.ends
+sums_asked c e =
+    sums_sought c.args.weights.now (drawable c e) (numbers_room c) (c.weigh.ensures.ready c.in_ok-weigh.was).tabled.holds (ends_room c) ((recorded c).ended _ e)
+
+-- ---- the answers
+
+pub returns-in_err-weigh : goal.returns-in_err-weigh
+returns-in_err-weigh c =
+    rw (handed_on c.from_residual.ensures.1) (prepared_unweighed c.weigh.ensures c.in_err-weigh.was c.requires.room.numbers_room)
+
+pub returns-in_err-k : goal.returns-in_err-k
+returns-in_err-k c = rw (handed_on c.from_residual-in_err-k.ensures.1) (prepared_unready (sampled (goal.at.returns-in_err-k c).After-records) c.in_err-k.was)
 
 pub fill-requires : goal.fill-requires
-fill-requires c =
-    let room : Accepted c.args.h.now → records_of c.args.h.now ≤ length c.records-s.new.numbers = λ d. omega (arith, c.records-s.auto.numbers, c.requires.room.numbers_room d) in
-    let sought : let a = c.args in
-    RecordsSought a.g.now a.question.length a.weights.now c.weigh-p.new.rules c.weigh-p.new.totals a.h.now a.numbers.now a.sums.now = let r = c.requires.room in
-    let q = c.weigh-p.ensures.ready c.in-Ready.is in
-    record {
-      weighed = q;
-      room = r.numbers_room;
-      ends_room = r.sums_room;
-      charts = λ d some. omega (arith, r.charts d some q.tabled.counted.short, c.weigh-p.ensures.size);
-    } in
-    let sampled : SampledBy c.args.g.now c.args.h.now (plainly c.args.question.length c.args.question.voice) (weighs c.args.weights.now)
-    (weighed_rows c.args.g.now c.args.question.length c.args.question.voice c.args.weights.now)
-    c.records-s.new.rules c.records-s.new.totals weights_map c.records-s.new.numbers c.records-s.result = prepared_sampled c.weigh-p.ensures c.in-Ready.is room (c.records-s.ensures _ _ sought).recorded in
-    let drawable : let a = c.args in
-    DrawableBy a.g.now a.h.now (plainly a.question.length a.question.voice) (weighs a.weights.now)
-    (weighed_rows a.g.now a.question.length a.question.voice a.weights.now)
-    c.records-s.new.rules c.records-s.new.totals weights_map c.records-s.new.numbers c.in-Ready-s.k = prepared_case sampled c.in-Ready-s.is in
-    let ends_room : Accepted c.args.h.now → records_of c.args.h.now ≤ length c.records-s.new.ends = λ d. omega (arith, c.records-s.auto.ends, c.requires.room.sums_room d) in
-    let holds : Holds c.args.g.now c.weigh-p.new.rules = (c.weigh-p.ensures.ready c.in-Ready.is).tabled.holds in
-    (_, sums_sought c.args.weights.now drawable room holds ends_room ((c.records-s.ensures _ _ sought).ended _ c.in-Ready-s.is))
+fill-requires c = (_, sums_asked (goal.at.fill-requires c).After-records c.in_ok-k.was)
 
-pub returns-in-Refused-s : goal.returns-in-Refused-s
-returns-in-Refused-s c =
-    let room : Accepted c.args.h.now → records_of c.args.h.now ≤ length c.records-s.new.numbers = λ d. omega (arith, c.records-s.auto.numbers, c.requires.room.numbers_room d) in
-    let sought : let a = c.args in
-    RecordsSought a.g.now a.question.length a.weights.now c.weigh-p.new.rules c.weigh-p.new.totals a.h.now a.numbers.now a.sums.now = let r = c.requires.room in
-    let q = c.weigh-p.ensures.ready c.in-Ready.is in
-    record {
-      weighed = q;
-      room = r.numbers_room;
-      ends_room = r.sums_room;
-      charts = λ d some. omega (arith, r.charts d some q.tabled.counted.short, c.weigh-p.ensures.size);
-    } in
-    let sampled : SampledBy c.args.g.now c.args.h.now (plainly c.args.question.length c.args.question.voice) (weighs c.args.weights.now)
-    (weighed_rows c.args.g.now c.args.question.length c.args.question.voice c.args.weights.now)
-    c.records-s.new.rules c.records-s.new.totals weights_map c.records-s.new.numbers c.records-s.result = prepared_sampled c.weigh-p.ensures c.in-Ready.is room (c.records-s.ensures _ _ sought).recorded in
-    prepared_unready sampled c.in-Refused-s.is
-
-pub returns-in-Ready-s : goal.returns-in-Ready-s
-returns-in-Ready-s c =
-    let room : Accepted c.args.h.now → records_of c.args.h.now ≤ length c.records-s.new.numbers = λ d. omega (arith, c.records-s.auto.numbers, c.requires.room.numbers_room d) in
-    let sought : let a = c.args in
-    RecordsSought a.g.now a.question.length a.weights.now c.weigh-p.new.rules c.weigh-p.new.totals a.h.now a.numbers.now a.sums.now = let r = c.requires.room in
-    let q = c.weigh-p.ensures.ready c.in-Ready.is in
-    record {
-      weighed = q;
-      room = r.numbers_room;
-      ends_room = r.sums_room;
-      charts = λ d some. omega (arith, r.charts d some q.tabled.counted.short, c.weigh-p.ensures.size);
-    } in
-    let sampled : SampledBy c.args.g.now c.args.h.now (plainly c.args.question.length c.args.question.voice) (weighs c.args.weights.now)
-    (weighed_rows c.args.g.now c.args.question.length c.args.question.voice c.args.weights.now)
-    c.records-s.new.rules c.records-s.new.totals weights_map c.records-s.new.numbers c.records-s.result = prepared_sampled c.weigh-p.ensures c.in-Ready.is room (c.records-s.ensures _ _ sought).recorded in
-    let drawable : let a = c.args in
-    DrawableBy a.g.now a.h.now (plainly a.question.length a.question.voice) (weighs a.weights.now)
-    (weighed_rows a.g.now a.question.length a.question.voice a.weights.now)
-    c.records-s.new.rules c.records-s.new.totals weights_map c.records-s.new.numbers c.in-Ready-s.k = prepared_case sampled c.in-Ready-s.is in
-    let ends_room : Accepted c.args.h.now → records_of c.args.h.now ≤ length c.records-s.new.ends = λ d. omega (arith, c.records-s.auto.ends, c.requires.room.sums_room d) in
-    let holds : Holds c.args.g.now c.weigh-p.new.rules = (c.weigh-p.ensures.ready c.in-Ready.is).tabled.holds in
-    let ended = (c.records-s.ensures _ _ sought).ended _ c.in-Ready-s.is in
-    prepared_ready sampled c.in-Ready-s.is
-    (sums_tell c.args.weights.now drawable room holds ends_room ended (c.fill.ensures _ (sums_sought c.args.weights.now drawable room holds ends_room ended)))
+pub returns : goal.returns
+returns c =
+    let p = (goal.at.returns c).After-records in
+    let e = c.in_ok-k.was in
+    prepared_ready (sampled p) e
+    (sums_tell c.args.weights.now (drawable p e) (numbers_room p) (c.weigh.ensures.ready c.in_ok-weigh.was).tabled.holds (ends_room p) ((recorded p).ended _ e)
+    (c.fill.ensures _ (sums_asked p e)))

@@ -1,9 +1,9 @@
--- `refusal` meets its contract: 10 applies where the counts don't fit, and else 24 or 25. Assumes nothing.
+-- `refusal` meets its contract: 10 applies where the counts don't fit, and else the refusal that is known to. Assumes nothing.
 use native.Mathlib.Omega.{arith}
 use Rattle.lists.proofs.Tables.{wide_made, made_entry}
 use Rattle.counting.specs.Inner.Letters.{any}
 use Rattle.counting.proofs.Besides.{alone}
-use Rattle.weighing.proofs.Asking.{told_large, told_bad, told_heavy}
+use Rattle.weighing.proofs.Asking.{told_large, told_known}
 use Rattle.weighing.proofs.prepare.refusal.Goals as goal
 
 pub fill-requires : goal.fill-requires
@@ -12,11 +12,8 @@ fill-requires c =
     alone any (λ z. absurd (omega arith))
     (record { table = p.0; some = p.1; short = p.2; long = omega arith; wide = wide_made 17 32 0; zeros = λ r A h. made_entry 17 32 r A })
 
-pub returns-then-not-fill : goal.returns-then-not-fill
-returns-then-not-fill c = told_large _ c.fill.ensures.own c.if-not-fill.true
+pub returns-then-fill : goal.returns-then-fill
+returns-then-fill c = told_known _ c.fill.ensures.own c.if-fill.true
 
-pub returns-then-bad : goal.returns-then-bad
-returns-then-bad c = told_bad _ c.fill.ensures.own c.if-not-fill.false c.if-bad.true
-
-pub returns : goal.returns
-returns c = told_heavy _ c.fill.ensures.own c.if-not-fill.false c.if-bad.false
+pub returns-else-fill : goal.returns-else-fill
+returns-else-fill c = told_large _ c.fill.ensures.own c.if-fill.false

@@ -1,25 +1,20 @@
-use mathlib.Core.Path.{refl, sym, ◌∙◌}
-use native.Mathlib.Omega.{arith}
-use native.Mathlib.Numerals.{add-one}
+-- `bad` meets its contract: they are not one for each word, or some weight is 0.
+-- Assumes nothing.
+use mathlib.Core.Path.{◌≡◌, refl, sym, ◌∙◌}
+use mathlib.Core.Bool.{false}
 use borrow.Author.Tests.{eq-eqb, ne_eqb}
 use lib.Dec.{eqb}
-use Rattle.sampling.proofs.Blanks.{bad_here, bad_later, bad_none}
+use lib.ListN.{length}
+use Rattle.sampling.proofs.Blanks.{any_some}
 use Rattle.weighing.specs.Weights.{bad_weights}
 use Rattle.weighing.proofs.weights.bad.Goals as goal
 
-pub returns-then-weights-words : goal.returns-then-weights-words
+pub returns-then-weights-from : goal.returns-then-weights-from
 unfolding bad_weights
-returns-then-weights-words c = rw (ne_eqb _ _ c.if-weights-words.true)
+returns-then-weights-from c =
+    let e : eqb (length c.args.weights.now) c.args.words ≡ false = ne_eqb _ _ (λ h. c.if-weights-from.true (h ∙ sym c.from.ensures)) in
+    rw (c.from.ensures, e) refl
 
-pub loop-w-init : goal.loop-w-init
+pub returns-else-weights-from : goal.returns-else-weights-from
 unfolding bad_weights
-loop-w-init c = (omega arith, rw (eq-eqb _ _ c.if-weights-words.false) refl)
-
-pub returns-then-weights-w-eq0 : goal.returns-then-weights-w-eq0
-returns-then-weights-w-eq0 c = sym (sym c.loop-w.invariant.1 ∙ bad_here (λ x. eqb x 0) c.loop-w.w _ (omega arith) (eq-eqb _ 0 c.if-weights-w-eq0.true))
-
-pub loop-w-preserved : goal.loop-w-preserved
-loop-w-preserved c = (omega arith, rw add-one (bad_later (λ x. eqb x 0) c.loop-w.w _ (omega arith) (ne_eqb _ 0 c.if-weights-w-eq0.false) ∙ c.loop-w.invariant.1))
-
-pub returns : goal.returns
-returns c = sym (sym c.loop-w.invariant.1 ∙ bad_none (λ x. eqb x 0) c.loop-w.w _ (omega arith))
+returns-else-weights-from c = rw (eq-eqb _ _ (c.if-weights-from.false ∙ c.from.ensures)) (c.contains.ensures.value ∙ any_some (λ x. eqb x 0) c.args.weights.now)

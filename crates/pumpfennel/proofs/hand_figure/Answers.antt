@@ -1,0 +1,12 @@
+-- `hand_figure` meets its contract, case by case of the answer.
+-- Assumes nothing.
+use mathlib.Core.Path.{refl}
+use Rattle.pumpfennel.specs.Inner.Says.{figure_says}
+use Rattle.pumpfennel.proofs.Cases.{answered}
+use Rattle.pumpfennel.proofs.hand_figure.Goals as goal
+
+pub returns-in-Ok : goal.returns-in-Ok
+returns-in-Ok c out = answered (λ a. figure_says a out) _ _ refl c.in-Ok.is refl refl
+
+pub returns-in-Err : goal.returns-in-Err
+returns-in-Err c out = answered (λ a. figure_says a out) _ _ refl c.in-Err.is refl c.from.ensures
