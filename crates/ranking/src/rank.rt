@@ -52,29 +52,17 @@ pub fn derivations(
     node.total(totals, map)
 }
 
-// The tickets of a sentence's first derivation by a measure. The sentence's letters choose, so that their ticket 0 is the first's.
-pub fn place(
-    rules: &[[u8; 256]],
-    totals: &[[u64; 32]],
-    letters: &[[u16; 16]; 17],
-    measure: &[[u16; 16]; 17],
-    n: usize,
-) -> Span
-    requires { (s : List ℕ) × PlaceSought rules.now totals.now letters.now measure.now n s }
-    ensures { (s : List ℕ) → PlaceSought rules.now totals.now letters.now measure.now n s → PlacedAs rules.now measure.now s result.first result.weight }
+// The tickets of a sentence's first derivation by a measure. The sentence's letters are what chooses, so that their ticket 0 is the first's.
+pub fn place(tables: &Tables<'_>, n: usize) -> Span
+    requires { (s : List ℕ) × PlaceSought tables.now.rules.now tables.now.totals.now tables.now.choice.now tables.now.measure.now n s }
+    ensures { (s : List ℕ) → PlaceSought tables.now.rules.now tables.now.totals.now tables.now.choice.now tables.now.measure.now n s → PlacedAs tables.now.rules.now tables.now.measure.now s result.first result.weight }
 {
     let node = Node {
-        a: rules::start(rules),
+        a: rules::start(tables.rules),
         p: 0,
         m: n,
     };
     let mut words = [0u8; 16];
-    let tables = Tables {
-        rules,
-        totals,
-        choice: letters,
-        measure,
-    };
     let f = tables.choose(node, 0, &mut words[0..n]);
     Span {
         first: f.place,
@@ -103,7 +91,13 @@ fn number_by(
         return Err(Refusal::SentenceUnderivable);
     }
     let counts = maps::EVERYWHERE;
-    let d = place(rules, totals, &map, &counts, n);
+    let tables = Tables {
+        rules,
+        totals,
+        choice: &map,
+        measure: &counts,
+    };
+    let d = place(&tables, n);
     Ok(Ranked {
         lowest: DerivationNumber(d.first),
         total: unrank::count(rules, totals, n),

@@ -9,8 +9,9 @@ ghost use Rattle.sampling.specs.Inner.Collect.{Collects};
 ghost use Rattle.sampling.specs.Inner.Patterns.{behind_of};
 ghost use Rattle.sampling.specs.Inner.Preparing.{AskedAs, OrderedAs, NumbersBy, NumbersSought, NumbersAs, FittingSought, FittedAs, RecordsSought, MatchingSought, RecordedAs, Lent, LentMatching, SampledAs};
 
+use crate::heard::Sources;
+use crate::pattern;
 use crate::question::Question;
-use crate::{heard, pattern};
 use answers::refusal::Refusal;
 use charts::{maps, plan, ready};
 use counting::letters::ANY;
@@ -45,22 +46,18 @@ fn order_first(numbers: &mut [u64], k: usize) -> usize
 
 // The places of the heard derivations, rising, each once, with the tables for the charts of their sentences. Where room is lent for it, where they end.
 pub fn numbers_by(
-    rules: &[[u8; 256]],
-    plan: &[[u32; 32]; 4],
+    sources: &Sources<'_>,
     map: &mut [[u16; 16]; 17],
-    measure: &[[u16; 16]; 17],
     h: &[u8],
     question: Question,
     totals: &mut [[u64; 32]],
     numbers: &mut [u64],
     ends: &mut [u64],
 ) -> Result<usize, Refusal>
-    requires { Collects rules.now plan.now map.old measure.now h.now question.length totals.old numbers.old }
-    ensures { NumbersBy rules.now plan.now measure.now h.now question.length question.voice totals.new numbers.new ends.new result }
+    requires { Collects sources.now.rules.now sources.now.plan.now map.old sources.now.measure.now h.now question.length totals.old numbers.old }
+    ensures { NumbersBy sources.now.rules.now sources.now.plan.now sources.now.measure.now h.now question.length question.voice totals.new numbers.new ends.new result }
 {
-    let k = heard::collect(
-        rules, plan, map, measure, h, question, totals, numbers, ends,
-    )?;
+    let k = sources.collect(map, h, question, totals, numbers, ends)?;
     let m = order_first(numbers, k);
     order_first(ends, k);
     Ok(m)
@@ -87,8 +84,13 @@ fn heard_numbers_in<const ROWS: usize>(
     ready::ready(&mut linked, &chart, n, &mut plan, &mut map);
     let counts = maps::EVERYWHERE;
     let mut ends = [0u64; 0];
+    let sources = Sources {
+        rules: &linked,
+        plan: &plan,
+        measure: &counts,
+    };
     numbers_by(
-        &linked, &plan, &mut map, &counts, h, question, &mut chart, numbers, &mut ends,
+        &sources, &mut map, h, question, &mut chart, numbers, &mut ends,
     )
 }
 
@@ -140,9 +142,12 @@ fn fitting_numbers(
     let mut map = [[0u16; 16]; 17];
     plan::rows(&plan, behind(question.length), &mut map);
     let mut ends = [0u64; 0];
-    numbers_by(
-        rules, &plan, &mut map, choice, h, question, totals, numbers, &mut ends,
-    )
+    let sources = Sources {
+        rules,
+        plan: &plan,
+        measure: choice,
+    };
+    numbers_by(&sources, &mut map, h, question, totals, numbers, &mut ends)
 }
 
 // 11 to 15. Without a pattern no chart is made for a history without records.

@@ -14,6 +14,7 @@ use counting::letters::{ANY, WEIGHED};
 use counting::{prepare as tables, tallies};
 use grammar::fields;
 use history::checks;
+use sampling::heard::Sources;
 use sampling::prepare;
 use sampling::question::Question;
 
@@ -74,9 +75,12 @@ fn first_tickets(
     ready::ready(rules, totals, question.length as usize, &mut plan, &mut map);
     plan::rows(&plan, BEHIND_WEIGHTS, &mut map);
     let measure = maps::BY_WEIGHT;
-    prepare::numbers_by(
-        rules, &plan, &mut map, &measure, h, question, totals, numbers, ends,
-    )
+    let sources = Sources {
+        rules,
+        plan: &plan,
+        measure: &measure,
+    };
+    prepare::numbers_by(&sources, &mut map, h, question, totals, numbers, ends)
 }
 
 // 11 to 15. No chart is made for a history without records.

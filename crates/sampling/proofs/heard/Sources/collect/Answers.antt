@@ -10,7 +10,7 @@ use Rattle.sampling.specs.Inner.Collect.{Adds}
 use Rattle.sampling.proofs.Collect.{collect_start, collect_end, collect_inside, collect_less, collect_room, collect_unheard, collect_many, collect_none, collect_one, serves_start, added_case, serves_still}
 use Rattle.answers.proofs.Results.{handed_on}
 use Rattle.std.specs.Prelude.{Some, Ok}
-use Rattle.sampling.proofs.heard.collect.Goals as goal
+use Rattle.sampling.proofs.heard.Sources.collect.Goals as goal
 
 pub first-at-requires : goal.first-at-requires
 first-at-requires c = c.requires.diary
@@ -98,7 +98,7 @@ bounds-numbers-count c =
 
 pub note-requires : goal.note-requires
 note-requires c =
-    let adds : Adds c.args.rules.now (weighs c.args.rules.now c.args.measure.now) c.args.question.length c.sentence-s.result.now (Ok (Some c.in-Some.d))
+    let adds : Adds c.args.self.now.rules.now (weighs c.args.self.now.rules.now c.args.self.now.measure.now) c.args.question.length c.sentence-s.result.now (Ok (Some c.in-Some.d))
     = added_case c.requires.planned c.find_heard.ensures (c.in_ok-found.was ∙ ap Ok c.in-Some.is) in
     adds.2
 
@@ -121,7 +121,7 @@ loop-at-smaller-in-Some c =
 pub loop-at-preserved-in-Some : goal.loop-at-preserved-in-Some
 loop-at-preserved-in-Some c =
     let more : c.loop-at.at ≡ 0 → ⊥ = λ z. omega arith in
-    let adds : Adds c.args.rules.now (weighs c.args.rules.now c.args.measure.now) c.args.question.length c.sentence-s.result.now (Ok (Some c.in-Some.d))
+    let adds : Adds c.args.self.now.rules.now (weighs c.args.self.now.rules.now c.args.self.now.measure.now) c.args.question.length c.sentence-s.result.now (Ok (Some c.in-Some.d))
     = added_case c.requires.planned c.find_heard.ensures (c.in_ok-found.was ∙ ap Ok c.in-Some.is) in
     let rows : length c.find_heard.new.totals ≡ length c.args.totals.now = c.find_heard.auto.totals ∙ c.loop-at.invariant.3 in
     let sets : length c.find_heard.new.sets ≡ 290 = c.find_heard.auto.sets ∙ c.loop-at.invariant.2 in

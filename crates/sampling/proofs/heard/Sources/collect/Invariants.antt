@@ -9,15 +9,15 @@ use Rattle.history.specs.Layout.{records_of}
 use Rattle.history.specs.Chain.{numbers_from}
 use Rattle.sampling.specs.Inner.Collect.{beginning, ending, Serves}
 use Rattle.sampling.proofs.Collect.{Collecting}
-use Rattle.sampling.proofs.heard.collect.Given as goal
+use Rattle.sampling.proofs.heard.Sources.collect.Given as goal
 
 abbrev pub invariant-loop-at : goal.invariant-loop-at
-invariant-loop-at l = Collecting l.rules (weighs l.rules l.measure) beginning l.h l.question.length l.question.voice l.numbers l.at l.count
-    × Serves l.rules l.plan l.map l.measure l.sets l.totals
+invariant-loop-at l = Collecting l.self.rules.now (weighs l.self.rules.now l.self.measure.now) beginning l.h l.question.length l.question.voice l.numbers l.at l.count
+    × Serves l.self.rules.now l.self.plan.now l.map l.self.measure.now l.sets l.totals
     × (length l.sets ≡ 290)
     × (length l.totals ≡ length l.initial.totals)
     × (length l.numbers ≡ length l.initial.numbers)
-    × (records_of l.h ≤ length l.initial.ends → Collecting l.rules (weighs l.rules l.measure) ending l.h l.question.length l.question.voice l.ends l.at l.count)
+    × (records_of l.h ≤ length l.initial.ends → Collecting l.self.rules.now (weighs l.self.rules.now l.self.measure.now) ending l.h l.question.length l.question.voice l.ends l.at l.count)
     × (length l.ends ≡ length l.initial.ends)
 
 abbrev pub decreases-loop-at : goal.decreases-loop-at
