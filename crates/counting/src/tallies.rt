@@ -120,11 +120,10 @@ fn add_pair<C: Counts>(
     requires beside { HalvesBeside totals.now (C.table counts) b c m before.0 before.1 }
     ensures { BothAs (before.0 + part_sum (count_at totals.now) b c m to) (before.1 + part_sum (count_at (C.table counts)) b c m to) result }
 {
-    let passed = (m - 1).saturating_sub(longest_at(totals, c) as usize);
+    let first = m - (m - 1).min(longest_at(totals, c) as usize);
     let last = to.min(longest_at(totals, b) as usize);
     let (mut total, mut count) = before;
-    for j in passed..last {
-        let k = j + 1;
+    for k in first..last + 1 {
         total = add_product(total, count_at(totals, b, k), count_at(totals, c, m - k))?;
         count = counts.add(count, b, c, m, k);
     }

@@ -3,35 +3,35 @@ use native.Mathlib.Omega.{arith}
 use Rattle.counting.proofs.PairSums.{halves_end, adding_start, adding_step, adding_past, adding_end, counts_end, less_added}
 use Rattle.counting.proofs.tallies.add_pair.Goals as goal
 
-pub loop-j-init : goal.loop-j-init
-loop-j-init g c =
+pub loop-k-init : goal.loop-k-init
+loop-k-init g c =
     let h = c.requires in
     (adding_start (halves_end h.halves) (omega arith), adding_start (counts_end h.halves h.beside) (omega arith), h.beside.less)
 
 pub returns-in_err-total : goal.returns-in_err-total
 returns-in_err-total g c =
     rw c.from_residual.ensures
-    (adding_past (halves_end c.requires.halves) c.loop-j.invariant.0 (omega arith) c.count_at.ensures c.count_at-in-loop-j.ensures c.in_err-total.ensures)
+    (adding_past (halves_end c.requires.halves) c.loop-k.invariant.0 (omega arith) c.count_at.ensures c.count_at-in-loop-k.ensures c.in_err-total.ensures)
 
 pub add-count-requires : goal.add-count-requires
 add-count-requires g c =
     let h = c.requires in
-    let less = less_added h.halves h.beside c.loop-j.invariant.2 (omega arith) (omega arith) c.count_at.ensures c.count_at-in-loop-j.ensures refl refl c.in_ok-total.ensures in
+    let less = less_added h.halves h.beside c.loop-k.invariant.2 (omega arith) (omega arith) c.count_at.ensures c.count_at-in-loop-k.ensures refl refl c.in_ok-total.ensures in
     (h.beside.long, h.halves.left, h.halves.right, h.halves.short, omega arith, omega (arith, less))
 
-pub loop-j-preserved : goal.loop-j-preserved
-loop-j-preserved g c =
+pub loop-k-preserved : goal.loop-k-preserved
+loop-k-preserved g c =
     let h = c.requires in
-    let less = less_added h.halves h.beside c.loop-j.invariant.2 (omega arith) (omega arith) c.count_at.ensures c.count_at-in-loop-j.ensures refl refl c.in_ok-total.ensures in (
-      adding_step (halves_end h.halves) c.loop-j.invariant.0 (omega arith) c.count_at.ensures c.count_at-in-loop-j.ensures c.in_ok-total.ensures,
-      adding_step (counts_end h.halves h.beside) c.loop-j.invariant.1 (omega arith) refl refl c.add-count.ensures,
+    let less = less_added h.halves h.beside c.loop-k.invariant.2 (omega arith) (omega arith) c.count_at.ensures c.count_at-in-loop-k.ensures refl refl c.in_ok-total.ensures in (
+      adding_step (halves_end h.halves) c.loop-k.invariant.0 (omega arith) c.count_at.ensures c.count_at-in-loop-k.ensures c.in_ok-total.ensures,
+      adding_step (counts_end h.halves h.beside) c.loop-k.invariant.1 (omega arith) refl refl c.add-count.ensures,
       omega (arith, less, c.add-count.ensures),
     )
 
 pub returns : goal.returns
 returns g c =
     let h = c.requires in (
-      adding_end (halves_end h.halves) c.loop-j.invariant.0 {last = c.min-last.result} (omega arith) (omega arith),
-      adding_end (counts_end h.halves h.beside) c.loop-j.invariant.1 {last = c.min-last.result} (omega arith) (omega arith),
-      c.loop-j.invariant.2,
+      adding_end (halves_end h.halves) c.loop-k.invariant.0 c.loop-k-test.false (omega arith),
+      adding_end (counts_end h.halves h.beside) c.loop-k.invariant.1 c.loop-k-test.false (omega arith),
+      c.loop-k.invariant.2,
     )
