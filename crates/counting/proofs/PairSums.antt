@@ -1,7 +1,7 @@
 -- One pair rule's sum, with the steps of 001's formula 4a: a product more, the loop over the left lengths, and what the rule has added after
 -- each of them, with the totals in place of the table's entries. The halves of what is asked for are asked for, so their counts are in the table.
 -- Assumes nothing.
-use mathlib.Core.Path.{◌≡◌, ap, ◌∙◌}
+use mathlib.Core.Path.{◌≡◌, refl, ap, ◌∙◌}
 use mathlib.Core.List.{List}
 use Prim.Native.Nat.{ℕ, ◌+◌, ◌*◌, ◌-◌, ◌≤◌, ◌<◌}
 use native.Mathlib.Omega.{arith}
@@ -51,7 +51,7 @@ halves_end h = record { bound = h.bound; left_over = h.left_over; right_over = h
 
 module _ {count : ℕ → ℕ → ℕ} {B C m to p q before : ℕ} (h : Ends count B C m to p q) where
   -- left lengths at which the right half is longer than its longest derivation have added nothing
-  pub adding_start : {k : ℕ} → k ≡ m - min (m - 1) q → Adding count B C m to before k before
+  pub adding_start : {k : ℕ} → k ≡ m - 1 - q + 1 → Adding count B C m to before k before
   adding_start {k} e =
       let none : (i : ℕ) → 1 ≤ i → i < k → count C (m - i) ≡ 0 = λ i l u. h.right_over (m - i) (omega arith) (omega arith) in
       record {
@@ -87,6 +87,10 @@ module _ {count : ℕ → ℕ → ℕ} {B C m to p q before : ℕ} (h : Ends cou
 
       pub adding_past : most < sum + x * y → most < before + part_sum count B C m to
       adding_past f = omega (arith, w.added, one_more, run_le (product count B C m) 1 k to l, f)
+
+  -- and where these leave no left length, nothing is added
+  pub adding_none : {last : ℕ} → last ≤ m - 1 - q → last ≡ min to p → before ≡ before + part_sum count B C m to
+  adding_none l e = adding_end (adding_start refl) (omega arith) e
 
 -- ---- the counts beside it
 

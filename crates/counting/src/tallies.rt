@@ -120,10 +120,15 @@ fn add_pair<C: Counts>(
     requires beside { HalvesBeside totals.now (C.table counts) b c m before.0 before.1 }
     ensures { BothAs (before.0 + part_sum (count_at totals.now) b c m to) (before.1 + part_sum (count_at (C.table counts)) b c m to) result }
 {
-    let first = m - (m - 1).min(longest_at(totals, c) as usize);
+    // Up to `over` the right half is longer than its longest derivation; past `last` the left half is, or the bound ends. Where no length is between them,
+    // as for many rules and lengths, the loop is not begun: an empty one took half as much time again.
+    let over = (m - 1).saturating_sub(longest_at(totals, c) as usize);
     let last = to.min(longest_at(totals, b) as usize);
+    if last <= over {
+        return Some(before);
+    }
     let (mut total, mut count) = before;
-    for k in first..last + 1 {
+    for k in over + 1..last + 1 {
         total = add_product(total, count_at(totals, b, k), count_at(totals, c, m - k))?;
         count = counts.add(count, b, c, m, k);
     }

@@ -5,18 +5,19 @@
 
 mod meanings;
 
-ghost use Rattle.std.specs.Prelude.{[], ◌≤◌, length, IfOk};
+ghost use Rattle.std.specs.Prelude.{[], ◌+◌, ◌≤◌, length, IfOk};
+ghost use Rattle.arrayvec.specs.ArrayString.{array_string_len};
 ghost use Rattle.charts.specs.Inner.Maps.{counts_map};
 ghost use Rattle.sampling.specs.Inner.Drawing.{DrawSought};
 
 use answers::refusal::Refusal;
 use arrayvec::ArrayString;
+use itoa::Buffer;
 use ranking::unrank;
 use ranking::unrank::DerivationNumber;
 use sampling::question::Question;
 use sampling::skip::DrawNumber;
 use sampling::{draw, prepare};
-use std::fmt::Write;
 use std::io::{Eprint, Print, Read};
 use std::rt::{Stderr, Stdin, Stdout};
 use std::{fmt, io};
@@ -38,15 +39,24 @@ fn print_refusal(to: Stdout, err: Stderr, r: Refusal) -> io::Result<()> {
 // Lines that are still to be written.
 type Lines = ArrayString<4096>;
 
-// A draw's line has at most 106 bytes, so that it fits wherever there is this much room.
+// They are written out where there is less room.
 const ROOM: usize = 512;
 
-fn put_draw(lines: &mut Lines, q: DrawNumber, d: DerivationNumber, words: &[u8]) -> fmt::Result {
-    write!(lines, "{} {}", q.0, d.0)?;
+// A draw's line has at most 106 bytes: two numbers of up to twenty digits, and sixteen words of up to three.
+fn put_draw(lines: &mut Lines, q: DrawNumber, d: DerivationNumber, words: &[u8])
+    requires { (array_string_len lines.old + 106 ≤ 4096) × (length words.now ≤ 16) }
+    ensures { array_string_len lines.new ≤ array_string_len lines.old + 106 }
+{
+    // Stays: `write!` doesn't promise that it succeeds where there is room.
+    let mut digits = Buffer::new();
+    lines.push_str(digits.format(q.0));
+    lines.push_str(" ");
+    lines.push_str(digits.format(d.0));
     for w in words {
-        write!(lines, " {w}")?;
+        lines.push_str(" ");
+        lines.push_str(digits.format(*w));
     }
-    writeln!(lines)
+    lines.push_str("\n");
 }
 
 // The figures, and a line for each draw, none past draw 999. No draw below left is refused.
@@ -72,7 +82,7 @@ fn print_list(
         }
         let q = DrawNumber(q);
         if let Ok(drawn) = draw::draw_prepared(rules, totals, n, heard, q, &mut words) {
-            put_draw(&mut lines, q, drawn.number, &words[..n])?;
+            put_draw(&mut lines, q, drawn.number, &words[..n]);
         }
     }
     to.write_all(lines.as_bytes())

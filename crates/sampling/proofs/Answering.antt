@@ -125,6 +125,9 @@ room_short h l d = omega (arith, (known h d).sized.size)
 pub record_none : (h : List ℕ) → length h < 24 → history.Accepted h → records_of h < 1
 record_none h l d = omega (arith, (known h d).sized.size)
 
+pub room_none : (h : List ℕ) → length h < 24 → Room h (replicate 1 0)
+room_none h l d = omega (arith, record_none h l d)
+
 pub places_all : (h : List ℕ) → PlacesFor h 1000
 places_all h = record { room = room_all h; few = omega arith }
 
@@ -132,7 +135,7 @@ pub places_short : (h : List ℕ) → length h ≤ 2004 → PlacesFor h 100
 places_short h l = record { room = room_short h l; few = omega arith }
 
 pub places_none : (h : List ℕ) → length h < 24 → PlacesFor h 1
-places_none h l = record { room = λ d. omega (arith, record_none h l d); few = omega arith }
+places_none h l = record { room = room_none h l; few = omega arith }
 
 pub refused_unready : {r : Refusal} {k : ℕ} → ◌≡◌ {A = Result ℕ Refusal} (Err r) (Ok k) → ⊥
 refused_unready e = let q : ◌≡◌ {A = ℕ} 0 1 = cc in omega arith

@@ -1,7 +1,15 @@
 use mathlib.Core.Path.{refl}
+use Prim.Native.Nat.{◌-◌, ◌≤◌}
 use native.Mathlib.Omega.{arith}
-use Rattle.counting.proofs.PairSums.{halves_end, adding_start, adding_step, adding_past, adding_end, counts_end, less_added}
+use Rattle.counting.specs.Inner.Counted.{longest_at}
+use Rattle.counting.proofs.PairSums.{halves_end, adding_start, adding_step, adding_past, adding_end, adding_none, counts_end, less_added}
 use Rattle.counting.proofs.tallies.add_pair.Goals as goal
+
+pub returns-then-last-over : goal.returns-then-last-over
+returns-then-last-over g c =
+    let h = c.requires in
+    let past : c.min-last.result ≤ c.args.m - 1 - longest_at c.args.totals.now c.args.c = omega arith in
+    (adding_none (halves_end h.halves) past (omega arith), adding_none (counts_end h.halves h.beside) past (omega arith), h.beside.less)
 
 pub loop-k-init : goal.loop-k-init
 loop-k-init g c =
