@@ -1,7 +1,7 @@
 -- What *Check diary* and *Log* answer, as their tests are made one after another: the refusal is the first of the lines not yet passed.
 -- Assumes nothing.
 use mathlib.Core.Path.{◌≡◌, refl, sym, ap, ◌∙◌}
-use mathlib.Core.Bool.{true, false}
+use mathlib.Core.Bool.{Bool, true, false}
 use mathlib.Core.List.{List, [], ◌∷◌, ◌++◌}
 use Prim.Native.Nat.{ℕ, suc, ◌+◌, ◌*◌, ◌≤◌, ◌<◌}
 use native.Mathlib.Omega.{arith}
@@ -13,18 +13,17 @@ use Rattle.answers.specs.Answer as answer
 use Rattle.answers.specs.Answer.{Answer, first_that_applies}
 use Rattle.answers.specs.Inner.Refusals.{refusal_number}
 use Rattle.answers.specs.declared.refusal.Refusal.{Refusal}
-use Rattle.answers.specs.declared.refusal.Refusal.TheVariants.{HistoryWrongSize, HistoryBadChain}
+use Rattle.answers.specs.declared.refusal.Refusal.TheVariants.{HistoryWrongSize, HistoryBadRecord, HistoryBadLink, HistoryBadChain}
 use Rattle.answers.specs.Length.{bad_length}
 use Rattle.answers.specs.Voice.{bad_voice}
-use Rattle.answers.proofs.Numbers.{number_some}
-use Rattle.answers.proofs.Refusals.{row_applies, row_passed, row_clear, rows_stop, rows_pass, answer_number, answer_accepted, answer_refused}
-use Rattle.std.specs.Prelude.{Ok, Err}
+use Rattle.answers.proofs.Refusals.{row_applies, row_passed, rows_stop, rows_pass, answer_number, answer_accepted, answer_refused}
+use Rattle.std.specs.Prelude.{Ok, Err, Some, None}
 use Rattle.history.specs.Layout.{records_of}
 use Rattle.history.specs.Refusals.{bad_size, bad_link, bad_chain, history_rows, history_refusal, Accepted}
 use Rattle.history.specs.Playback.{Playback, bad_played}
 use Rattle.history.specs.Writing.{appended}
 use Rattle.history.specs.Answers.{check_history, no_room, append_rows, append_of}
-use Rattle.history.specs.Inner.Checks.{Sized, TestedAs, record_rows}
+use Rattle.history.specs.Inner.Checks.{Sized, TestedAs}
 use Rattle.history.specs.Inner.Says.{history_says}
 use Rattle.history.proofs.Acceptance.{size_facts, known}
 
@@ -49,24 +48,28 @@ module _ (h : List ℕ) (size : false ≡ bad_size h) where
   pub sized : {k : ℕ} → k ≡ records_of h → Sized h k
   sized e = rw e (size_facts h (sym size))
 
-  pub by_records : {r : Refusal} → TestedAs h (Err r) → history_says (Err r) ≡ check_history h
-  by_records {r} t =
-      refused h (refusal_number r)
-      (row_passed 11 _ (sym size) ∙ rows_stop (record_rows h) _ (omega (arith, number_some r, t.first)) ∙ sym t.first)
-      (number_some r)
+  pub by_record : TestedAs h None → history_says (Err HistoryBadRecord) ≡ check_history h
+  by_record t = refused h 12 (row_passed 11 _ (sym size) ∙ row_applies 12 _ t) (lit< tt)
 
-  module _ (records : TestedAs h (Ok tt)) where
-    pub linked : bad_link h ≡ false
-    linked = (row_clear 13 [] _ (lit< tt) (row_clear 12 _ _ (lit< tt) (sym records.first)).1).0
+  module _ {far : Bool} (records : TestedAs h (Some far)) where
+    past_records : Passed h 2
+    past_records = row_passed 11 _ (sym size) ∙ row_passed 12 _ records.0
 
-    past_records : Passed h 3
-    past_records = row_passed 11 _ (sym size) ∙ rows_pass (record_rows h) _ refl (sym records.first)
+    pub by_link : far ≡ true → history_says (Err HistoryBadLink) ≡ check_history h
+    by_link e = refused h 13 (past_records ∙ row_applies 13 _ (sym records.1 ∙ e)) (lit< tt)
 
-    pub by_chain : true ≡ bad_chain h → history_says (Err HistoryBadChain) ≡ check_history h
-    by_chain e = refused h 14 (past_records ∙ row_applies 14 _ (sym e)) (lit< tt)
+    module _ (near : far ≡ false) where
+      pub linked : bad_link h ≡ false
+      linked = sym records.1 ∙ near
 
-    pub counted : false ≡ bad_chain h → {k : ℕ} → k ≡ records_of h → history_says (Ok k) ≡ check_history h
-    counted e f = rw f (accepted h (past_records ∙ row_passed 14 _ (sym e)))
+      past_links : Passed h 3
+      past_links = past_records ∙ row_passed 13 _ linked
+
+      pub by_chain : true ≡ bad_chain h → history_says (Err HistoryBadChain) ≡ check_history h
+      by_chain e = refused h 14 (past_links ∙ row_applies 14 _ (sym e)) (lit< tt)
+
+      pub counted : false ≡ bad_chain h → {k : ℕ} → k ≡ records_of h → history_says (Ok k) ≡ check_history h
+      counted e f = rw f (accepted h (past_links ∙ row_passed 14 _ (sym e)))
 
 check_number : (h : List ℕ) {a : Answer} → a ≡ check_history h → a.refusal ≡ history_refusal h
 unfolding check_history

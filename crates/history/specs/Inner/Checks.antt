@@ -1,9 +1,6 @@
 -- What the checks and the reading of a record ask and show, by name. Nothing of this is needed to read what the calls answer.
 -- Assumes nothing: these are definitions.
-use Rattle.std.specs.Prelude.{◌≡◌, ⊤, List, [], ◌∷◌, ℕ, suc, ◌+◌, ◌*◌, ◌≤◌, length, Result, Ok, Err}
-use Rattle.answers.specs.Answer.{Row, first_that_applies}
-use Rattle.answers.specs.Inner.Refusals.{refusal_number}
-use Rattle.answers.specs.declared.refusal.Refusal.{Refusal}
+use Rattle.std.specs.Prelude.{◌≡◌, Bool, true, false, List, ℕ, suc, ◌+◌, ◌*◌, ◌≤◌, length, Option, Some, None}
 use Rattle.history.specs.Layout.{records_of}
 use Rattle.history.specs.Refusals.{bad_record, bad_link}
 
@@ -13,17 +10,10 @@ pub record Sized (h : List ℕ) (k : ℕ) : Type 0 where
   pub few : k ≤ 1000
   pub size : 4 + 20 * k ≤ length h
 
--- the number that the answer of a test stands for: 0 where it lets pass
-abbrev pub number_of : Result ⊤ Refusal → ℕ
-number_of (Ok _) = 0
-number_of (Err r) = refusal_number r
-
--- 12 where it applies, else 13 where that does
-abbrev pub record_rows : List ℕ → List Row
-record_rows h = (bad_record h, 12) ∷ (bad_link h, 13) ∷ []
-
-pub record TestedAs (h : List ℕ) (r : Result ⊤ Refusal) : Type 0 where
-  pub first : number_of r ≡ first_that_applies (record_rows h)
+-- nothing where 12 applies, else whether 13 does
+abbrev pub TestedAs : List ℕ → Option Bool → Type 0
+TestedAs h None = bad_record h ≡ true
+TestedAs h (Some far) = (bad_record h ≡ false) × (far ≡ bad_link h)
 
 -- r is the number of a record
 pub record Inside (h : List ℕ) (r : ℕ) : Type 0 where

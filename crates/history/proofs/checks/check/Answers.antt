@@ -2,8 +2,7 @@
 -- Assumes nothing.
 use mathlib.Core.Path.{refl}
 use native.Mathlib.Omega.{arith}
-use Rattle.std.proofs.lemmas.Result.{err_from_is_err_and}
-use Rattle.history.proofs.Outcome.{by_size, by_records, by_chain, counted, sized, linked}
+use Rattle.history.proofs.Outcome.{by_size, by_record, by_link, by_chain, counted, sized, linked}
 use Rattle.history.proofs.checks.check.Goals as goal
 
 pub returns-then-bad_size : goal.returns-then-bad_size
@@ -15,16 +14,17 @@ two_at-k-requires c = let s = sized c.args.h.now c.if-bad_size.ensures refl in o
 pub test_records-requires : goal.test_records-requires
 test_records-requires c = sized _ c.if-bad_size.ensures c.two_at-k.ensures.0
 
-pub returns-in_err-test_records : goal.returns-in_err-test_records
-returns-in_err-test_records c =
-    let p = err_from_is_err_and c.from_residual.result c.from_residual.ensures.1 in
-    rw (p.1, p.2) (by_records _ c.if-bad_size.ensures c.in_err-test_records.ensures)
+pub returns-in_default : goal.returns-in_default
+returns-in_default c = by_record _ c.if-bad_size.ensures c.in_default.ensures
+
+pub returns-then-far : goal.returns-then-far
+returns-then-far c = by_link _ c.if-bad_size.ensures c.in-Some.ensures c.if-far.true
 
 pub bad_chain-requires : goal.bad_chain-requires
-bad_chain-requires c = (sized _ c.if-bad_size.ensures c.two_at-k.ensures.0, linked _ c.if-bad_size.ensures c.in_ok-test_records.ensures)
+bad_chain-requires c = (sized _ c.if-bad_size.ensures c.two_at-k.ensures.0, linked _ c.if-bad_size.ensures c.in-Some.ensures c.if-far.false)
 
 pub returns-then-bad_chain : goal.returns-then-bad_chain
-returns-then-bad_chain c = by_chain _ c.if-bad_size.ensures c.in_ok-test_records.ensures c.if-bad_chain.ensures
+returns-then-bad_chain c = by_chain _ c.if-bad_size.ensures c.in-Some.ensures c.if-far.false c.if-bad_chain.ensures
 
 pub returns : goal.returns
-returns c = counted _ c.if-bad_size.ensures c.in_ok-test_records.ensures c.if-bad_chain.ensures c.two_at-k.ensures.0
+returns c = counted _ c.if-bad_size.ensures c.in-Some.ensures c.if-far.false c.if-bad_chain.ensures c.two_at-k.ensures.0

@@ -1,17 +1,14 @@
 use mathlib.Core.Path.{◌≡◌, refl, sym, ap, ◌∙◌}
 use mathlib.Core.Bool.{Bool, true, false, ◌||◌, or-false}
-use mathlib.Core.List.{List, [], ◌∷◌}
+use mathlib.Core.List.{List}
 use Prim.Native.Nat.{ℕ, ◌+◌, ◌-◌, ◌≤◌, ◌<◌}
 use native.Mathlib.Omega.{arith}
 use native.Mathlib.Decide.{dec_lt}
 use borrow.Author.Tests.{lt-ltb, le-ltb}
 use lib.Dec.{ltb}
-use Rattle.std.specs.Prelude.{Ok, Err}
+use Rattle.std.specs.Prelude.{Some, None}
 use Rattle.lists.specs.Searched.{some_below, some_to}
 use Rattle.lists.proofs.Tests.{or_true, to_hit, to_miss, to_some}
-use Rattle.answers.specs.Answer.{first_that_applies}
-use Rattle.answers.specs.declared.refusal.Refusal.TheVariants.{HistoryBadRecord, HistoryBadLink}
-use Rattle.answers.proofs.Refusals.{row_applies, row_passed}
 use Rattle.history.specs.Layout.{records_of, head_of, record_at, two_at}
 use Rattle.history.specs.Refusals.{misfit, next_above, bad_record, bad_link}
 use Rattle.history.specs.Inner.Checks.{Sized, TestedAs}
@@ -34,18 +31,14 @@ module _ (h : List ℕ) {k : ℕ} (s : Sized h k) where
     unfolding bad_link
     link_far = let f : r - 1 ≡ records_of h = omega (arith, s.count) in rw f at p.links
 
-    all_near : far ≡ false → TestedAs h (Ok tt)
-    unfolding first_that_applies
-    all_near b = record { first = sym (row_passed 12 ((bad_link h, 13) ∷ []) all_fit ∙ row_passed 13 [] (sym link_far ∙ b)) }
-
-    one_far : far ≡ true → TestedAs h (Err HistoryBadLink)
-    one_far b = record { first = sym (row_passed 12 _ all_fit ∙ row_applies 13 [] (sym link_far ∙ b)) }
+    all_tested : TestedAs h (Some far)
+    all_tested = (all_fit, link_far)
 
   -- the record r, which stands at i
   module _ {r i : ℕ} (l : 1 ≤ r) (m : r ≤ k) (e : i ≡ record_at r) where
-    bad : misfit h i ≡ true → TestedAs h (Err HistoryBadRecord)
+    bad : misfit h i ≡ true → TestedAs h None
     unfolding bad_record
-    bad b = record { first = sym (row_applies 12 _ (to_some (λ q. misfit h (record_at q)) (records_of h) r l (omega (arith, s.count)) (rw e at b))) }
+    bad b = to_some (λ q. misfit h (record_at q)) (records_of h) r l (omega (arith, s.count)) (rw e at b)
 
     module _ {far : Bool} {x : ℕ} (p : Past h far r) (n : misfit h i ≡ false) (f : x ≡ two_at h i) where
       next_fit : some_to (λ q. misfit h (record_at q)) (r + 1 - 1) ≡ false
@@ -80,8 +73,5 @@ pub loop-r-preserved : goal.loop-r-preserved
 loop-r-preserved c =
     next c.args.h.now c.requires (omega arith) (omega arith) c.record_at-at.ensures c.loop-r.invariant (sym c.if-misfit.ensures) c.two_at-in-loop-r.ensures.0
 
-pub returns-then-far : goal.returns-then-far
-returns-then-far c = one_far _ c.requires c.loop-r.invariant (omega arith) c.if-far.true
-
-pub returns-else-far : goal.returns-else-far
-returns-else-far c = all_near _ c.requires c.loop-r.invariant (omega arith) c.if-far.false
+pub returns : goal.returns
+returns c = all_tested _ c.requires c.loop-r.invariant (omega arith)
